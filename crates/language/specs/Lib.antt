@@ -1,0 +1,11 @@
+pub mod Sizes
+pub mod Tokens
+pub mod Text
+pub mod Trees
+pub mod Grammar
+pub mod Types
+pub mod Faults
+pub mod State
+pub mod Meaning
+pub mod Numbers
+pub mod Answers

@@ -1,0 +1,58 @@
+-- The table of numbers (S068 to S090): its rows, each with its number.
+use Prim.Native.Nat.{ℕ}
+use Rattle.language.specs.Text.{Flaw, strange-byte, open-comment, large-number, many-tokens}
+use Rattle.language.specs.Faults.{Reason, no-binding, no-function, wrong-number, wrong-argument, wrong-operand, wrong-operands, not-unit, not-bool, branches-differ, wrong-body, too-many-refs, too-many-functions, too-many-parameters, function-twice, parameter-twice}
+use Rattle.language.specs.State.{Stop, no-unit, too-deep, out-of-range, zero-divisor, cell-freed, cells-full, not-a-byte, output-full}
+
+-- what an answer tells
+pub data Row : Type 0 where
+  passed : Row
+  short-memory large-allowance long-source : Row
+  text : Flaw → Row
+  no-reading many-nodes : Row
+  types : Reason → Row
+  stopped : Stop → Row
+
+unfoldable pub flaw-number : Flaw → ℕ
+flaw-number strange-byte = 11
+flaw-number open-comment = 12
+flaw-number large-number = 13
+flaw-number many-tokens = 14
+
+unfoldable pub reason-number : Reason → ℕ
+reason-number too-many-functions = 30
+reason-number too-many-parameters = 30
+reason-number function-twice = 31
+reason-number parameter-twice = 32
+reason-number no-binding = 33
+reason-number no-function = 33
+reason-number wrong-number = 33
+reason-number wrong-argument = 33
+reason-number wrong-operand = 33
+reason-number wrong-operands = 33
+reason-number not-unit = 33
+reason-number not-bool = 33
+reason-number branches-differ = 33
+reason-number wrong-body = 33
+reason-number too-many-refs = 34
+
+unfoldable pub stop-number : Stop → ℕ
+stop-number no-unit = 50
+stop-number too-deep = 51
+stop-number out-of-range = 52
+stop-number zero-divisor = 53
+stop-number cell-freed = 54
+stop-number cells-full = 55
+stop-number not-a-byte = 56
+stop-number output-full = 57
+
+unfoldable pub number : Row → ℕ
+number passed = 0
+number short-memory = 40
+number large-allowance = 41
+number long-source = 10
+number (text f) = flaw-number f
+number no-reading = 20
+number many-nodes = 21
+number (types r) = reason-number r
+number (stopped s) = stop-number s

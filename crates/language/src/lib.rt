@@ -1,0 +1,33 @@
+// The sizes of the box, for the code; `specs/Sizes.antt` has them for the definitions. Every other
+// crate takes a size from here, under this name.
+
+// Bytes of a source, tokens of it, nodes of its reading.
+pub const SOURCE: usize = 8192;
+
+pub const TOKENS: usize = 1024;
+
+pub const NODES: usize = 1024;
+
+// Functions of a program, parameters of a function, `ref` in a type.
+pub const FUNCTIONS: usize = 32;
+
+pub const PARAMETERS: usize = 8;
+
+pub const REFS: u32 = 15;
+
+// Units that a run may be allowed, nodes active at once, cells live at once.
+pub const ALLOWANCE: u64 = 1000000;
+
+pub const ACTIVE: u32 = 512;
+
+pub const CELLS: usize = 1024;
+
+// Words of 32 bits of each lent memory.
+pub const TABLE: usize = 12288;
+
+pub const WORK: usize = 16384;
+
+// The largest number that can be written, and the largest value of a byte.
+pub const LARGEST: u64 = 2147483647;
+
+pub const BYTE: i32 = 255;
