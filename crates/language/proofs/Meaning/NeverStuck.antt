@@ -1,0 +1,136 @@
+-- A program that has a type is never stuck, and its value is of that type.
+use mathlib.Core.Path.{_≡_, refl, sym, ap, subst, _∙_}
+use mathlib.Core.Bool.{Bool, true, false, cond, _&&_}
+use mathlib.Core.List.{List, [], _∷_, map}
+use mathlib.Core.Option.{Option, none, some}
+use Prim.Native.Nat.{ℕ}
+use lib.Dec.{eqb}
+use borrow.Author.Tests.{eqb-true}
+use Rattle.language.specs.Sizes.{ACTIVE}
+use Rattle.language.specs.Tokens.{same}
+use Rattle.language.specs.Trees.{Name, Ty, int, bool, unit, ref, Exp, Exps, Param, Def, Program, Scope, empty, push, nearest, PUTCHAR}
+use Rattle.language.specs.Types.{Sig, Typed, t-name, t-whole, t-truth, t-trivial, t-unary, t-binary, t-follow, t-group, t-block, t-call, t-bind, t-branch, t-loop, TypedAll, t-last, t-more, Takes, Fine, fine, with-def, TypedFrom, typed-main, typed-def, given, HasType}
+use Rattle.language.specs.State.{Value, State, Outcome, value, stop, stuck, no-cell}
+use Rattle.language.specs.Meaning.{Fun, putchar, defined, functions, start, run}
+use Rattle.language.proofs.Meaning.CellTypes.{none-some, some-one, Fits, StateFits, holds-none, env-empty}
+use Rattle.language.proofs.Meaning.Safety.{Good, good-value, good-stop, FunFits, fun-putchar, fun-defined, Ready, eval-good}
+
+and-left : (a b : Bool) → a && b ≡ true → a ≡ true
+and-left true b e = refl
+and-left false b e = e
+
+and-right : (a b : Bool) → a && b ≡ true → b ≡ true
+and-right true b e = e
+and-right false true e = refl
+and-right false false e = e
+
+abbrev IsFalse : Bool → Type 0
+IsFalse false = Unit {0}
+IsFalse true = ⊥
+
+pub same-true : (x y : Name) → same x y ≡ true → x ≡ y
+unfolding same
+same-true [] [] e = refl
+same-true [] (y ∷ ys) e = absurd (subst IsFalse e tt)
+same-true (x ∷ xs) [] e = absurd (subst IsFalse e tt)
+same-true (x ∷ xs) (y ∷ ys) e =
+    let p = eqb-true x y (and-left (eqb x y) (same xs ys) e) in
+    let q = same-true xs ys (and-right (eqb x y) (same xs ys) e) in
+    cc
+
+-- what Δ knows, Δ′ knows too
+abbrev Knows : Scope Sig → Scope Sig → Type 0
+Knows Δ Δ′ = (f : Name) (s : Sig) → nearest f Δ ≡ some s → nearest f Δ′ ≡ some s
+
+module _ (Δ Δ′ : Scope Sig) (k : Knows Δ Δ′) where
+  mutual
+    weaken : {Γ : Scope Ty} {e : Exp} {t : Ty} → Typed Δ Γ e t → Typed Δ′ Γ e t
+    weaken (t-name h) = t-name h
+    weaken t-whole = t-whole
+    weaken t-truth = t-truth
+    weaken t-trivial = t-trivial
+    weaken (t-unary p h) = t-unary (weaken p) h
+    weaken (t-binary p q h) = t-binary (weaken p) (weaken q) h
+    weaken (t-follow p q) = t-follow (weaken p) (weaken q)
+    weaken (t-group p) = t-group (weaken p)
+    weaken (t-block p) = t-block (weaken p)
+    weaken (t-call {f = f} p h) = t-call (weakens p) (k f _ h)
+    weaken (t-bind p q) = t-bind (weaken p) (weaken q)
+    weaken (t-branch p q r) = t-branch (weaken p) (weaken q) (weaken r)
+    weaken (t-loop p q) = t-loop (weaken p) (weaken q)
+
+    weakens : {Γ : Scope Ty} {es : Exps} {ts : List Ty} → TypedAll Δ Γ es ts → TypedAll Δ′ Γ es ts
+    weakens t-last = t-last
+    weakens (t-more p q) = t-more (weaken p) (weakens q)
+
+-- a new name hides none
+knows-push : (Δ : Scope Sig) (g : Name) (r : Sig) → nearest g Δ ≡ none → Knows Δ (push g r Δ)
+unfolding nearest
+knows-push Δ g r e f s h = go (same f g) refl
+  where
+    go : (b : Bool) → same f g ≡ b → cond b (some r) (nearest f Δ) ≡ some s
+    go true d = absurd (none-some (sym e ∙ ap (λ x. nearest x Δ) (sym (same-true f g d)) ∙ h))
+    go false d = h
+
+unfoldable final : Scope Sig → List Def → Scope Sig
+final Δ [] = Δ
+final Δ (d ∷ ds) = final (with-def Δ d) ds
+
+knows-final : {Δ : Scope Sig} {ds : List Def} {e : Exp} {t : Ty} → TypedFrom Δ ds e t → Knows Δ (final Δ ds)
+unfolding final
+knows-final (typed-main p) f s h = h
+knows-final (typed-def {Δ} {d} (fine a b c m n) q) f s h = knows-final q f s (knows-push Δ (d .called) _ b f s h)
+
+-- functions and what they take and give, in one order
+data Tabled (Δ : Scope Sig) : Scope Fun → Scope Sig → Type 0 where
+  tabled-none : Tabled Δ empty empty
+  tabled-push : {f : Name} {g : Fun} {s : Sig} {fs : Scope Fun} {ss : Scope Sig} → FunFits Δ g s → Tabled Δ fs ss → Tabled Δ (push f g fs) (push f s ss)
+
+find : {Δ ss : Scope Sig} {fs : Scope Fun} (f : Name) (s : Sig) → Tabled Δ fs ss → nearest f ss ≡ some s → (g : Fun) × (nearest f fs ≡ some g) × FunFits Δ g s
+unfolding nearest
+find f s tabled-none e = absurd (none-some e)
+find {Δ} f s (tabled-push {f = h} {g = g} {s = r} {fs = fs} {ss = ss} p q) e = go (same f h) e (λ m. find f s q m)
+  where
+    go : (b : Bool) → cond b (some r) (nearest f ss) ≡ some s → (nearest f ss ≡ some s → (g : Fun) × (nearest f fs ≡ some g) × FunFits Δ g s)
+        → (x : Fun) × (cond b (some g) (nearest f fs) ≡ some x) × FunFits Δ x s
+    go true e k = (g, refl, subst (FunFits Δ g) (some-one e) p)
+    go false e k = k e
+
+tables : {Δ Δ′ : Scope Sig} {ds : List Def} {e : Exp} {t : Ty} {fs : Scope Fun} → TypedFrom Δ ds e t → Knows (final Δ ds) Δ′ → Tabled Δ′ fs Δ
+    → Tabled Δ′ (functions ds fs) (final Δ ds)
+unfolding final functions
+tables (typed-main p) k h = h
+tables (typed-def {Δ} {d} (fine a b c m n) q) k h =
+    tables q k (tabled-push (fun-defined c refl (weaken (with-def Δ d) _ (λ f s e. k f s (knows-final q f s e)) n)) h)
+
+main-typed : {Δ : Scope Sig} {ds : List Def} {e : Exp} {t : Ty} → TypedFrom Δ ds e t → Typed (final Δ ds) empty e t
+unfolding final
+main-typed (typed-main p) = p
+main-typed (typed-def p q) = main-typed q
+
+pub run-good : (p : Program) (t : Ty) (allowance room : ℕ) → HasType p t → Good [] t (run p allowance room)
+unfolding run
+run-good p t allowance room h =
+    eval-good (final given (p .defs)) _ (λ f s e. find f s (tables h (λ g r k. k) (tabled-push fun-putchar tabled-none)) e) ACTIVE empty (start allowance room)
+    (main-typed h) env-empty record { counted = refl; holds = holds-none }
+
+abbrev IsMoving : Outcome → Type 0
+IsMoving (value v s) = Unit {0}
+IsMoving (stop n i s) = Unit {0}
+IsMoving stuck = ⊥
+
+not-stuck : {Σ : List Ty} {t : Ty} {o : Outcome} → Good Σ t o → o ≡ stuck → ⊥
+not-stuck (good-value g p q) e = subst IsMoving e tt
+not-stuck good-stop e = subst IsMoving e tt
+
+of-type : {Σ : List Ty} {t : Ty} {v : Value} {s : State} → Good Σ t (value v s) → (Σ′ : List Ty) × Fits Σ′ v t
+of-type (good-value {Σ′} g p q) = (Σ′, q)
+
+-- never stuck
+pub never-stuck : (p : Program) (t : Ty) (allowance room : ℕ) → HasType p t → run p allowance room ≡ stuck → ⊥
+never-stuck p t a r h e = not-stuck (run-good p t a r h) e
+
+-- a value is of the program's type
+pub value-of-type : (p : Program) (t : Ty) (allowance room : ℕ) (v : Value) (s : State) → HasType p t → run p allowance room ≡ value v s
+    → (Σ : List Ty) × Fits Σ v t
+value-of-type p t a r v s h e = of-type (subst (Good [] t) e (run-good p t a r h))
