@@ -1,6 +1,8 @@
 // The sizes of the box, for the code; `specs/Sizes.antt` has them for the definitions. Every other
 // crate takes a size from here, under this name.
 
+pub mod kinds;
+
 // Bytes of a source, tokens of it, nodes of its reading.
 pub const SOURCE: usize = 8192;
 
@@ -18,7 +20,7 @@ pub const REFS: u32 = 15;
 // Units that a run may be allowed, nodes active at once, cells live at once.
 pub const ALLOWANCE: u64 = 1000000;
 
-pub const ACTIVE: u32 = 512;
+pub const ACTIVE: usize = 512;
 
 pub const CELLS: usize = 1024;
 

@@ -1,0 +1,73 @@
+-- Table memory: where tokens, rows, functions and variables lie, and what is written there.
+-- This and all of this crate's specs is vocabulary for contracts between layers: the language itself does not know it.
+use mathlib.Core.Bool.{Bool, cond}
+use mathlib.Core.List.{List}
+use Prim.Native.Nat.{ℕ, zero, suc, _+_, _*_}
+use lib.Dec.{ltb}
+use lib.ListN.{getD, set}
+use Rattle.language.specs.Sizes.{TOKENS}
+
+abbrev pub ROWS-AT : ℕ
+ROWS-AT = 4 * TOKENS
+
+abbrev pub FUNCTIONS-AT : ℕ
+FUNCTIONS-AT = 9 * TOKENS
+
+abbrev pub VARIABLES-AT : ℕ
+VARIABLES-AT = 10 * TOKENS
+
+-- ---- reading
+
+-- word k of token i: its kind, place, end, and value or name number
+abbrev pub token-word : List ℕ → ℕ → ℕ → ℕ
+token-word w i k = getD w (4 * i + k) 0
+
+-- the kind of token i of the first `count`, 0 past the last
+unfoldable pub kind-of : List ℕ → ℕ → ℕ → ℕ
+kind-of w count i = cond (ltb i count) (getD w (4 * i) 0) 0
+
+-- word k of row i: its kind, its own token, and three more
+abbrev pub row-word : List ℕ → ℕ → ℕ → ℕ
+row-word w i k = getD w (ROWS-AT + 5 * i + k) 0
+
+abbrev pub function-row : List ℕ → ℕ → ℕ
+function-row w k = getD w (FUNCTIONS-AT + k) 0
+
+-- of variable i its name's number and its type's number
+abbrev pub variable-name : List ℕ → ℕ → ℕ
+variable-name w i = getD w (VARIABLES-AT + 2 * i) 0
+
+abbrev pub variable-kind : List ℕ → ℕ → ℕ
+variable-kind w i = getD w (VARIABLES-AT + 2 * i + 1) 0
+
+-- ---- writing
+
+unfoldable pub put-token : List ℕ → ℕ → ℕ → ℕ → ℕ → ℕ → List ℕ
+put-token w i kind place end value =
+    set (set (set (set w (4 * i) kind) (4 * i + 1) place) (4 * i + 2) end) (4 * i + 3) value
+
+unfoldable pub put-row : List ℕ → ℕ → ℕ → ℕ → ℕ → ℕ → ℕ → List ℕ
+put-row w i kind own first second third =
+    set
+    (set (set (set (set w (ROWS-AT + 5 * i) kind) (ROWS-AT + 5 * i + 1) own) (ROWS-AT + 5 * i + 2) first) (ROWS-AT + 5 * i + 3) second)
+    (ROWS-AT + 5 * i + 4) third
+
+unfoldable pub put-function : List ℕ → ℕ → ℕ → List ℕ
+put-function w k row = set w (FUNCTIONS-AT + k) row
+
+unfoldable pub put-variable : List ℕ → ℕ → ℕ → ℕ → List ℕ
+put-variable w i name kind = set (set w (VARIABLES-AT + 2 * i) name) (VARIABLES-AT + 2 * i + 1) kind
+
+-- ---- clearing
+
+-- n words from word a on become 0
+unfoldable pub zeros : List ℕ → ℕ → ℕ → List ℕ
+zeros w a zero = w
+zeros w a (suc n) = zeros (set w a 0) (a + 1) n
+
+-- rows and functions become 0; variables do
+abbrev pub without-rows : List ℕ → List ℕ
+without-rows w = zeros w ROWS-AT (6 * TOKENS)
+
+abbrev pub without-variables : List ℕ → List ℕ
+without-variables w = zeros w VARIABLES-AT (2 * TOKENS)
