@@ -4,7 +4,6 @@ use borrow.Author.Tests.{ne-eqb}
 use mir.Syntax.{w32}
 use mir.Facts.{toZ-ofZ}
 use Rattle.language.specs.State.{number}
-
 use Rattle.layout.proofs.values.from_words.Statement.{statement}
 use Rattle.layout.proofs.values.from_words.Tie as tie
 

@@ -5,7 +5,6 @@ use mir.Val.{ofZ, SFits}
 use mir.Facts.{toZ-ofZ}
 use Rattle.language.specs.State.{number}
 use Rattle.layout.specs.Values.{word-of}
-
 use Rattle.layout.proofs.values.word.Statement.{statement}
 use Rattle.layout.proofs.values.word.Tie as tie
 

@@ -1,0 +1,38 @@
+-- Names as numbers: what the fourth word of a token is, and when the words of a table stand for a token list.
+use mathlib.Core.Bool.{cond}
+use mathlib.Core.List.{List, [], _∷_}
+use mathlib.Core.Path.{_≡_}
+use Prim.Native.Nat.{ℕ, suc, _+_, _≤_, _<_}
+use lib.Dec.{eqb}
+use lib.ListN.{length, getD}
+use Rattle.language.specs.Sizes.{TOKENS}
+use Rattle.language.specs.Tokens.{Spelling, same, Token, NAME, NUMBER, past, kind-at, spelling-at, place-at}
+use Rattle.language.specs.Trees.{PUTCHAR}
+use Rattle.layout.specs.Table.{token-word, kind-of, put-token}
+
+-- the ordinal of the first token that is spelled s, the list's first token being the nth; where there is none, that of its end
+unfoldable pub first-from : ℕ → List Token → Spelling → ℕ
+first-from n [] s = n
+first-from n (t ∷ ts) s = cond (same (t .spelling) s) n (first-from (suc n) ts s)
+
+-- the number of the name s among the tokens ts; `putchar` has one that is no token's ordinal
+unfoldable pub name-number : List Token → Spelling → ℕ
+name-number ts s = cond (same s PUTCHAR) TOKENS (first-from 0 ts s)
+
+-- the fourth word of the token t, one of ts
+unfoldable pub payload : List Token → Token → ℕ
+payload ts t = cond (eqb (t .kind) NUMBER) (t .value) (cond (eqb (t .kind) NAME) (name-number ts (t .spelling)) 0)
+
+-- the table with the tokens us of the list ts written from token n on
+unfoldable pub lay-tokens : List Token → List ℕ → ℕ → List Token → List ℕ
+lay-tokens ts w n [] = w
+lay-tokens ts w n (u ∷ us) =
+    lay-tokens ts (put-token w n (u .kind) (u .place) (u .place + length (u .spelling)) (payload ts u)) (n + 1) us
+
+-- The first `count` tokens of the table stand for ts. All that the layers above know of a text is this.
+pub record Stand (w : List ℕ) (count : ℕ) (ts : List Token) : Type 0 where
+  pub long : length ts ≡ count
+  pub few : count ≤ TOKENS
+  pub kinds : (i : ℕ) → kind-at ts i ≡ kind-of w count i
+  pub values : (i : ℕ) → i < count → token-word w i 3 ≡ payload ts (getD ts i past)
+  pub places : (i : ℕ) → i < count → token-word w i 1 ≡ place-at ts i
