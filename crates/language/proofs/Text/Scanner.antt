@@ -1,0 +1,250 @@
+-- An executable twin of the written split: proof vocabulary, and no definition of the language. It goes through a text from
+-- its start, and what it answers is proved to be what the definitions say; so every text has a split or a flaw.
+use borrow.Author.Tests.{ltb-true, ltb-false, eqb-true, eqb-false}
+use lib.Dec.{eqb, ltb}
+use lib.ListN.{length, length-append}
+use lib.Seq.{slice}
+use mathlib.Core.Bool.{Bool, true, false}
+use mathlib.Core.List.{List, [], _∷_, _++_}
+use mathlib.Core.Logic.{_⊎_, inl, inr}
+use mathlib.Core.Path.{_≡_, refl, ap, ap₂, subst}
+use native.Mathlib.Omega.{arith}
+use Prim.Native.Nat.{ℕ, zero, suc, _+_, _-_, _≤_, _<_}
+use Rattle.language.proofs.Text.Choices.{choose}
+use Rattle.language.proofs.Text.Comments.{Depth, depth-start, depth-open, depth-close, depth-byte, depth-end, depth-done}
+use Rattle.language.proofs.Text.MarkOrder.{Missed, missed-none, missed-more, longer-first, longer-first-order}
+use Rattle.language.proofs.Text.OnePiece.{form-bounds}
+use Rattle.language.proofs.Text.OneSplit.{one-split, one-flaw, not-both}
+use Rattle.language.proofs.Text.Pieces.{blank-piece, name-piece, number-piece, line-piece, comment-piece, open-piece, first-mark-piece, no-form}
+use Rattle.language.proofs.Text.Places.{Sort, sort, Begins, begins}
+use Rattle.language.proofs.Text.Places.Sort.{blanks, letters, digits, lines, opens, others}
+use Rattle.language.proofs.Text.Runs.{Scanned, Run, scan-none, scan-more, scan-stop, scan-end}
+use Rattle.language.proofs.Text.Spellings.{stands, stands-yes, stands-no, two-inside}
+use Rattle.language.proofs.Text.Tables.{spelling-of, kind-of, size-of, row}
+use Rattle.language.specs.Sizes.{TOKENS, LARGEST}
+use Rattle.language.specs.Text.{byte, between, is-blank, is-letter, is-digit, is-name-byte, is-in-line, Opens, Comment, Content, Form, Piece, word-kind, number-from, token-of, Reaches, Splits, Flaw, Flawed}
+use Rattle.language.specs.Text.Content.{space, unclosed, token}
+use Rattle.language.specs.Text.Flaw.{strange-byte, open-comment, large-number, many-tokens}
+use Rattle.language.specs.Text.Reaches.{start, skip, next}
+use Rattle.language.specs.Text.Wrong.{strange, opened, large, many}
+use Rattle.language.specs.Tokens.{spell, same, spelled, NUMBER, Token}
+
+-- ---- the end of a run, of at most n bytes
+
+run-end : (ℕ → Bool) → List ℕ → ℕ → ℕ → ℕ
+run-end f t zero p = p
+run-end f t (suc n) p = elim (f (byte t p)) [ true ↦ run-end f t n (p + 1) | false ↦ p ]
+
+run-ends : (f : ℕ → Bool) (t : List ℕ) (n o p : ℕ) → p + n ≡ length t → Scanned f t o p → Run f t o (run-end f t n p)
+unfolding run-end
+run-ends f t zero o p h s = scan-end s (omega arith)
+run-ends f t (suc n) o p h s =
+    choose (Run f t o) (f (byte t p)) _ _ (λ e. run-ends f t n o (p + 1) (omega arith) (scan-more s (omega arith) e)) (λ e. scan-stop s e)
+
+run-from : (ℕ → Bool) → List ℕ → ℕ → ℕ
+run-from f t p = run-end f t (length t - p) p
+
+run : (f : ℕ → Bool) (t : List ℕ) (p : ℕ) → p ≤ length t → Run f t p (run-from f t p)
+unfolding run-from
+run f t p h = run-ends f t (length t - p) p p (omega arith) (scan-none h)
+
+-- ---- the end of a comment, d of which are open at i, found in at most n steps
+
+-- where it ends, if it does
+pub data Close : Type 0 where
+  at : ℕ → Close
+  never : Close
+
+close-end : List ℕ → ℕ → ℕ → ℕ → Close
+close-end t zero zero i = at i
+close-end t zero (suc d) i = never
+close-end t (suc n) zero i = at i
+close-end t (suc n) (suc d) i =
+    elim (stands t i (spell "/*")) [
+      | true ↦ close-end t n (suc (suc d)) (i + 2)
+      | false ↦ elim (stands t i (spell "*/")) [
+        | true ↦ close-end t n d (i + 2)
+        | false ↦ elim (ltb i (length t)) [ true ↦ close-end t n (suc d) (i + 1) | false ↦ never ]
+      ]
+    ]
+
+abbrev Close-is : List ℕ → ℕ → Close → Type 0
+Close-is t p (at q) = Comment t p q
+Close-is t p never = (q : ℕ) → Comment t p q → ⊥
+
+close-ends : (t : List ℕ) (p n d i : ℕ) → length t ≤ i + n → Depth t p d i → Close-is t p (close-end t n d i)
+unfolding close-end
+close-ends t p zero zero i h s = depth-done t p i s
+close-ends t p zero (suc d) i h s = depth-end t p d i (omega arith) s
+close-ends t p (suc n) zero i h s = depth-done t p i s
+close-ends t p (suc n) (suc d) i h s =
+    choose (Close-is t p) (stands t i (spell "/*")) _ _
+    (λ e. close-ends t p n (suc (suc d)) (i + 2) (omega arith) (depth-open t p d i (stands-yes t i (spell "/*") e) s))
+    (λ e. choose (Close-is t p) (stands t i (spell "*/")) _ _
+    (λ f. close-ends t p n d (i + 2) (omega arith) (depth-close t p d i (stands-yes t i (spell "*/") f) s))
+    (λ f. choose (Close-is t p) (ltb i (length t)) _ _
+    (λ g. close-ends t p n (suc d) (i + 1) (omega arith)
+    (depth-byte t p d i (ltb-true i (length t) g) (stands-no t i (spell "/*") e) (stands-no t i (spell "*/") f) s))
+    (λ g. depth-end t p d i (ltb-false i (length t) g) s)))
+
+-- ---- the piece at a place
+
+-- its end and its content, if there is one
+pub data Seen : Type 0 where
+  seen : ℕ → Content → Seen
+  unseen : Seen
+
+abbrev Seen-is : List ℕ → ℕ → Seen → Type 0
+Seen-is t p (seen q c) = Piece t p q c
+Seen-is t p unseen = (q : ℕ) (c : Content) → Form t p q c → ⊥
+
+-- the first of n marks that stands, from mark i on
+mark-seen : List ℕ → ℕ → ℕ → ℕ → Seen
+mark-seen t p zero i = unseen
+mark-seen t p (suc n) i =
+    elim (stands t p (spelling-of (row longer-first i))) [
+      | true ↦ seen (p + size-of (row longer-first i)) (token (kind-of (row longer-first i)) 0)
+      | false ↦ mark-seen t p n (i + 1)
+    ]
+
+name-seen : List ℕ → ℕ → ℕ → Seen
+name-seen t p q = seen q (token (word-kind (slice p q t)) 0)
+
+number-seen : List ℕ → ℕ → ℕ → Seen
+number-seen t p q = seen q (token NUMBER (number-from 0 (slice p q t)))
+
+comment-seen : List ℕ → Close → Seen
+comment-seen t (at q) = seen q space
+comment-seen t never = seen (length t) unclosed
+
+piece-of : List ℕ → ℕ → Sort → Seen
+piece-of t p blanks = seen (p + 1) space
+piece-of t p letters = name-seen t p (run-from is-name-byte t p)
+piece-of t p digits = number-seen t p (run-from is-digit t p)
+piece-of t p lines = seen (run-from is-in-line t (p + 2)) space
+piece-of t p opens = comment-seen t (close-end t (length t) 1 (p + 2))
+piece-of t p others = mark-seen t p (length longer-first) 0
+
+module _ (t : List ℕ) (p : ℕ) (h : p < length t) where
+  comment-is : (c : Close) → Opens t p → Close-is t p c → Seen-is t p (comment-seen t c)
+  unfolding comment-seen
+  comment-is (at q) s x = comment-piece t p q x
+  comment-is never s x = open-piece t p s x
+
+  mark-is : (n i : ℕ) → Begins t p others → i + n ≡ length longer-first → Missed longer-first t p i → Seen-is t p (mark-seen t p n i)
+  unfolding mark-seen
+  mark-is zero i b e m =
+      let z : length longer-first ≡ i = omega arith in
+      no-form t p longer-first longer-first-order (b .0) (b .1) (b .2) (rw z m)
+  mark-is (suc n) i b e m =
+      choose (Seen-is t p) (stands t p (spelling-of (row longer-first i))) _ _
+      (λ x. first-mark-piece t p longer-first longer-first-order i (omega arith) h (b .1) (b .2) m
+      (stands-yes t p (spelling-of (row longer-first i)) x))
+      (λ x. mark-is n (i + 1) b (omega arith) (missed-more longer-first t p i m (stands-no t p (spelling-of (row longer-first i)) x)))
+
+  piece-is : (s : Sort) → Begins t p s → Seen-is t p (piece-of t p s)
+  unfolding piece-of name-seen number-seen
+  piece-is blanks b = blank-piece t p h b
+  piece-is letters b = name-piece t p (run-from is-name-byte t p) h b (run is-name-byte t p (omega arith))
+  piece-is digits b = number-piece t p (run-from is-digit t p) h b (run is-digit t p (omega arith))
+  piece-is lines b = line-piece t p (run-from is-in-line t (p + 2)) b (run is-in-line t (p + 2) (two-inside t p 47 47 b (omega arith)))
+  piece-is opens b =
+      comment-is (close-end t (length t) 1 (p + 2)) b (close-ends t p (length t) 1 (p + 2) (omega arith) (depth-start t p b))
+  piece-is others b = mark-is (length longer-first) 0 b (omega arith) (missed-none longer-first t p)
+
+-- ---- the whole text
+
+-- the tokens of a text, or its flaw and where it is
+pub data Result : Type 0 where
+  split : List Token → Result
+  flawed : Flaw → ℕ → Result
+
+-- what such an answer says
+abbrev pub Says : List ℕ → Result → Type 0
+Says t (split ts) = Splits t ts
+Says t (flawed f p) = Flawed t f p
+
+-- what comes of the piece at p, with the tokens ts before it
+settle : List ℕ → ℕ → List Token → (ℕ → List Token → Result) → Seen → Result
+settle t p ts go unseen = flawed strange-byte p
+settle t p ts go (seen q space) = go q ts
+settle t p ts go (seen q unclosed) = flawed open-comment p
+settle t p ts go (seen q (token k v)) =
+    elim (ltb LARGEST v) [
+      | true ↦ flawed large-number p
+      | false ↦ elim (eqb (length ts) TOKENS) [ true ↦ flawed many-tokens p | false ↦ go q (ts ++ (token-of t p q k v ∷ [])) ]
+    ]
+
+-- the split from p on, of at most n pieces
+scan-from : List ℕ → ℕ → ℕ → List Token → Result
+scan-from t zero p ts = split ts
+scan-from t (suc n) p ts =
+    elim (ltb p (length t)) [ true ↦ settle t p ts (λ q us. scan-from t n q us) (piece-of t p (sort t p)) | false ↦ split ts ]
+
+-- the answer for a text; whoever unfolds it unfolds all that it computes with
+unfoldable pub scan : List ℕ → Result
+unfolding scan-from settle piece-of name-seen number-seen comment-seen mark-seen close-end run-from run-end sort stands
+    is-blank is-letter is-digit is-name-byte is-in-line between word-kind spelled same number-from
+scan t = scan-from t (length t) 0 []
+
+settled : (t : List ℕ) (p : ℕ) (ts : List Token) (go : ℕ → List Token → Result) → p < length t → Reaches t p ts → length ts ≤ TOKENS
+    → ((q : ℕ) (us : List Token) → (p < q) × (q ≤ length t) → Reaches t q us → length us ≤ TOKENS → Says t (go q us))
+    → (s : Seen) → Seen-is t p s → Says t (settle t p ts go s)
+unfolding settle
+settled t p ts go h r l f unseen x = record { tokens = ts; before = r; few = l; here = strange h x }
+settled t p ts go h r l f (seen q space) x = f q ts (form-bounds t p q space (x .form)) (skip r x) l
+settled t p ts go h r l f (seen q unclosed) x = record { tokens = ts; before = r; few = l; here = opened x }
+settled t p ts go h r l f (seen q (token k v)) x =
+    choose (Says t) (ltb LARGEST v) _ _
+    (λ e. record { tokens = ts; before = r; few = l; here = large x (ltb-true LARGEST v e) })
+    (λ e. choose (Says t) (eqb (length ts) TOKENS) _ _
+    (λ g. record { tokens = ts; before = r; few = l; here = many x (ltb-false LARGEST v e) (eqb-true (length ts) TOKENS g) })
+    (λ g. f q (ts ++ (token-of t p q k v ∷ [])) (form-bounds t p q (token k v) (x .form)) (next r x (ltb-false LARGEST v e) refl)
+    (let z = eqb-false (length ts) TOKENS g in simp length-append (omega arith))))
+
+scanned-from : (t : List ℕ) (n p : ℕ) (ts : List Token) → p ≤ length t → length t ≤ p + n → Reaches t p ts → length ts ≤ TOKENS
+    → Says t (scan-from t n p ts)
+unfolding scan-from
+scanned-from t zero p ts a b r l =
+    let e : p ≡ length t = omega arith in
+    record { whole = subst (λ q. Reaches t q ts) e r; few = l }
+scanned-from t (suc n) p ts a b r l =
+    choose (Says t) (ltb p (length t)) _ _
+    (λ g. let h = ltb-true p (length t) g in
+    settled t p ts (λ q us. scan-from t n q us) h r l (λ q us z s k. scanned-from t n q us (z .1) (omega (arith, z .0)) s k)
+    (piece-of t p (sort t p)) (piece-is t p h (sort t p) (begins t p)))
+    (λ g. let e : p ≡ length t = omega (arith, ltb-false p (length t) g) in
+    record { whole = subst (λ q. Reaches t q ts) e r; few = l })
+
+-- what the scan answers is so
+pub scanned : (t : List ℕ) → Says t (scan t)
+unfolding scan
+scanned t = scanned-from t (length t) 0 [] (omega arith) (omega arith) start (omega arith)
+
+-- so what it computes to is so
+pub computed : (t : List ℕ) (r : Result) → scan t ≡ r → Says t r
+computed t r e = subst (Says t) e (scanned t)
+
+-- a split of the text is the answer
+pub split-scanned : {t : List ℕ} {ts : List Token} → Splits t ts → scan t ≡ split ts
+split-scanned {t} {ts} s = go (scan t) (scanned t)
+  where
+    go : (r : Result) → Says t r → r ≡ split ts
+    go (split us) x = ap split (one-split x s)
+    go (flawed f p) x = absurd (not-both s x)
+
+-- a flaw of the text is the answer
+pub flaw-scanned : {t : List ℕ} {f : Flaw} {p : ℕ} → Flawed t f p → scan t ≡ flawed f p
+flaw-scanned {t} {f} {p} s = go (scan t) (scanned t)
+  where
+    go : (r : Result) → Says t r → r ≡ flawed f p
+    go (split us) x = absurd (not-both x s)
+    go (flawed g q) x = let z = one-flaw x s in ap₂ flawed (z .0) (z .1)
+
+-- every text has a split or a flaw
+pub split-or-flaw : (t : List ℕ) → ((ts : List Token) × Splits t ts) ⊎ ((f : Flaw) × (p : ℕ) × Flawed t f p)
+split-or-flaw t = go (scan t) (scanned t)
+  where
+    go : (r : Result) → Says t r → ((ts : List Token) × Splits t ts) ⊎ ((f : Flaw) × (p : ℕ) × Flawed t f p)
+    go (split ts) s = inl (ts, s)
+    go (flawed f p) s = inr (f, p, s)
