@@ -1,2 +1,9 @@
 pub mod Signed
 pub mod Clearing
+pub mod TableLaws
+pub mod LayLaws
+pub mod Owned
+pub mod Holding
+pub mod Laid
+pub mod FewRows
+pub mod Held

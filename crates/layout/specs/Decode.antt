@@ -100,7 +100,8 @@ pub record Node (right rights : ℕ → Type 0) (ts : List Token) (w : List ℕ)
   pub first : 1 ≤ children shape → Part right i (row-word w i 2)
   pub second : 2 ≤ children shape → Part right i (row-word w i 3)
   pub third : 3 ≤ children shape → Part right i (row-word w i 4)
-  pub args : row-word w i 0 ≡ CALL → Part rights i (row-word w i 2)
+  -- not behind it: a call without arguments has row 0 here, and may be row 0 itself
+  pub args : row-word w i 0 ≡ CALL → (row-word w i 2 ≤ i) × rights (row-word w i 2)
 
 pub record Argument (right rights : ℕ → Type 0) (w : List ℕ) (i : ℕ) : Type 0 where
   pub inside : i < NODES
