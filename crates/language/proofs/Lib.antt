@@ -1,3 +1,4 @@
 pub mod Text
+pub mod Grammar
 pub mod Types
 pub mod Meaning
