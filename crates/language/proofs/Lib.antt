@@ -2,3 +2,4 @@ pub mod Text
 pub mod Grammar
 pub mod Types
 pub mod Meaning
+pub mod Answers

@@ -202,7 +202,9 @@ module _ {ts : List Token} where
   -- no operator that may follow: the loop ends
   pub climb-stop : {m v w : ℕ} {x : Exp} → 1 ≤ v → v ≤ w → (v ≡ 4 → ⊥) → (v ≤ tightness (kind-at ts m) → tightness (kind-at ts m) ≤ w → ⊥)
       → More ts v w x m (got x m)
-  climb-stop {m} {v} {w} a b n h = record { from = λ i s. finish (reach v s a b λ c d. h (omega arith) d) n λ e. h (omega arith) (omega arith) }
+  climb-stop {m} {v} {w} a b n h = record {
+    from = λ i s. finish (reach v s a b λ c d. h (omega arith) d) n λ e. h (omega arith) (omega arith);
+  }
 
   module _ {m v w p : ℕ} {o : Binary} (j : Joins (kind-at ts m) o p) (a : 1 ≤ v) (b : v ≤ p) (c : p ≤ w) where
     -- an operator that may follow, whose right operand cannot be read
