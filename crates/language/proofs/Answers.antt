@@ -1,5 +1,5 @@
 -- What is true of answers.
 pub mod Verdict
--- OneAnswer
--- Demand3
--- Examples
+pub mod OneAnswer
+pub mod Demand3
+pub mod Examples
