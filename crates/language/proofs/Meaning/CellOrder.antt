@@ -154,7 +154,7 @@ module _ (I : State → Type 0) (c : Closed I) where
         keeps-then _ (ih e env s h) λ v s₁ h₁. keeps-choose _ _ _ (λ _. keeps-value h₁) (keeps-then _ (ih f env s₁ h₁) λ x s₂ h₂. keeps-binary i o v x s₂ h₂)
     keeps-step (follow i e f) env s h = keeps-then _ (ih e env s h) λ v s₁ h₁. keeps-unit v _ (ih f env s₁ h₁)
     keeps-step (group i e) env s h = ih e env s h
-    keeps-step (block i e) env s h = keeps-then _ (ih e env s h) λ v s₁ h₁. keeps-value (c .free s₁ (s .births) h₁)
+    keeps-step (block i e) env s h = keeps-then _ (ih e env s h) λ v s₁ h₁. keeps-value (c .free s₁ _ h₁)
     keeps-step (call i f es) env s h = keeps-arguments es env s _ h λ vs s₁ h₁. keeps-when _ _ _ (λ g. keeps-invoke i g vs s₁ h₁) keeps-stuck
     keeps-step (bind i x e f) env s h = keeps-then _ (ih e env s h) λ v s₁ h₁. ih f (push x v env) s₁ h₁
     keeps-step (branch i d e f) env s h =

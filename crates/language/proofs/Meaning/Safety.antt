@@ -219,7 +219,7 @@ module _ (Δ : Scope Sig) (fs : Scope Fun) (ready : Ready Δ fs) (go : Exp → E
   step-good env s (t-group a) h p = safe env s a h p
   step-good env s (t-block a) h p =
       good-then _ (safe env s a h p) λ Σ₁ v s₁ g₁ p₁ q₁.
-      good-value stays record { counted = p₁ .counted; holds = keep-holds Σ₁ (s .births) (s₁ .cells) (p₁ .holds) } q₁
+      good-value stays record { counted = p₁ .counted; holds = keep-holds Σ₁ _ (s₁ .cells) (p₁ .holds) } q₁
   step-good env s (t-call {i = i} {f = f} {ts = ts} {t = t} a e) h p =
       let r = ready f record { takes = ts; gives = t } e in
       arguments-good env s _ a h p λ Σ₁ vs s₁ g₁ p₁ q₁.
