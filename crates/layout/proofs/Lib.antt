@@ -7,3 +7,4 @@ pub mod Holding
 pub mod Laid
 pub mod FewRows
 pub mod Held
+pub mod Wiped

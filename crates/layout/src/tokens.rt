@@ -3,7 +3,7 @@ ghost use mathlib.Core.Path.{_≡_};
 ghost use Prim.Native.Nat.{ℕ, _≤_, _<_};
 ghost use lib.ListN.{length};
 ghost use Rattle.language.specs.Sizes.{TOKENS, TABLE};
-ghost use Rattle.layout.specs.Table.{token-word, kind-of, put-token};
+ghost use Rattle.layout.specs.Table.{token-word, kind-of, place-of, put-token};
 
 // The kind of a token, PAST where there is none.
 pub fn kind(table: &[u32], count: usize, at: usize) -> u32
@@ -19,6 +19,14 @@ pub fn place(table: &[u32], at: usize) -> u32
     ensures { λ r. ⌜ r ≡ token-word (now (table .entry)) at 1 ⌝ }
 {
     table[4 * at + 1]
+}
+
+// The same for any ordinal, 0 where there is no token.
+pub fn place_of(table: &[u32], count: usize, at: usize) -> u32
+    requires { ⌜ (TABLE ≤ length (now table)) × (count ≤ TOKENS) ⌝ }
+    ensures { λ r. ⌜ r ≡ place-of (now (table .entry)) count at ⌝ }
+{
+    if at < count { table[4 * at + 1] } else { 0 }
 }
 
 // The byte behind a token's last.
