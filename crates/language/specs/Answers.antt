@@ -72,9 +72,8 @@ pub data Checked (source : List ℕ) (table : ℕ) : Row → CheckReport → Typ
   check-passed : {ts : List Token} {p : Program} {t : Ty}
       → TABLE ≤ table → Passes source ts p t → Checked source table passed (check-report passed 0 (type-number t))
 
--- The contract of check: the report, and the table memory as it is left.
-pub record Check (source table : List ℕ) (report : CheckReport) (table′ : List ℕ) : Type 0 where
-  pub row : Row
+-- The contract of check: the row that it tells, its report, and the table memory as it is left.
+pub record Check (source table : List ℕ) (row : Row) (report : CheckReport) (table′ : List ℕ) : Type 0 where
   pub answer : Checked source (length table) row report
   pub table-left : table′ ≡ left row TABLE table
 
@@ -127,9 +126,8 @@ pub data Ran (source : List ℕ) (l : Lent) : Row → RunReport → List ℕ →
       → Enough l → l .allowance ≤ ALLOWANCE → Passes source ts p t → run p (l .allowance) (l .output) ≡ stop w i s
       → Ran source l (stopped w) (after-run (stopped w) (place-at ts i) t (pos 0) (l .allowance) s) (reverse (s .printed))
 
--- The contract of run: the report, and the two memories and the output as they are left (S098 to S100).
-pub record Run (source table work output : List ℕ) (allowance : ℕ) (report : RunReport) (table′ work′ output′ : List ℕ) : Type 0 where
-  pub row : Row
+-- The contract of run: the row, the report, and the two memories and the output as they are left (S098 to S100).
+pub record Run (source table work output : List ℕ) (allowance : ℕ) (row : Row) (report : RunReport) (table′ work′ output′ : List ℕ) : Type 0 where
   pub printed : List ℕ
   pub answer : Ran source
       record { table = length table; work = length work; output = length output; allowance = allowance } row report printed

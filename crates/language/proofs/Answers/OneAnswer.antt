@@ -68,16 +68,17 @@ module _ (s : List ℕ) (table : ℕ) where
       go (no h) v a = (short-memory, check-report short-memory 0 0, check-short (omega (arith, h)))
 
 -- no two answers of check, nor two tables left
-pub one-check : {s table : List ℕ} {r q : CheckReport} {t′ u′ : List ℕ} → Check s table r t′ → Check s table q u′ → (r ≡ q) × (t′ ≡ u′)
+pub one-check : {s table : List ℕ} {w v : Row} {r q : CheckReport} {t′ u′ : List ℕ} → Check s table w r t′ → Check s table v q u′
+    → (w ≡ v) × (r ≡ q) × (t′ ≡ u′)
 one-check {s} {table} a b =
     let e = one-checked s (length table) (a .answer) (b .answer) in
-    (e .1, a .table-left ∙ ap (λ (w : Row). left w TABLE table) (e .0) ∙ sym (b .table-left))
+    (e .0, e .1, a .table-left ∙ ap (λ (w : Row). left w TABLE table) (e .0) ∙ sym (b .table-left))
 
 -- and one there is
-pub some-check : (s table : List ℕ) → (r : CheckReport) × (t′ : List ℕ) × Check s table r t′
+pub some-check : (s table : List ℕ) → (w : Row) × (r : CheckReport) × (t′ : List ℕ) × Check s table w r t′
 some-check s table =
     let a = some-checked s (length table) in
-    (a .1, left (a .0) TABLE table, record { row = a .0; answer = a .2; table-left = refl })
+    (a .0, a .1, left (a .0) TABLE table, record { answer = a .2; table-left = refl })
 
 -- ---- run
 
@@ -170,11 +171,12 @@ module _ (s : List ℕ) (l : Lent) where
       go (inr k) d v a = record { row = _; report = _; printed = _; ran = run-short k }
 
 -- no two answers of run, nor memories or outputs left
-pub one-run : {s table work output : List ℕ} {allowance : ℕ} {r q : RunReport} {t′ w′ o′ t″ w″ o″ : List ℕ}
-    → Run s table work output allowance r t′ w′ o′ → Run s table work output allowance q t″ w″ o″
-    → (r ≡ q) × (t′ ≡ t″) × (w′ ≡ w″) × (o′ ≡ o″)
+pub one-run : {s table work output : List ℕ} {allowance : ℕ} {w v : Row} {r q : RunReport} {t′ w′ o′ t″ w″ o″ : List ℕ}
+    → Run s table work output allowance w r t′ w′ o′ → Run s table work output allowance v q t″ w″ o″
+    → (w ≡ v) × (r ≡ q) × (t′ ≡ t″) × (w′ ≡ w″) × (o′ ≡ o″)
 one-run {s} {table} {work} {output} a b =
     let e = one-ran s _ (a .answer) (b .answer) in (
+      e .0,
       e .1,
       a .table-left ∙ ap (λ (w : Row). left w TABLE table) (e .0) ∙ sym (b .table-left),
       a .work-left ∙ ap (λ (w : Row). left w WORK work) (e .0) ∙ sym (b .work-left),
@@ -183,19 +185,21 @@ one-run {s} {table} {work} {output} a b =
 
 -- and one there is
 pub record SomeRun (s table work output : List ℕ) (allowance : ℕ) : Type 0 where
+  pub row : Row
   pub report : RunReport
   pub table-left : List ℕ
   pub work-left : List ℕ
   pub output-left : List ℕ
-  pub answer : Run s table work output allowance report table-left work-left output-left
+  pub answer : Run s table work output allowance row report table-left work-left output-left
 
 pub some-run : (s table work output : List ℕ) (allowance : ℕ) → SomeRun s table work output allowance
 some-run s table work output allowance =
     let a = some-ran s record { table = length table; work = length work; output = length output; allowance = allowance } in
     record {
+      row = a .row;
       report = a .report;
       table-left = left (a .row) TABLE table;
       work-left = left (a .row) WORK work;
       output-left = a .printed ++ drop (length (a .printed)) output;
-      answer = record { row = a .row; printed = a .printed; answer = a .ran; table-left = refl; work-left = refl; output-left = refl };
+      answer = record { printed = a .printed; answer = a .ran; table-left = refl; work-left = refl; output-left = refl };
     }
