@@ -1,8 +1,8 @@
 -- What check and run answer for everything they can be lent, and what they leave in it (S004, S091 to S101).
-use mathlib.Core.List.{List, [], _∷_, _++_, reverse}
+use mathlib.Core.List.{List, [], _++_, reverse}
 use mathlib.Core.Logic.{_⊎_}
 use mathlib.Core.Path.{_≡_}
-use Prim.Native.Nat.{ℕ, zero, suc, _-_, _≤_, _<_}
+use Prim.Native.Nat.{ℕ, _-_, _≤_, _<_}
 use lib.IntN.{ℤ, pos}
 use lib.ListN.{length, drop, replicate}
 use Rattle.language.specs.Sizes.{SOURCE, NODES, ALLOWANCE, TABLE, WORK}

@@ -1,12 +1,11 @@
 -- How the bytes of a text split into tokens, and the four things that stop a split (S009 to S021; rows 11 to 14).
 -- Places are byte offsets. What a piece of text may be is said by its form; that the longest form counts is said once.
-use mathlib.Core.Bool.{Bool, true, false, _&&_, _||_, not}
+use mathlib.Core.Bool.{Bool, true, _&&_, _||_, not}
 use mathlib.Core.List.{List, [], _∷_, _++_}
 use mathlib.Core.Option.{Option, none, some}
 use mathlib.Core.Path.{_≡_}
 use Prim.Native.Char.{Char, code}
 use Prim.Native.Nat.{ℕ, _+_, _*_, _-_, _≤_, _<_}
-use Prim.Native.String.{String}
 use lib.Dec.{eqb, leb}
 use lib.ListN.{length, getD}
 use lib.Seq.{slice}

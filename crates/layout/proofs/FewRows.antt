@@ -1,10 +1,10 @@
 -- A reading takes no more rows than it has tokens: every row has a token that no other has.
 use mathlib.Core.List.{List, [], _∷_}
-use Prim.Native.Nat.{ℕ, suc, _+_, _≤_, _<_}
+use Prim.Native.Nat.{ℕ, _+_, _≤_, _<_}
 use native.Mathlib.Omega.{arith}
 use lib.ListN.{length}
 use Rattle.language.specs.Tokens.{Token}
-use Rattle.language.specs.Trees.{Exp, Exps, Param, Def, Program}
+use Rattle.language.specs.Trees.{Def, Program}
 use Rattle.language.specs.Grammar.{Sym, program, def, formals, params, type, seq, bound, item, assign, atom, actuals, args, tier, Of, Reads, Reading, program-seq, program-def, def-is, formals-none, formals-some, params-one, params-more, type-basic, type-ref, seq-let, seq-item, seq-more, let-in, item-if, item-while, item-assign, assign-one, assign-to, chain-one, chain-more, cmp-one, cmp-two, un-prefix, un-atom, atom-name, atom-call, atom-number, atom-constant, atom-group, atom-block, actuals-none, actuals-some, args-one, args-more}
 use Rattle.layout.specs.Rows.{below, under, def-rows, defs-rows}
 

@@ -1,22 +1,21 @@
 -- A program that was laid down is held by its table: the promise of the reader, as the checker and the runner take it.
 use mathlib.Core.List.{List, [], _∷_}
 use mathlib.Core.Path.{_≡_, refl, sym, ap, _∙_}
-use Prim.Native.Nat.{ℕ, zero, suc, _+_, _*_, _≤_, _<_}
+use Prim.Native.Nat.{ℕ, suc, _+_, _*_, _≤_, _<_}
 use native.Mathlib.Omega.{arith}
 use lib.ListN.{length, getD}
 use Rattle.language.specs.Sizes.{TOKENS, NODES, TABLE}
-use Rattle.language.specs.Tokens.{Token, At, NAME, DEF, LBRACE}
+use Rattle.language.specs.Tokens.{Token, DEF, LBRACE}
 use Rattle.language.specs.Trees.{Exp, block, Param, Def, Program}
 use Rattle.language.specs.Grammar.{Reading}
 use Rattle.language.specs.Meaning.{type-number}
 use Rattle.layout.specs.Table.{ROWS-AT, FUNCTIONS-AT, row-word, function-row, put-row, put-function}
 use Rattle.layout.specs.Names.{Stand}
 use Rattle.layout.specs.Rows.{PARAMETER, below, lay, lay-params, lay-def, def-rows, defs-rows, lay-defs, lay-program, main-row}
-use Rattle.layout.specs.Decode.{tree-at, Right, ParamsAt, params-none, params-more, FunctionAt, FunctionsAt, functions-none, functions-more, Holds}
-use Rattle.layout.proofs.TableLaws.{Five, kind-same, put-row-five, put-row-other, length-put-row, put-function-same, put-function-other, length-put-function}
-use Rattle.layout.proofs.LayLaws.{length-lay, lay-before, length-lay-params, lay-params-other, length-lay-def, lay-def-other, length-lay-defs, lay-defs-other, length-lay-program, lay-program-other, lay-other}
-use Rattle.layout.proofs.Owned.{OwnedParams, owned-none, owned-param, IsBlock, is-block, OwnedDef, OwnedDefs, owned-end, owned-def, OwnedProgram, reading-owned}
-use Rattle.layout.proofs.Holding.{Back}
+use Rattle.layout.specs.Decode.{ParamsAt, params-none, params-more, FunctionAt, FunctionsAt, functions-none, functions-more, Holds}
+use Rattle.layout.proofs.TableLaws.{kind-same, put-row-five, put-row-other, length-put-row, put-function-same, put-function-other, length-put-function}
+use Rattle.layout.proofs.LayLaws.{length-lay, lay-before, length-lay-params, lay-params-other, length-lay-def, length-lay-defs, lay-defs-other, length-lay-program, lay-program-other, lay-other}
+use Rattle.layout.proofs.Owned.{OwnedParams, owned-none, owned-param, IsBlock, is-block, OwnedDef, OwnedDefs, owned-def, reading-owned}
 use Rattle.layout.proofs.Laid.{Agree, last-row, laid-back}
 use Rattle.layout.proofs.FewRows.{few-rows, few-defs}
 

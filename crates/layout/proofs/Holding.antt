@@ -1,20 +1,16 @@
 -- A tree that was laid down is read back: its root's row is right, and the tree of that row is the tree.
 use mathlib.Core.List.{List}
 use mathlib.Core.Option.{some}
-use mathlib.Core.Path.{_≡_, refl, sym, ap, subst, _∙_}
-use Prim.Native.Nat.{ℕ, zero, suc, _+_, _*_, _≤_, _<_}
+use mathlib.Core.Path.{_≡_, refl, sym, ap, _∙_}
+use Prim.Native.Nat.{ℕ, zero, suc, _+_, _≤_, _<_}
 use native.Mathlib.Omega.{arith}
-use lib.ListN.{length, getD}
 use borrow.Author.Tests.{ne-eqb}
 use Rattle.language.specs.Sizes.{NODES}
-use Rattle.language.specs.Tokens.{Token, At, entry, NAME, NUMBER, LET}
-use Rattle.language.specs.Trees.{Literal, whole, truth, trivial, Unary, minus, not, fetch, new, Binary, add, sub, mul, div, less, equal, and, or, assign, Exp, name, literal, unary, binary, follow, group, block, call, bind, branch, loop, Exps, last, more}
-use Rattle.layout.specs.Table.{ROWS-AT, row-word, put-row}
-use Rattle.layout.specs.Rows.{CALL, literal-kind, unary-kind, binary-kind, below, under, head, lay, lay-all}
-use Rattle.layout.specs.Decode.{Shape, a-name, a-number, a-follow, a-group, a-block, a-call, a-let, an-if, a-while, a-constant, a-unary, a-binary, shape-of, children, build, build-if, tree-at, args-at, Part, Node, Argument, Right, RightArgs}
-use Rattle.layout.proofs.TableLaws.{Five, put-row-five, put-row-before}
-use Rattle.layout.proofs.LayLaws.{length-lay, length-lay-all, lay-before, lay-all-before}
-use Rattle.layout.proofs.Owned.{Owned, OwnedLiteral, owned-whole, owned-truth, owned-trivial, owned-name, owned-literal, owned-unary, owned-binary, owned-follow, owned-group, owned-block, owned-call, owned-bind, owned-branch, owned-loop, OwnedAll, owned-last, owned-more}
+use Rattle.language.specs.Tokens.{Token, At, NAME, NUMBER, LET}
+use Rattle.language.specs.Trees.{Exp, Exps, last, more}
+use Rattle.layout.specs.Rows.{CALL}
+use Rattle.layout.specs.Decode.{Shape, a-call, shape-of, children, build, build-if, tree-at, args-at, Part, Right, RightArgs}
+use Rattle.layout.proofs.TableLaws.{Five}
 
 module _ (ts : List Token) (ls : List ℕ) where
   -- row i is right and stands for e; for the arguments es

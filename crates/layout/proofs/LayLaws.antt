@@ -1,10 +1,9 @@
 -- What laying a tree, a function or a program down leaves as it was: the length, and every word outside its rows.
 use mathlib.Core.List.{List, [], _∷_}
-use mathlib.Core.Path.{_≡_, refl, sym, ap, _∙_}
+use mathlib.Core.Path.{_≡_, refl, _∙_}
 use Prim.Native.Nat.{ℕ, _+_, _*_, _≤_, _<_}
 use native.Mathlib.Omega.{arith}
 use lib.ListN.{length, getD}
-use Rattle.language.specs.Sizes.{TOKENS, NODES}
 use Rattle.language.specs.Trees.{Exp, name, literal, unary, binary, follow, group, block, call, bind, branch, loop, Exps, last, more, Param, Def, Program}
 use Rattle.layout.specs.Table.{ROWS-AT, FUNCTIONS-AT, put-row}
 use Rattle.layout.specs.Rows.{below, under, lay, lay-all, lay-params, lay-def, def-rows, defs-rows, lay-defs, lay-program}

@@ -1,7 +1,7 @@
 -- What a write to the table leaves as it was, and what it makes of its own words.
 use mathlib.Core.Bool.{Bool, true, false, cond}
 use mathlib.Core.List.{List}
-use mathlib.Core.Path.{_≡_, refl, sym, ap, _∙_}
+use mathlib.Core.Path.{_≡_, refl, ap, _∙_}
 use Prim.Native.Nat.{ℕ, _+_, _*_, _≤_, _<_}
 use native.Mathlib.Omega.{arith}
 use lib.Dec.{ltb}
@@ -9,7 +9,7 @@ use lib.ListN.{length, getD, set, length-set}
 use lib.Seq.{getD-set-same, getD-set-other}
 use borrow.Author.Tests.{lt-ltb, le-ltb, ltb-true}
 use Rattle.language.specs.Sizes.{TOKENS, NODES}
-use Rattle.layout.specs.Table.{ROWS-AT, FUNCTIONS-AT, kind-of, row-word, put-row, put-function, zeros, without-rows}
+use Rattle.layout.specs.Table.{ROWS-AT, FUNCTIONS-AT, kind-of, row-word, put-row, put-function, without-rows}
 use Rattle.layout.proofs.Clearing.{zeros-set}
 
 -- ---- the kind of a token

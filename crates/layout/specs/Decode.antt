@@ -1,6 +1,6 @@
 -- The reading that the rows of a table stand for, read back from the words. The written tokens ts give the spellings and
 -- numbers, which the words of rows do not hold. `f` bounds how far down the reading back goes.
-use mathlib.Core.Bool.{Bool, true, false, cond}
+use mathlib.Core.Bool.{true, false, cond}
 use mathlib.Core.List.{List, [], _∷_}
 use mathlib.Core.Option.{Option, none, some}
 use mathlib.Core.Path.{_≡_}
@@ -8,12 +8,12 @@ use Prim.Native.Nat.{ℕ, zero, suc, _+_, _≤_, _<_}
 use lib.Dec.{eqb}
 use lib.ListN.{length}
 use Rattle.language.specs.Sizes.{NODES, TABLE}
-use Rattle.language.specs.Tokens.{Token, Row, _is_, entry, At, value-at, spelling-at, NAME, NUMBER, DEF, LET, WHILE, IF, REF, NOT, TRUE, FALSE, TT, PLUS, MINUS, STAR, SLASH, AND, OR, LESS, EQUAL, BECOMES, BANG, SEMI, LPAR, LBRACE}
+use Rattle.language.specs.Tokens.{Token, Row, _is_, entry, At, value-at, spelling-at, NAME, NUMBER, LET, WHILE, IF, REF, NOT, TRUE, FALSE, TT, PLUS, MINUS, STAR, SLASH, AND, OR, LESS, EQUAL, BECOMES, BANG, SEMI, LPAR, LBRACE}
 use Rattle.language.specs.Trees.{Literal, whole, truth, trivial, Unary, minus, not, fetch, new, Binary, add, sub, mul, div, less, equal, Exp, name, literal, unary, binary, follow, group, block, call, bind, branch, loop, Exps, last, more, Param, Def, Program}
 use Rattle.language.specs.Meaning.{type-number}
 use Rattle.layout.specs.Table.{row-word, function-row}
 use Rattle.layout.specs.Names.{Stand}
-use Rattle.layout.specs.Rows.{PREFIX, CALL, ARGUMENT, PARAMETER, below, defs-rows}
+use Rattle.layout.specs.Rows.{PREFIX, CALL, below}
 
 -- ---- what kind of node a row is
 

@@ -6,7 +6,7 @@ use Prim.Native.Nat.{ℕ, suc, _+_, _≤_, _<_}
 use lib.Dec.{eqb}
 use lib.ListN.{length, getD}
 use Rattle.language.specs.Sizes.{TOKENS}
-use Rattle.language.specs.Tokens.{Spelling, same, Token, NAME, NUMBER, past, kind-at, spelling-at, place-at}
+use Rattle.language.specs.Tokens.{Spelling, same, Token, NAME, NUMBER, past, kind-at, place-at}
 use Rattle.language.specs.Trees.{PUTCHAR}
 use Rattle.layout.specs.Table.{token-word, kind-of, put-token}
 

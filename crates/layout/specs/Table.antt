@@ -1,6 +1,6 @@
 -- Table memory: where tokens, rows, functions and variables lie, and what is written there.
 -- This and all of this crate's specs is vocabulary for contracts between layers: the language itself does not know it.
-use mathlib.Core.Bool.{Bool, cond}
+use mathlib.Core.Bool.{cond}
 use mathlib.Core.List.{List}
 use Prim.Native.Nat.{ℕ, zero, suc, _+_, _*_}
 use lib.Dec.{ltb}

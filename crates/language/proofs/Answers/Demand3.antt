@@ -4,8 +4,7 @@
 use mathlib.Core.List.{List}
 use mathlib.Core.Logic.{_↔_}
 use mathlib.Core.Path.{_≡_, refl, ap, subst}
-use Prim.Native.Nat.{ℕ, _≤_, _<_}
-use native.Mathlib.Omega.{arith}
+use Prim.Native.Nat.{ℕ, _≤_}
 use lib.ListN.{length}
 use Rattle.language.specs.Sizes.{SOURCE, TABLE}
 use Rattle.language.specs.Tokens.{Token}
@@ -15,7 +14,7 @@ use Rattle.language.specs.Grammar.{Reading}
 use Rattle.language.specs.Types.{HasType}
 use Rattle.language.specs.Meaning.{type-number}
 use Rattle.language.specs.Numbers.{Row, passed, short-memory, large-allowance, long-source, text, no-reading, many-nodes, types, stopped}
-use Rattle.language.specs.Answers.{Passes, Refused, too-long, flawed, unread, too-large, faulty, check-report, CheckReport, Checked, check-short, check-refused, check-passed}
+use Rattle.language.specs.Answers.{Refused, too-long, flawed, unread, too-large, faulty, check-report, CheckReport, Checked, check-short, check-refused, check-passed}
 use Rattle.language.proofs.Grammar.FewNodes.{never-too-large}
 use Rattle.language.proofs.Types.TypeNumbers.{one-number}
 

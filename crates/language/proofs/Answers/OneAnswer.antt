@@ -6,12 +6,12 @@ use mathlib.Core.Path.{_≡_, refl, sym, ap, subst, _∙_}
 use Prim.Native.Nat.{ℕ, _≤_, _<_}
 use native.Mathlib.Decide.{decLe}
 use native.Mathlib.Omega.{arith}
-use lib.IntN.{ℤ, pos}
+use lib.IntN.{pos}
 use lib.ListN.{length, drop}
 use Rattle.language.specs.Sizes.{ALLOWANCE, TABLE, WORK}
 use Rattle.language.specs.Tokens.{Token, place-at}
 use Rattle.language.specs.Trees.{Ty, Program}
-use Rattle.language.specs.State.{Value, State, Stop, Outcome, value, stop, stuck}
+use Rattle.language.specs.State.{Outcome, value, stop, stuck}
 use Rattle.language.specs.Meaning.{run, value-number, type-number}
 use Rattle.language.specs.Numbers.{Row, passed, short-memory, large-allowance, stopped}
 use Rattle.language.specs.Answers.{Passes, Refused, left, CheckReport, check-report, Checked, check-short, check-refused, check-passed, Check, RunReport, Lent, Enough, refusal, after-run, Ran, run-short, run-large, run-refused, run-value, run-stop, Run}

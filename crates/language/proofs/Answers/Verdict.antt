@@ -1,23 +1,22 @@
 -- What becomes of a source, worked out: the scanner, the parser and the type checker one after the other. It is proof
 -- vocabulary and no definition of the language; it is shown to say exactly what the written Refused and Passes say.
 use mathlib.Core.List.{List}
-use mathlib.Core.Path.{_≡_, refl, sym, ap, subst, _∙_}
+use mathlib.Core.Path.{_≡_, refl, ap, _∙_}
 use Prim.Native.Nat.{ℕ, _≤_, _<_}
 use native.Mathlib.Decide.{decLe}
 use native.Mathlib.Omega.{arith}
 use lib.ListN.{length}
 use Rattle.language.specs.Sizes.{SOURCE, NODES}
 use Rattle.language.specs.Tokens.{Token, place-at}
-use Rattle.language.specs.Text.{Splits, Flaw, Flawed}
+use Rattle.language.specs.Text.{Splits}
 use Rattle.language.specs.Trees.{Ty, Program, program-nodes}
 use Rattle.language.specs.Grammar.{Reading}
 use Rattle.language.specs.Types.{HasType}
-use Rattle.language.specs.Faults.{Reason, HasFault}
+use Rattle.language.specs.Faults.{HasFault}
 use Rattle.language.specs.Numbers.{Row, long-source, text, no-reading, many-nodes, types}
 use Rattle.language.specs.Answers.{Passes, Refused, too-long, flawed, unread, too-large, faulty}
 use Rattle.language.proofs.Text.Scanner as Scanner
 use Rattle.language.proofs.Text.Scanner.{scan, scanned, split-scanned, flaw-scanned}
-use Rattle.language.proofs.Text.OneSplit.{one-split}
 use Rattle.language.proofs.Grammar.Parses as Parses
 use Rattle.language.proofs.Grammar.Parses.{failed, got}
 use Rattle.language.proofs.Grammar.Parser.{answer}

@@ -1,18 +1,17 @@
 -- What every step of a run keeps, every run keeps. The live cells stand in the order of their births, so to free is to drop the newest.
-use mathlib.Core.Path.{_≡_, refl, sym, ap, subst, _∙_}
+use mathlib.Core.Path.{_≡_, refl, ap}
 use mathlib.Core.Bool.{Bool, true, false, cond}
 use mathlib.Core.List.{List, [], _∷_}
 use mathlib.Core.Option.{Option, none, some}
-use Prim.Native.Nat.{ℕ, zero, suc, _+_, _-_, _≤_, _<_}
+use Prim.Native.Nat.{ℕ, zero, suc, _≤_, _<_}
 use native.Mathlib.Omega.{arith}
 use lib.IntN.{ℤ, pos, negsuc}
-use lib.Dec.{eqb, leb, ltb}
-use borrow.Author.Tests.{leb-true, leb-false, le-leb, ltb-true}
-use lib.ListN.{length}
+use lib.Dec.{eqb, leb}
+use borrow.Author.Tests.{leb-true, le-leb, ltb-true}
 use Rattle.language.specs.Sizes.{CELLS, BYTE}
-use Rattle.language.specs.Trees.{Name, Unary, minus, not, fetch, new, Binary, add, sub, mul, div, less, equal, and, or, assign, Exp, name, literal, unary, binary, follow, group, block, call, bind, branch, loop, Exps, last, more, own, Param, Program, Scope, empty, push, nearest}
-use Rattle.language.specs.State.{Stop, Value, number, flag, nothing, cell, Cells, no-cell, live, count, held, store, keep, State, Outcome, value, stop, stuck, then, want-int, want-bool, want-unit, want-cell, want-one, choose, when-some}
-use Rattle.language.specs.Meaning.{Env, charge, begin, fit, create, apply-unary, apply-binary, emit, put, Fun, putchar, defined, enter, arguments, invoke, passes, step, eval, run, start}
+use Rattle.language.specs.Trees.{Unary, minus, not, fetch, new, Binary, add, sub, mul, div, less, equal, and, or, assign, Exp, name, literal, unary, binary, follow, group, block, call, bind, branch, loop, Exps, last, more, Param, Scope, empty, push}
+use Rattle.language.specs.State.{Stop, Value, number, flag, nothing, cell, Cells, no-cell, live, count, store, keep, State, Outcome, value, stop, stuck, then, want-int, want-bool, want-unit, want-cell, want-one, choose, when-some}
+use Rattle.language.specs.Meaning.{Env, charge, begin, fit, create, apply-unary, apply-binary, emit, put, Fun, putchar, defined, enter, arguments, invoke, passes, step, eval}
 use Rattle.language.proofs.Meaning.CellTypes.{cond-all}
 
 -- I holds of the state that an outcome has

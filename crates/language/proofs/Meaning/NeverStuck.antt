@@ -1,19 +1,19 @@
 -- A program that has a type is never stuck, and its value is of that type.
 use mathlib.Core.Path.{_≡_, refl, sym, ap, subst, _∙_}
 use mathlib.Core.Bool.{Bool, true, false, cond, _&&_}
-use mathlib.Core.List.{List, [], _∷_, map}
-use mathlib.Core.Option.{Option, none, some}
+use mathlib.Core.List.{List, [], _∷_}
+use mathlib.Core.Option.{none, some}
 use Prim.Native.Nat.{ℕ}
 use lib.Dec.{eqb}
 use borrow.Author.Tests.{eqb-true}
 use Rattle.language.specs.Sizes.{ACTIVE}
 use Rattle.language.specs.Tokens.{same}
-use Rattle.language.specs.Trees.{Name, Ty, int, bool, unit, ref, Exp, Exps, Param, Def, Program, Scope, empty, push, nearest, PUTCHAR}
-use Rattle.language.specs.Types.{Sig, Typed, t-name, t-whole, t-truth, t-trivial, t-unary, t-binary, t-follow, t-group, t-block, t-call, t-bind, t-branch, t-loop, TypedAll, t-last, t-more, Takes, Fine, fine, with-def, TypedFrom, typed-main, typed-def, given, HasType}
-use Rattle.language.specs.State.{Value, State, Outcome, value, stop, stuck, no-cell}
-use Rattle.language.specs.Meaning.{Fun, putchar, defined, functions, start, run}
-use Rattle.language.proofs.Meaning.CellTypes.{none-some, some-one, Fits, StateFits, holds-none, env-empty}
-use Rattle.language.proofs.Meaning.Safety.{Good, good-value, good-stop, FunFits, fun-putchar, fun-defined, Ready, eval-good}
+use Rattle.language.specs.Trees.{Name, Ty, Exp, Exps, Def, Program, Scope, empty, push, nearest}
+use Rattle.language.specs.Types.{Sig, Typed, t-name, t-whole, t-truth, t-trivial, t-unary, t-binary, t-follow, t-group, t-block, t-call, t-bind, t-branch, t-loop, TypedAll, t-last, t-more, fine, with-def, TypedFrom, typed-main, typed-def, given, HasType}
+use Rattle.language.specs.State.{Value, State, Outcome, value, stop, stuck}
+use Rattle.language.specs.Meaning.{Fun, functions, start, run}
+use Rattle.language.proofs.Meaning.CellTypes.{none-some, some-one, Fits, holds-none, env-empty}
+use Rattle.language.proofs.Meaning.Safety.{Good, good-value, good-stop, FunFits, fun-putchar, fun-defined, eval-good}
 
 and-left : (a b : Bool) → a && b ≡ true → a ≡ true
 and-left true b e = refl

@@ -1,8 +1,7 @@
 -- For the code, which binds each argument as it is worked out: with as many arguments as parameters that is the same.
-use mathlib.Core.Path.{_≡_, refl, sym, ap, _∙_}
+use mathlib.Core.Path.{_≡_, refl}
 use mathlib.Core.List.{List, [], _∷_}
-use Prim.Native.Nat.{ℕ, zero, suc}
-use Rattle.language.specs.Trees.{Exp, Exps, last, more, Param, Scope, empty, push}
+use Rattle.language.specs.Trees.{Exp, Exps, last, more, Param, Scope, push}
 use Rattle.language.specs.State.{Value, State, Outcome, value, stop, stuck, then}
 use Rattle.language.specs.Meaning.{Env, Fun, enter, arguments}
 

@@ -1,19 +1,15 @@
 -- A node that has a type is never stuck, and its value is of the type.
 use mathlib.Core.Path.{_≡_, refl, sym, ap, subst, _∙_}
-use mathlib.Core.Bool.{Bool, true, false, cond}
+use mathlib.Core.Bool.{Bool, true, false}
 use mathlib.Core.List.{List, [], _∷_, map}
 use mathlib.Core.Option.{Option, none, some}
-use Prim.Native.Nat.{ℕ, zero, suc, _≤_, _<_}
-use native.Mathlib.Omega.{arith}
-use lib.ListN.{length}
-use lib.Dec.{ltb}
+use Prim.Native.Nat.{ℕ, zero, suc}
 use lib.IntN.{ℤ, pos, negsuc}
-use lib.Signed.{mag}
-use Rattle.language.specs.Trees.{Name, Ty, int, bool, unit, ref, Unary, minus, not, fetch, new, Binary, add, sub, mul, div, less, equal, and, or, assign, Exp, name, literal, unary, binary, follow, group, block, call, bind, branch, loop, Exps, last, more, own, Param, Def, Program, Scope, empty, push, nearest}
+use Rattle.language.specs.Trees.{Name, Ty, int, bool, unit, ref, Unary, Binary, Exp, Exps, Param, Scope, empty, push, nearest}
 use Rattle.language.specs.Types.{Sig, UnopType, u-minus, u-not, u-fetch, u-new, BinopType, b-add, b-sub, b-mul, b-div, b-less, b-equal, b-and, b-or, b-assign, Typed, t-name, t-whole, t-truth, t-trivial, t-unary, t-binary, t-follow, t-group, t-block, t-call, t-bind, t-branch, t-loop, TypedAll, t-last, t-more, Takes, takes-none, takes-more}
-use Rattle.language.specs.State.{Stop, Value, number, flag, nothing, cell, Cells, no-cell, live, held, store, keep, count, State, Outcome, value, stop, stuck, then, want-int, want-bool, want-unit, want-cell, want-one, choose, when-some}
-use Rattle.language.specs.Meaning.{Env, charge, begin, fit, is-zero, literal-value, create, apply-unary, apply-binary, settles, emit, put, Fun, putchar, defined, enter, arguments, invoke, passes, step, eval}
-use Rattle.language.proofs.Meaning.CellTypes.{none-some, some-one, Born, newest, older, Grows, stays, gains, grows-trans, Fits, fits-int, fits-bool, fits-unit, fits-ref, FitsAll, fits-none, fits-more, Holds, holds-none, holds-live, EnvFits, env-empty, env-push, StateFits, keep-holds, store-holds, held-fits, env-find, fits-grows, all-grows, env-grows, holds-grows}
+use Rattle.language.specs.State.{Stop, Value, flag, State, Outcome, value, stop, then, want-int, want-bool, want-unit, want-cell, want-one, choose, when-some}
+use Rattle.language.specs.Meaning.{Env, charge, begin, fit, literal-value, create, apply-unary, apply-binary, settles, emit, put, Fun, putchar, defined, enter, arguments, invoke, passes, step, eval}
+use Rattle.language.proofs.Meaning.CellTypes.{none-some, some-one, Born, newest, Grows, stays, gains, grows-trans, Fits, fits-int, fits-bool, fits-unit, fits-ref, FitsAll, fits-none, fits-more, holds-live, EnvFits, env-empty, env-push, StateFits, keep-holds, store-holds, held-fits, env-find, fits-grows, env-grows, holds-grows}
 
 -- not stuck; a value is of the type t, under the cells born up to then
 pub data Good (Σ : List Ty) (t : Ty) : Outcome → Type 0 where

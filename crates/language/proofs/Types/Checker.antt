@@ -1,15 +1,14 @@
 -- A type checker: structural, one clause for each node.
-use mathlib.Core.Path.{_≡_, refl, sym, ap}
-use mathlib.Core.Bool.{Bool}
+use mathlib.Core.Path.{_≡_, refl, sym}
 use mathlib.Core.List.{List, [], _∷_}
 use mathlib.Core.Option.{Option, none, some}
-use Prim.Native.Nat.{ℕ, suc, _≤_, _<_}
+use Prim.Native.Nat.{ℕ}
 use native.Mathlib.Decide.{decLt, decLe, ℕ-discrete}
 use lib.ListN.{length}
 use Rattle.language.specs.Sizes.{REFS, PARAMETERS, FUNCTIONS}
-use Rattle.language.specs.Trees.{Name, Ty, int, bool, unit, ref, refs, Ty-discrete, Literal, whole, truth, trivial, Exp, name, literal, unary, binary, follow, group, block, call, bind, branch, loop, Exps, last, more, Param, Def, Program, Scope, empty, push, nearest, size}
-use Rattle.language.specs.Types.{Sig, sig, with-def, given}
-use Rattle.language.specs.Faults.{Reason, no-binding, no-function, wrong-number, wrong-argument, wrong-operand, wrong-operands, not-unit, not-bool, branches-differ, wrong-body, too-many-refs, too-many-functions, too-many-parameters, function-twice, parameter-twice, unsuited}
+use Rattle.language.specs.Trees.{Ty, int, bool, unit, refs, Ty-discrete, Literal, whole, truth, trivial, Exp, name, literal, unary, binary, follow, group, block, call, bind, branch, loop, Exps, last, more, Param, Def, Program, Scope, empty, push, nearest, size}
+use Rattle.language.specs.Types.{Sig, with-def, given}
+use Rattle.language.specs.Faults.{Reason, no-binding, no-function, wrong-number, wrong-argument, wrong-operands, not-unit, not-bool, branches-differ, wrong-body, too-many-refs, too-many-functions, too-many-parameters, function-twice, parameter-twice, unsuited}
 use Rattle.language.proofs.Types.Verdict.{Res, ok, bad, after, told, need}
 use Rattle.language.proofs.Types.Operators.{unop, binop}
 

@@ -1,17 +1,15 @@
 -- What the checker answers is so: a type that it gives is the reading's, and a fault that it tells is the reading's first.
-use mathlib.Core.Path.{_≡_, refl, sym, ap, subst}
+use mathlib.Core.Path.{_≡_, refl, sym, subst}
 use mathlib.Core.List.{List, [], _∷_}
 use mathlib.Core.Option.{Option, none, some}
-use Prim.Native.Nat.{ℕ, suc, _≤_, _<_}
-use native.Mathlib.Decide.{decLt, decLe, ℕ-discrete}
+use Prim.Native.Nat.{ℕ}
 use native.Mathlib.Omega.{arith}
-use lib.ListN.{length}
-use Rattle.language.specs.Trees.{Name, Ty, int, bool, unit, ref, refs, Ty-discrete, Unary, Binary, Literal, whole, truth, trivial, Exp, name, literal, unary, binary, follow, group, block, call, bind, branch, loop, Exps, last, more, Param, Def, Program, Scope, empty, push, nearest, size}
-use Rattle.language.specs.Types.{Sig, UnopType, BinopType, Typed, t-name, t-whole, t-truth, t-trivial, t-unary, t-binary, t-follow, t-group, t-block, t-call, t-bind, t-branch, t-loop, TypedAll, t-last, t-more, Takes, takes-none, takes-more, sig, with-def, Fine, fine, TypedFrom, typed-main, typed-def, given, HasType}
-use Rattle.language.specs.Faults.{Reason, no-binding, no-function, wrong-number, wrong-argument, wrong-operand, wrong-operands, not-unit, not-bool, branches-differ, wrong-body, too-many-refs, too-many-functions, too-many-parameters, function-twice, parameter-twice, unsuited, Fault, f-name, f-unary, f-unary-here, f-left, f-right, f-binary-here, f-first, f-second, f-follow-here, f-group, f-block, f-arguments, f-no-function, f-wrong-number, f-wrong-argument, f-bound, f-inside, f-if, f-then, f-else, f-if-here, f-branches-here, f-while, f-do, f-while-here, f-do-here, FaultAll, f-one, f-rest, FaultTakes, p-ninth, p-twice, p-refs, p-later, FaultDef, d-many, d-twice, d-params, d-refs, d-body, d-type, FaultFrom, fault-main, fault-here, fault-later, HasFault}
-use Rattle.language.proofs.Types.Verdict.{Res, ok, bad, after, told, need, Says, says, faults, says-after, says-told, says-need, says-map}
+use Rattle.language.specs.Trees.{Ty, Unary, Binary, Literal, whole, truth, trivial, Exp, name, literal, unary, binary, follow, group, block, call, bind, branch, loop, Exps, last, more, Param, Def, Program, Scope, empty, push, nearest}
+use Rattle.language.specs.Types.{Sig, UnopType, BinopType, Typed, t-name, t-whole, t-truth, t-trivial, t-unary, t-binary, t-follow, t-group, t-block, t-call, t-bind, t-branch, t-loop, TypedAll, t-last, t-more, Takes, takes-none, takes-more, with-def, Fine, fine, TypedFrom, typed-main, typed-def, given, HasType}
+use Rattle.language.specs.Faults.{Reason, Fault, f-name, f-unary, f-unary-here, f-left, f-right, f-binary-here, f-first, f-second, f-follow-here, f-group, f-block, f-arguments, f-no-function, f-wrong-number, f-wrong-argument, f-bound, f-inside, f-if, f-then, f-else, f-if-here, f-branches-here, f-while, f-do, f-while-here, f-do-here, FaultAll, f-one, f-rest, FaultTakes, p-ninth, p-twice, p-refs, p-later, FaultDef, d-many, d-twice, d-params, d-refs, d-body, d-type, FaultFrom, fault-main, fault-here, fault-later, HasFault}
+use Rattle.language.proofs.Types.Verdict.{Res, Says, says, faults, says-after, says-told, says-need, says-map}
 use Rattle.language.proofs.Types.Operators.{unop, binop, Decides, decides-some, decides-none, unop-is, binop-is}
-use Rattle.language.proofs.Types.Checker.{same-types, literal-type, unbound, infer, infers, take-params, check-def, check-from, check}
+use Rattle.language.proofs.Types.Checker.{literal-type, unbound, infer, infers, take-params, check-def, check-from, check}
 
 literal-sound : (Δ : Scope Sig) (Γ : Scope Ty) (i : ℕ) (l : Literal) → Typed Δ Γ (literal i l) (literal-type l)
 unfolding literal-type

@@ -1,15 +1,13 @@
 -- No reading has two types, and a program has a type or exactly one fault, never both.
-use mathlib.Core.Path.{_≡_, refl, ap, subst}
+use mathlib.Core.Path.{_≡_, subst}
 use mathlib.Core.Logic.{_⊎_, inl, inr}
 use Prim.Native.Nat.{ℕ}
-use native.Mathlib.Omega.{arith}
 use Rattle.language.specs.Trees.{Ty, Exp, Scope, Program}
 use Rattle.language.specs.Types.{Sig, Typed, HasType}
-use Rattle.language.specs.Faults.{Reason, Fault, HasFault}
+use Rattle.language.specs.Faults.{Reason, HasFault}
 use Rattle.language.proofs.Types.Verdict.{Res, ok, bad, Says, says, faults}
-use Rattle.language.proofs.Types.Checker.{infer, check}
-use Rattle.language.proofs.Types.CheckerSound.{infer-sound, check-sound}
-use Rattle.language.proofs.Types.CheckerComplete.{infer-complete, fault-complete, check-complete, check-fault}
+use Rattle.language.proofs.Types.CheckerSound.{check-sound}
+use Rattle.language.proofs.Types.CheckerComplete.{infer-complete, check-complete, check-fault}
 
 abbrev IsOk : Res Ty → Type 0
 IsOk (ok t) = Unit {0}

@@ -1,9 +1,7 @@
 -- The operators' types, computed, and that they are those of the rules.
-use mathlib.Core.Path.{_≡_, refl, sym, ap}
-use mathlib.Core.HLevel.{Discrete}
-use mathlib.Core.List.{List, [], _∷_}
+use mathlib.Core.Path.{_≡_, refl, ap}
 use mathlib.Core.Option.{Option, none, some}
-use Prim.Native.Nat.{ℕ, suc, _≤_, _<_}
+use Prim.Native.Nat.{_<_}
 use native.Mathlib.Decide.{decLt}
 use Rattle.language.specs.Sizes.{REFS}
 use Rattle.language.specs.Trees.{Ty, int, bool, unit, ref, refs, Ty-discrete, Unary, minus, not, fetch, new, Binary, add, sub, mul, div, less, equal, and, or, assign}

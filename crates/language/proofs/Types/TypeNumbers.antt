@@ -1,6 +1,6 @@
 -- A type is told by its number, which the code uses for it: `ref` adds 8, `!` takes it away.
 use mathlib.Core.Path.{_≡_, refl, ap}
-use Prim.Native.Nat.{ℕ, suc, _+_, _*_, _≤_, _<_}
+use Prim.Native.Nat.{_+_, _*_, _≤_}
 use native.Mathlib.Omega.{arith}
 use Rattle.language.specs.Sizes.{REFS}
 use Rattle.language.specs.Trees.{Ty, int, bool, unit, ref, refs}

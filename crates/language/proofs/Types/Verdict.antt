@@ -1,5 +1,5 @@
 -- What the checker answers, how it goes on, and the laws of both.
-use mathlib.Core.Path.{_≡_, refl, sym, ap, _∙_}
+use mathlib.Core.Path.{_≡_, refl}
 use mathlib.Core.Option.{Option, none, some}
 use Prim.Native.Nat.{ℕ}
 use Rattle.language.specs.Faults.{Reason}
