@@ -14,3 +14,4 @@ pub mod OneSplit
 pub mod Pieces
 pub mod Scanner
 pub mod Examples
+pub mod SmallNumbers
