@@ -1,0 +1,125 @@
+//! What the two services must report, and in which state each lent memory
+//! must be afterwards.
+
+use crate::{grammar, run as runner, text, types, Refusal};
+
+pub const MOST_BYTES: usize = 8192;
+pub const MOST_NODES: usize = 1024;
+pub const MOST_UNITS: u64 = 1_000_000;
+pub const TABLE_WORDS: usize = 12_288;
+pub const WORK_WORDS: usize = 16_384;
+
+/// Lengths of what is lent to a run, in words or bytes, and its allowance.
+#[derive(Clone, Copy, Debug, PartialEq, Eq)]
+pub struct Lent {
+    pub table: usize,
+    pub work: usize,
+    pub output: usize,
+    pub allowance: u64,
+}
+
+impl Default for Lent {
+    fn default() -> Lent {
+        Lent {
+            table: TABLE_WORDS,
+            work: WORK_WORDS,
+            output: 64,
+            allowance: MOST_UNITS,
+        }
+    }
+}
+
+/// What a lent memory holds afterwards. Words past the required ones, if it
+/// is longer, keep what they held in either case.
+#[derive(Clone, Copy, Debug, PartialEq, Eq)]
+pub enum Left {
+    AsBefore,
+    RequiredZero,
+}
+
+#[derive(Clone, Debug, PartialEq, Eq)]
+pub struct Answer {
+    pub number: u32,
+    pub place: u64,
+    pub kind: u64,
+    pub value: i64,
+    pub units: u64,
+    /// The first bytes of the output; bytes after them stay untouched.
+    pub printed: Vec<u8>,
+    pub table: Left,
+    pub work: Left,
+}
+
+/// The answer of Check: value, units and printed are of no meaning there and
+/// stay 0, and so does the work memory, which Check is never lent.
+pub fn check(source: &[u8], table: usize) -> Answer {
+    if table < TABLE_WORDS {
+        return refused(Refusal::new(40, 0), Left::AsBefore);
+    }
+    let answer = match prepare(source) {
+        Ok((_, kind)) => Answer {
+            kind: kind.code(),
+            ..refused(Refusal::new(0, 0), Left::RequiredZero)
+        },
+        Err(refusal) => refused(refusal, Left::RequiredZero),
+    };
+    Answer {
+        work: Left::AsBefore,
+        ..answer
+    }
+}
+
+pub fn run(source: &[u8], lent: &Lent) -> Answer {
+    if lent.table < TABLE_WORDS || lent.work < WORK_WORDS {
+        return refused(Refusal::new(40, 0), Left::AsBefore);
+    }
+    if lent.allowance > MOST_UNITS {
+        return refused(Refusal::new(41, 0), Left::RequiredZero);
+    }
+    let (program, kind) = match prepare(source) {
+        Ok(prepared) => prepared,
+        Err(refusal) => return refused(refusal, Left::RequiredZero),
+    };
+    let outcome = runner::run(&program, lent.allowance, lent.output);
+    let (end, value) = match outcome.end {
+        Ok(value) => (Refusal::new(0, 0), value.code()),
+        Err(stop) => (stop, 0),
+    };
+    Answer {
+        number: end.number,
+        place: end.place as u64,
+        kind: kind.code(),
+        value,
+        units: outcome.units,
+        printed: outcome.printed,
+        table: Left::RequiredZero,
+        work: Left::RequiredZero,
+    }
+}
+
+/// Everything Check and Run share once the loans are known to be long enough.
+fn prepare(source: &[u8]) -> Result<(grammar::Program, types::Type), Refusal> {
+    if source.len() > MOST_BYTES {
+        return Err(Refusal::new(10, 0));
+    }
+    let tokens = text::tokens(source)?;
+    let program = grammar::read(&tokens).ok_or(Refusal::new(20, 0))?;
+    if program.nodes() > MOST_NODES {
+        return Err(Refusal::new(21, 0));
+    }
+    let kind = types::check(&program)?;
+    Ok((program, kind))
+}
+
+fn refused(refusal: Refusal, left: Left) -> Answer {
+    Answer {
+        number: refusal.number,
+        place: refusal.place as u64,
+        kind: 0,
+        value: 0,
+        units: 0,
+        printed: Vec::new(),
+        table: left,
+        work: left,
+    }
+}

@@ -1,0 +1,130 @@
+//! From tokens to bytes in many spellings, and ways to spoil either.
+
+use crate::chance::Chance;
+use crate::text::{MARKS, RESERVED};
+
+const GAPS: [&str; 8] = [
+    " ",
+    "\n",
+    "\t",
+    "\r\n",
+    "  ",
+    "/* a */",
+    "// b\n",
+    "/*/**/ // */\n",
+];
+const LOOSE: [&str; 12] = [
+    "x",
+    "y",
+    "f0",
+    "putchar",
+    "n",
+    "0",
+    "1",
+    "2",
+    "65",
+    "256",
+    "2147483647",
+    "2147483648",
+];
+
+/// Spells the tokens out. Blanks and comments come where tokens would run
+/// together otherwise, and elsewhere as chance has it.
+pub fn spell(chance: &mut Chance, tokens: &[String]) -> Vec<u8> {
+    let gap_one_in = chance.pick(&[1, 2, 4, 1000]);
+    let only_spaces = chance.one_in(2);
+    let mut text = String::new();
+    for (index, token) in tokens.iter().enumerate() {
+        if index > 0 && (runs_together(&tokens[index - 1], token) || chance.one_in(gap_one_in)) {
+            // A comment right after a slash would be another comment.
+            let plain = only_spaces || tokens[index - 1] == "/";
+            text += if plain { " " } else { chance.pick(&GAPS) };
+        }
+        text += token;
+    }
+    text.into_bytes()
+}
+
+/// Whether two tokens with nothing between them would be read as others.
+fn runs_together(left: &str, right: &str) -> bool {
+    let (Some(first), Some(next)) = (left.bytes().next(), right.bytes().next()) else {
+        return false;
+    };
+    let wordlike = next.is_ascii_alphanumeric() || next == b'_';
+    (first.is_ascii_alphabetic() && wordlike)
+        || (first.is_ascii_digit() && next.is_ascii_digit())
+        || (matches!(left, "=" | ":") && next == b'=')
+        || (left == "/" && matches!(next, b'/' | b'*'))
+}
+
+fn any_token(chance: &mut Chance) -> String {
+    match chance.below(3) {
+        0 => chance.pick(&RESERVED).to_string(),
+        1 => chance.pick(&MARKS).to_string(),
+        _ => chance.pick(&LOOSE).to_string(),
+    }
+}
+
+/// Takes out, doubles, swaps, replaces or puts in a few tokens.
+pub fn damage_tokens(chance: &mut Chance, tokens: &mut Vec<String>) {
+    for _ in 0..chance.between(1, 3) {
+        if tokens.is_empty() {
+            return;
+        }
+        let at = chance.below(tokens.len());
+        let other = chance.below(tokens.len());
+        match chance.below(6) {
+            0 => drop(tokens.remove(at)),
+            1 => tokens.insert(at, tokens[at].clone()),
+            2 => tokens.swap(at, other),
+            3 => tokens[at] = any_token(chance),
+            4 => tokens.insert(at, any_token(chance)),
+            _ => tokens[at] = tokens[other].clone(),
+        }
+    }
+}
+
+/// Takes out, changes, puts in or cuts off a few bytes.
+pub fn damage_bytes(chance: &mut Chance, sheet: &mut Vec<u8>) {
+    const TELLING: &[u8] = b"/*&|:=!<>_~.9 \n\x00\xff(){}";
+    for _ in 0..chance.between(1, 3) {
+        if sheet.is_empty() {
+            return;
+        }
+        let at = chance.below(sheet.len());
+        let byte = if chance.one_in(3) {
+            chance.next_word() as u8
+        } else {
+            chance.pick(TELLING)
+        };
+        match chance.below(8) {
+            0 | 1 => drop(sheet.remove(at)),
+            2 | 3 => sheet[at] = byte,
+            4 | 5 => sheet.insert(at, byte),
+            6 => sheet.splice(at..at, *b"/*").for_each(drop),
+            _ => sheet.truncate(at),
+        }
+    }
+}
+
+/// Tokens with no thought behind them. Few of them, since a reading is found
+/// only for short ones.
+pub fn soup(chance: &mut Chance) -> Vec<String> {
+    let count = if chance.one_in(10) {
+        chance.between(8, 60)
+    } else {
+        chance.below(8)
+    };
+    (0..count).map(|_| any_token(chance)).collect()
+}
+
+/// Bytes with no thought behind them.
+pub fn byte_soup(chance: &mut Chance) -> Vec<u8> {
+    const LIKELY: &[u8] = b"01 ax_+-*/&|<=:!;,(){}\n";
+    let odd_one_in = chance.pick(&[10, 1000]);
+    let byte = |chance: &mut Chance| match chance.one_in(odd_one_in) {
+        true => chance.next_word() as u8,
+        false => chance.pick(LIKELY),
+    };
+    (0..chance.below(30)).map(|_| byte(chance)).collect()
+}

@@ -1,0 +1,237 @@
+//! Random trials, case files and deep sheets from the command line.
+//!
+//! ```text
+//! second N SEED [START]     N random trials, from number START (0) on
+//! second trace N SEED START the same, naming each trial before it is made
+//! second show SEED INDEX    one random trial as a case
+//! second cases              all case files and all examples of the paper
+//! second deep BYTES         the deepest sheets on a stack of that size
+//! ```
+//!
+//! With the feature `box` each of them, but for `show`, holds the other
+//! implementation against this one; without it this one runs alone.
+
+use second::answer::{self, Answer, Lent};
+use second::cases::{self, Case};
+use second::trial::Trial;
+use second::{deep, on_big_stack, paper, shrink, trial};
+use std::collections::BTreeMap;
+use std::process::ExitCode;
+
+#[cfg(feature = "box")]
+mod box_ffi;
+
+/// Failures shown in full; later ones are only counted.
+const MOST_SHOWN: u64 = 10;
+
+fn main() -> ExitCode {
+    let words: Vec<String> = std::env::args().skip(1).collect();
+    let words: Vec<&str> = words.iter().map(String::as_str).collect();
+    let failed = match words[..] {
+        ["cases"] => on_big_stack(all_cases),
+        ["show", seed, index] => show(number(seed), number(index)),
+        ["deep", bytes] => all_deep(number(bytes) as usize),
+        ["trace", count, seed, start] => series(number(count), number(seed), number(start), true),
+        [count, seed] => series(number(count), number(seed), 0, false),
+        [count, seed, start] => series(number(count), number(seed), number(start), false),
+        _ => usage(),
+    };
+    ExitCode::from(u8::from(failed > 0))
+}
+
+fn number(word: &str) -> u64 {
+    word.parse()
+        .unwrap_or_else(|_| panic!("not a number: {word}"))
+}
+
+fn usage() -> u64 {
+    eprintln!("second N SEED [START] | trace N SEED START | show SEED INDEX | cases | deep BYTES");
+    1
+}
+
+/// Whether the trial passes, given this interpreter's answer to it.
+#[cfg(feature = "box")]
+fn verdict(trial: &Trial, answer: &Answer) -> Result<(), String> {
+    second::compare::compare(&box_ffi::Boxed, trial, answer)
+}
+
+/// Alone, an answer can only be held against what is true of all answers.
+#[cfg(not(feature = "box"))]
+fn verdict(trial: &Trial, answer: &Answer) -> Result<(), String> {
+    let check = answer::check(&trial.sheet, trial.lent.table);
+    let found = [u64::from(check.number), check.place, check.kind];
+    let follows = cases::check_from_run(answer).is_none_or(|wanted| wanted == found);
+    let stops = answer.number >= 50;
+    let laws = [
+        (follows, "check and run disagree"),
+        (
+            answer.units <= trial.lent.allowance,
+            "more units than allowed",
+        ),
+        (
+            answer.printed.len() <= trial.lent.output,
+            "more bytes than room",
+        ),
+        (answer.number != 21, "more nodes than tokens"),
+        (
+            answer.number != 50 || answer.units == trial.lent.allowance,
+            "50 with units left",
+        ),
+        (
+            answer.value == 0 || answer.number == 0,
+            "a value with a refusal",
+        ),
+        (
+            stops || answer.number == 0 || answer.kind == 0,
+            "a type with a refusal",
+        ),
+        (
+            answer.place == 0 || answer.place < trial.sheet.len() as u64,
+            "a place outside",
+        ),
+    ];
+    match laws.iter().find(|(holds, _)| !holds) {
+        Some((_, law)) => Err(law.to_string()),
+        None => Ok(()),
+    }
+}
+
+fn series(count: u64, seed: u64, start: u64, trace: bool) -> u64 {
+    on_big_stack(move || {
+        let mut tally = Tally::default();
+        for index in start..start + count {
+            if trace {
+                println!("trial {index}");
+            }
+            let trial = trial::make(seed, index);
+            tally.add(&format!("seed {seed} trial {index}"), trial);
+            if (index + 1 - start).is_multiple_of(20_000) {
+                println!("{} of {count}, {} failed", index + 1 - start, tally.failed);
+            }
+        }
+        tally.close()
+    })
+}
+
+#[derive(Default)]
+struct Tally {
+    numbers: BTreeMap<u32, u64>,
+    passed: u64,
+    failed: u64,
+}
+
+impl Tally {
+    fn add(&mut self, title: &str, trial: Trial) {
+        let answer = answer::run(&trial.sheet, &trial.lent);
+        *self.numbers.entry(answer.number).or_default() += 1;
+        match verdict(&trial, &answer) {
+            Ok(()) => self.passed += 1,
+            Err(difference) => self.fail(title, trial, &difference),
+        }
+    }
+
+    fn fail(&mut self, title: &str, trial: Trial, difference: &str) {
+        self.failed += 1;
+        if self.failed > MOST_SHOWN {
+            return;
+        }
+        let own = |t: &Trial| answer::run(&t.sheet, &t.lent);
+        let small = shrink::shrink(trial, |t| verdict(t, &own(t)).is_err());
+        let answer = own(&small);
+        let now = verdict(&small, &answer).err().unwrap_or_default();
+        println!("# FAILED {title}: {difference}");
+        println!(
+            "# made smaller: {now}; reports of {} and {} words",
+            small.check_report, small.run_report
+        );
+        println!(
+            "{}",
+            cases::show_case(title, &small.sheet, &small.lent, &answer)
+        );
+    }
+
+    fn close(self) -> u64 {
+        for (number, times) in &self.numbers {
+            println!("{number:>4} {times:>9}");
+        }
+        println!("{} passed, {} failed", self.passed, self.failed);
+        self.failed
+    }
+}
+
+fn show(seed: u64, index: u64) -> u64 {
+    on_big_stack(move || {
+        let trial = trial::make(seed, index);
+        let answer = answer::run(&trial.sheet, &trial.lent);
+        println!(
+            "# reports of {} and {} words",
+            trial.check_report, trial.run_report
+        );
+        let title = format!("seed {seed} trial {index}");
+        println!(
+            "{}",
+            cases::show_case(&title, &trial.sheet, &trial.lent, &answer)
+        );
+        0
+    })
+}
+
+fn all_cases() -> u64 {
+    let mut all = paper::examples();
+    match cases::read_folder(&cases::folder()) {
+        Ok(found) => all.extend(found),
+        Err(problem) => {
+            println!("{problem}");
+            return 1;
+        }
+    }
+    let mut tally = Tally::default();
+    for case in all {
+        let Case { sheet, lent, .. } = &case;
+        match case.try_own() {
+            Ok(()) => tally.add(&case.title, Trial::of(sheet, *lent)),
+            Err(difference) => {
+                println!("# FAILED {difference}");
+                tally.failed += 1;
+            }
+        }
+    }
+    tally.close()
+}
+
+/// This interpreter needs its big stack; the other one gets the given one.
+fn all_deep(bytes: usize) -> u64 {
+    let mut failed = 0;
+    let sheets = deep::sheets();
+    let count = sheets.len() as u64;
+    for (title, sheet) in sheets {
+        let trial = Trial::of(&sheet, Lent::default());
+        let answer = on_big_stack(|| answer::run(&sheet, &Lent::default()));
+        println!("{title}: {}", cases::show(&answer));
+        if let Err(difference) = deep_verdict(bytes, trial, answer) {
+            println!("# FAILED {title}: {difference}");
+            failed += 1;
+        }
+    }
+    println!("{} passed, {failed} failed", count - failed);
+    failed
+}
+
+#[cfg(feature = "box")]
+fn deep_verdict(bytes: usize, trial: Trial, answer: Answer) -> Result<(), String> {
+    use second::compare::{compare, Stacked};
+    let other = Stacked {
+        bytes,
+        inner: box_ffi::Boxed,
+    };
+    on_big_stack(|| compare(&other, &trial, &answer))
+}
+
+#[cfg(not(feature = "box"))]
+fn deep_verdict(bytes: usize, trial: Trial, answer: Answer) -> Result<(), String> {
+    let again = second::on_stack(bytes, || answer::run(&trial.sheet, &trial.lent));
+    match again == answer {
+        true => Ok(()),
+        false => Err("another answer on another stack".to_string()),
+    }
+}

@@ -1,0 +1,159 @@
+//! Bytes to tokens.
+
+use crate::Refusal;
+
+pub const MOST_TOKENS: usize = 1024;
+const LARGEST: u64 = 2_147_483_647;
+
+/// Words that can never be names. `do`, `end` and `float` are among them
+/// although no rule of the grammar mentions them.
+pub const RESERVED: [&str; 18] = [
+    "def", "let", "in", "while", "do", "end", "if", "then", "else", "ref", "not", "int", "bool",
+    "true", "false", "unit", "tt", "float",
+];
+
+/// Longer marks stand before shorter ones, so the first hit is the longest.
+pub const MARKS: [&str; 18] = [
+    "&&", "||", "==", ":=", "+", "-", "*", "/", "<", "=", "!", ";", ",", ":", "(", ")", "{", "}",
+];
+
+#[derive(Clone, Debug, PartialEq)]
+pub enum Kind {
+    /// A reserved word or a mark: its spelling says all there is to say.
+    Fixed(&'static str),
+    Name(String),
+    Number(i32),
+}
+
+#[derive(Clone, Debug, PartialEq)]
+pub struct Token {
+    pub kind: Kind,
+    pub place: usize,
+}
+
+pub fn tokens(source: &[u8]) -> Result<Vec<Token>, Refusal> {
+    let mut found = Vec::new();
+    let mut at = 0;
+    while at < source.len() {
+        let rest = &source[at..];
+        if is_blank(rest[0]) {
+            at += 1;
+        } else if rest.starts_with(b"//") {
+            at += line_comment(rest);
+        } else if rest.starts_with(b"/*") {
+            at += nested_comment(rest).ok_or(Refusal::new(12, at))?;
+        } else {
+            // The token is read in full before it is counted: a number that
+            // is too large is told before there being one token too many.
+            let (kind, length) = token(rest).map_err(|number| Refusal::new(number, at))?;
+            if found.len() == MOST_TOKENS {
+                return Err(Refusal::new(14, at));
+            }
+            found.push(Token { kind, place: at });
+            at += length;
+        }
+    }
+    Ok(found)
+}
+
+fn is_blank(byte: u8) -> bool {
+    matches!(byte, b' ' | b'\t' | b'\r' | b'\n')
+}
+
+/// Length of the comment up to, not with, its LF: that LF is a blank anyway.
+fn line_comment(rest: &[u8]) -> usize {
+    rest.iter().position(|&b| b == b'\n').unwrap_or(rest.len())
+}
+
+/// Length of a nested comment, or nothing if it never closes. A mark uses up
+/// both its bytes; every other byte, a slash of `//` too, is passed singly.
+fn nested_comment(rest: &[u8]) -> Option<usize> {
+    let mut depth = 0;
+    let mut at = 0;
+    while at < rest.len() {
+        if rest[at..].starts_with(b"/*") {
+            depth += 1;
+            at += 2;
+        } else if rest[at..].starts_with(b"*/") {
+            depth -= 1;
+            at += 2;
+            if depth == 0 {
+                return Some(at);
+            }
+        } else {
+            at += 1;
+        }
+    }
+    None
+}
+
+/// The token at the start of `rest` with its length, or the refusal's number.
+fn token(rest: &[u8]) -> Result<(Kind, usize), u32> {
+    if rest[0].is_ascii_alphabetic() {
+        return Ok(word(rest));
+    }
+    if rest[0].is_ascii_digit() {
+        return number(rest);
+    }
+    let mark = MARKS.iter().find(|m| rest.starts_with(m.as_bytes()));
+    mark.map(|m| (Kind::Fixed(m), m.len())).ok_or(11)
+}
+
+fn word(rest: &[u8]) -> (Kind, usize) {
+    let length = run_of(rest, |b| b.is_ascii_alphanumeric() || b == b'_');
+    let spelling = String::from_utf8_lossy(&rest[..length]).into_owned();
+    match RESERVED.iter().find(|r| **r == spelling) {
+        Some(reserved) => (Kind::Fixed(reserved), length),
+        None => (Kind::Name(spelling), length),
+    }
+}
+
+fn number(rest: &[u8]) -> Result<(Kind, usize), u32> {
+    let length = run_of(rest, |b| b.is_ascii_digit());
+    let mut value = 0u64;
+    for digit in &rest[..length] {
+        value = value * 10 + u64::from(digit - b'0');
+        if value > LARGEST {
+            return Err(13);
+        }
+    }
+    Ok((Kind::Number(value as i32), length))
+}
+
+fn run_of(rest: &[u8], belongs: impl Fn(u8) -> bool) -> usize {
+    rest.iter().take_while(|b| belongs(**b)).count()
+}
+
+#[cfg(test)]
+mod tests {
+    use super::*;
+
+    fn spelled(source: &str) -> Vec<String> {
+        let show = |t: Token| match t.kind {
+            Kind::Fixed(f) => f.to_string(),
+            Kind::Name(n) => format!("name {n}"),
+            Kind::Number(n) => format!("number {n}"),
+        };
+        tokens(source.as_bytes())
+            .unwrap()
+            .into_iter()
+            .map(show)
+            .collect()
+    }
+
+    #[test]
+    fn the_longest_token_wins() {
+        assert_eq!(spelled("==="), ["==", "="]);
+        assert_eq!(spelled(":=="), [":=", "="]);
+        assert_eq!(spelled("iff if"), ["name iff", "if"]);
+        assert_eq!(spelled("1x_2"), ["number 1", "name x_2"]);
+        assert_eq!(spelled("*//"), ["*"]);
+    }
+
+    #[test]
+    fn comments_swallow_any_byte() {
+        assert_eq!(tokens(b"/*\xff\x00&*/").unwrap(), vec![]);
+        assert_eq!(tokens(b"//\xff").unwrap(), vec![]);
+        assert_eq!(tokens(b" /*//*/"), Err(Refusal::new(12, 1)));
+    }
+}

@@ -1,0 +1,151 @@
+//! One random trial: a sheet and what is lent for it.
+
+use crate::answer::{self, Lent, MOST_UNITS, TABLE_WORDS, WORK_WORDS};
+use crate::chance::Chance;
+use crate::{damage, rare, sheets};
+
+#[derive(Clone, Debug)]
+pub struct Trial {
+    pub sheet: Vec<u8>,
+    pub lent: Lent,
+    /// Words of the reports; a complete one has 3 for Check and 6 for Run.
+    pub check_report: usize,
+    pub run_report: usize,
+    /// Seeds what the lent memories hold beforehand.
+    pub fill: u64,
+}
+
+impl Trial {
+    /// A trial with complete reports, for sheets that were not drawn.
+    pub fn of(sheet: &[u8], lent: Lent) -> Trial {
+        Trial {
+            sheet: sheet.to_vec(),
+            lent,
+            check_report: 3,
+            run_report: 6,
+            fill: 1,
+        }
+    }
+}
+
+/// The trial of this number in the series of this seed.
+pub fn make(seed: u64, index: u64) -> Trial {
+    let mut chance = Chance::new(seed, index);
+    let sheet = make_sheet(&mut chance);
+    let lent = make_loans(&mut chance, &sheet);
+    let short = chance.one_in(300);
+    Trial {
+        sheet,
+        lent,
+        check_report: if short {
+            chance.below(3)
+        } else {
+            3 + chance.pick(&[0, 0, 0, 1, 4])
+        },
+        run_report: if short {
+            chance.below(6)
+        } else {
+            6 + chance.pick(&[0, 0, 0, 1, 4])
+        },
+        fill: chance.next_word(),
+    }
+}
+
+fn make_sheet(chance: &mut Chance) -> Vec<u8> {
+    let choice = chance.below(100);
+    if choice < 22 {
+        return damaged_at_times(chance);
+    }
+    if choice < 24 {
+        return damage::byte_soup(chance);
+    }
+    if choice < 28 {
+        let tokens = damage::soup(chance);
+        return damage::spell(chance, &tokens);
+    }
+    let fuel = chance.pick(&[2, 5, 10, 20, 40, 80]);
+    let mut tokens = sheets::program(chance, fuel);
+    if choice < 40 {
+        damage::damage_tokens(chance, &mut tokens);
+    }
+    let mut sheet = damage::spell(chance, &tokens);
+    if (40..50).contains(&choice) {
+        damage::damage_bytes(chance, &mut sheet);
+    }
+    sheet
+}
+
+/// A sheet close to a limit, left alone most of the time.
+fn damaged_at_times(chance: &mut Chance) -> Vec<u8> {
+    let mut sheet = rare::sheet(chance);
+    if chance.one_in(12) {
+        damage::damage_bytes(chance, &mut sheet);
+    }
+    sheet
+}
+
+fn make_loans(chance: &mut Chance, sheet: &[u8]) -> Lent {
+    let table = length(chance, TABLE_WORDS);
+    let work = length(chance, WORK_WORDS);
+    let output = match chance.below(5) {
+        0 => 0,
+        1 => chance.between(1, 4),
+        _ => chance.between(5, 300),
+    };
+    let lent = Lent {
+        table,
+        work,
+        output,
+        allowance: MOST_UNITS,
+    };
+    let allowance = match chance.below(30) {
+        0 => 0,
+        1 => 1,
+        2 | 3 => units(sheet, lent),
+        4 | 5 => units(sheet, lent).saturating_sub(1),
+        6 => chance.pick(&[MOST_UNITS + 1, u64::MAX, 1 << 32]),
+        7..=10 => chance.below(60) as u64,
+        11 | 12 => chance.below(20_000) as u64,
+        _ => MOST_UNITS,
+    };
+    Lent { allowance, ..lent }
+}
+
+/// Exactly enough units for this sheet, or all there are if none suffice.
+fn units(sheet: &[u8], lent: Lent) -> u64 {
+    answer::run(sheet, &lent).units
+}
+
+fn length(chance: &mut Chance, required: usize) -> usize {
+    match chance.below(60) {
+        0 => required - 1,
+        1 => chance.pick(&[0, 1, required / 2]),
+        2..=9 => required + chance.between(1, 40),
+        _ => required,
+    }
+}
+
+#[cfg(test)]
+mod tests {
+    use super::*;
+    use crate::on_big_stack;
+
+    /// The writer of programs must know the typing rules, or the trials would
+    /// seldom come to be run.
+    #[test]
+    fn undamaged_programs_have_a_type() {
+        let wrong = on_big_stack(|| {
+            let number = |index: u64| {
+                let mut chance = Chance::new(11, index);
+                let tokens = sheets::program(&mut chance, 40);
+                let sheet = damage::spell(&mut chance, &tokens);
+                answer::check(&sheet, TABLE_WORDS).number
+            };
+            (0..3000)
+                .map(number)
+                .filter(|n| ![0, 10, 14].contains(n))
+                .count()
+        });
+        assert_eq!(wrong, 0);
+    }
+}

@@ -1,0 +1,17 @@
+//! Every case file must hold.
+
+use second::cases::{folder, read_folder, Case};
+use second::on_big_stack;
+
+#[test]
+fn all_case_files_agree() {
+    let cases = read_folder(&folder()).unwrap_or_else(|problem| panic!("{problem}"));
+    assert!(cases.len() >= 320, "only {} cases", cases.len());
+    let wrong: Vec<String> = on_big_stack(|| {
+        cases
+            .iter()
+            .filter_map(|c| Case::try_own(c).err())
+            .collect()
+    });
+    assert!(wrong.is_empty(), "{}", wrong.join("\n"));
+}
