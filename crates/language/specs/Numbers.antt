@@ -13,13 +13,13 @@ pub data Row : Type 0 where
   types : Reason → Row
   stopped : Stop → Row
 
-unfoldable pub flaw-number : Flaw → ℕ
+abbrev pub flaw-number : Flaw → ℕ
 flaw-number strange-byte = 11
 flaw-number open-comment = 12
 flaw-number large-number = 13
 flaw-number many-tokens = 14
 
-unfoldable pub reason-number : Reason → ℕ
+abbrev pub reason-number : Reason → ℕ
 reason-number too-many-functions = 30
 reason-number too-many-parameters = 30
 reason-number function-twice = 31
@@ -36,7 +36,7 @@ reason-number branches-differ = 33
 reason-number wrong-body = 33
 reason-number too-many-refs = 34
 
-unfoldable pub stop-number : Stop → ℕ
+abbrev pub stop-number : Stop → ℕ
 stop-number no-unit = 50
 stop-number too-deep = 51
 stop-number out-of-range = 52
@@ -46,7 +46,7 @@ stop-number cells-full = 55
 stop-number not-a-byte = 56
 stop-number output-full = 57
 
-unfoldable pub number : Row → ℕ
+abbrev pub number : Row → ℕ
 number passed = 0
 number short-memory = 40
 number large-allowance = 41

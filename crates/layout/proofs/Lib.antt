@@ -8,3 +8,7 @@ pub mod Laid
 pub mod FewRows
 pub mod Held
 pub mod Wiped
+pub mod NameLaws
+pub mod TokenLaws
+pub mod VariablesWords
+pub mod VariablesTrees

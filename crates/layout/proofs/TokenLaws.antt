@@ -1,0 +1,177 @@
+-- Tokens in a table: what is written is read back, a name keeps its number when tokens follow, and a table laid with tokens
+-- stands for them.
+use borrow.Author.Tests.{eq-eqb, lt-ltb, le-ltb}
+use lib.Dec.{eqb, ltb}
+use lib.ListN.{length, getD, set, length-set, List·getD-eq-default}
+use lib.Seq.{getD-set-same, getD-set-other}
+use mathlib.Core.Bool.{Bool, true, false, cond}
+use mathlib.Core.List.{List, [], _∷_, _++_}
+use mathlib.Core.Logic.{⊎-elim, _⊎_, inl, inr}
+use mathlib.Core.Path.{_≡_, refl, sym, _∙_, ap}
+use native.Mathlib.Nat.{add-zero, zero-add}
+use native.Mathlib.Omega.{arith}
+use Prim.Native.Nat.{ℕ, zero, suc, _+_, _*_, _≤_, _<_}
+use Rattle.language.proofs.Text.Choices.{either}
+use Rattle.language.specs.Sizes.{TOKENS, TABLE}
+use Rattle.language.specs.Tokens.{Spelling, same, Token, past, kind-at, place-at}
+use Rattle.layout.specs.Names.{first-from, name-number, payload, lay-tokens, Stand}
+use Rattle.layout.specs.Table.{token-word, kind-of, put-token}
+
+-- a spelling is the same as itself
+pub same-self : (s : Spelling) → same s s ≡ true
+unfolding same
+same-self [] = refl
+same-self (b ∷ s) = rw (eq-eqb b b refl) (same-self s)
+
+-- ---- the numbers of names
+
+-- where the tokens ts have the spelling s at r and not before, or u behind them has it, r is its ordinal
+pub first-is : (n : ℕ) (ts : List Token) (u : Token) (s : Spelling) (r : ℕ) → r ≤ length ts
+    → ((i : ℕ) → i < r → same (getD ts i past .spelling) s ≡ false)
+    → (r < length ts → same (getD ts r past .spelling) s ≡ true)
+    → same (u .spelling) s ≡ true → first-from n (ts ++ (u ∷ [])) s ≡ n + r
+unfolding first-from
+first-is n [] u s zero h b e f = rw f (sym (add-zero n))
+first-is n [] u s (suc r) h b e f = absurd (omega arith)
+first-is n (t ∷ ts) u s zero h b e f = rw (e (omega arith)) (sym (add-zero n))
+first-is n (t ∷ ts) u s (suc r) h b e f =
+    let z = first-is (suc n) ts u s r (omega arith) (λ i l. b (suc i) (omega arith)) (λ l. e (omega arith)) f in
+    rw (b 0 (omega arith)) (z ∙ omega arith)
+
+first-append : (n : ℕ) (ts us : List Token) (s : Spelling) (i : ℕ) → i < length ts → same (getD ts i past .spelling) s ≡ true
+    → first-from n (ts ++ us) s ≡ first-from n ts s
+unfolding first-from
+first-append n [] us s i h e = absurd (omega arith)
+first-append n (t ∷ ts) us s zero h e = rw e
+first-append n (t ∷ ts) us s (suc i) h e =
+    ap (λ x. cond (same (t .spelling) s) n x) (first-append (suc n) ts us s i (omega arith) e)
+
+-- the fourth word of a token is the same when tokens follow
+pub payload-append : (ts us : List Token) (i : ℕ) → i < length ts → payload (ts ++ us) (getD ts i past) ≡ payload ts (getD ts i past)
+unfolding payload name-number
+payload-append ts us i h =
+    let s = getD ts i past .spelling in
+    rw (first-append 0 ts us s i h (same-self s))
+
+-- ---- tokens written one after the other
+
+lay-like : (ts us : List Token) (w : List ℕ) (n : ℕ) (vs : List Token)
+    → ((i : ℕ) → i < length vs → payload ts (getD vs i past) ≡ payload us (getD vs i past)) → lay-tokens ts w n vs ≡ lay-tokens us w n vs
+unfolding lay-tokens
+lay-like ts us w n [] f = refl
+lay-like ts us w n (v ∷ vs) f = rw (f 0 (omega arith)) (lay-like ts us _ (n + 1) vs (λ i h. f (suc i) (omega arith)))
+
+lay-append : (ts : List Token) (w : List ℕ) (n : ℕ) (us vs : List Token)
+    → lay-tokens ts w n (us ++ vs) ≡ lay-tokens ts (lay-tokens ts w n us) (n + length us) vs
+unfolding lay-tokens
+lay-append ts w n [] vs = rw (add-zero n)
+lay-append ts w n (u ∷ us) vs =
+    let z : n + suc (length us) ≡ n + 1 + length us = omega arith in
+    rw z (lay-append ts _ (n + 1) us vs)
+
+-- the table of one token more
+pub lay-more : (ts : List Token) (u : Token) (w : List ℕ)
+    → lay-tokens (ts ++ (u ∷ [])) w 0 (ts ++ (u ∷ []))
+    ≡ put-token (lay-tokens ts w 0 ts) (length ts) (u .kind) (u .place) (u .place + length (u .spelling)) (payload (ts ++ (u ∷ [])) u)
+unfolding lay-tokens
+lay-more ts u w =
+    let e : lay-tokens (ts ++ (u ∷ [])) w 0 ts ≡ lay-tokens ts w 0 ts = lay-like (ts ++ (u ∷ [])) ts w 0 ts (payload-append ts (u ∷ [])) in
+    lay-append (ts ++ (u ∷ [])) w 0 ts (u ∷ []) ∙ rw (e, zero-add (length ts))
+
+-- ---- tokens read back
+
+-- the four words of token i
+pub record Holds (w : List ℕ) (i kind place end value : ℕ) : Type 0 where
+  pub kinds : getD w (4 * i) 0 ≡ kind
+  pub places : token-word w i 1 ≡ place
+  pub ends : token-word w i 2 ≡ end
+  pub values : token-word w i 3 ≡ value
+
+module _ (w : List ℕ) (i a b c d : ℕ) where
+  put-length : length (put-token w i a b c d) ≡ length w
+  unfolding put-token
+  put-length = simp length-set
+
+  put-other : (j : ℕ) → j < 4 * i → getD (put-token w i a b c d) j 0 ≡ getD w j 0
+  unfolding put-token
+  put-other j h =
+      let w₁ = set w (4 * i) a in
+      let w₂ = set w₁ (4 * i + 1) b in
+      getD-set-other (set w₂ (4 * i + 2) c) (4 * i + 3) j d 0 (omega arith) ∙ getD-set-other w₂ (4 * i + 2) j c 0 (omega arith)
+      ∙ getD-set-other w₁ (4 * i + 1) j b 0 (omega arith) ∙ getD-set-other w (4 * i) j a 0 (omega arith)
+
+  put-holds : 4 * i + 4 ≤ length w → Holds (put-token w i a b c d) i a b c d
+  unfolding put-token
+  put-holds h =
+      let w₁ = set w (4 * i) a in
+      let w₂ = set w₁ (4 * i + 1) b in
+      let w₃ = set w₂ (4 * i + 2) c in
+      let l₁ : length w₁ ≡ length w = length-set w (4 * i) a in
+      let l₂ : length w₂ ≡ length w₁ = length-set w₁ (4 * i + 1) b in
+      let l₃ : length w₃ ≡ length w₂ = length-set w₂ (4 * i + 2) c in
+      record {
+        kinds =
+            getD-set-other w₃ (4 * i + 3) (4 * i) d 0 (omega arith) ∙ getD-set-other w₂ (4 * i + 2) (4 * i) c 0 (omega arith)
+            ∙ getD-set-other w₁ (4 * i + 1) (4 * i) b 0 (omega arith) ∙ getD-set-same w (4 * i) a 0 (omega arith);
+        places =
+            getD-set-other w₃ (4 * i + 3) (4 * i + 1) d 0 (omega arith) ∙ getD-set-other w₂ (4 * i + 2) (4 * i + 1) c 0 (omega arith)
+            ∙ getD-set-same w₁ (4 * i + 1) b 0 (omega arith);
+        ends = getD-set-other w₃ (4 * i + 3) (4 * i + 2) d 0 (omega arith) ∙ getD-set-same w₂ (4 * i + 2) c 0 (omega arith);
+        values = getD-set-same w₃ (4 * i + 3) d 0 (omega arith);
+      }
+
+module _ (ts : List Token) where
+  -- a table keeps its length
+  pub lay-length : (w : List ℕ) (n : ℕ) (us : List Token) → length (lay-tokens ts w n us) ≡ length w
+  unfolding lay-tokens
+  lay-length w n [] = refl
+  lay-length w n (u ∷ us) = lay-length _ (n + 1) us ∙ put-length w n _ _ _ _
+
+  lay-other : (w : List ℕ) (n : ℕ) (us : List Token) (j : ℕ) → j < 4 * n → getD (lay-tokens ts w n us) j 0 ≡ getD w j 0
+  unfolding lay-tokens
+  lay-other w n [] j h = refl
+  lay-other w n (u ∷ us) j h = lay-other _ (n + 1) us j (omega arith) ∙ put-other w n _ _ _ _ j h
+
+  -- the four words of the token u, one of ts
+  abbrev pub Token-in : List ℕ → ℕ → Token → Type 0
+  Token-in w i u = Holds w i (u .kind) (u .place) (u .place + length (u .spelling)) (payload ts u)
+
+  lay-keeps : (w : List ℕ) (n : ℕ) (us : List Token) (u : Token) → Token-in w n u → Token-in (lay-tokens ts w (n + 1) us) n u
+  lay-keeps w n us u h =
+      record {
+        kinds = lay-other w (n + 1) us (4 * n) (omega arith) ∙ h .kinds;
+        places = lay-other w (n + 1) us (4 * n + 1) (omega arith) ∙ h .places;
+        ends = lay-other w (n + 1) us (4 * n + 2) (omega arith) ∙ h .ends;
+        values = lay-other w (n + 1) us (4 * n + 3) (omega arith) ∙ h .values;
+      }
+
+  lay-from : (w : List ℕ) (n : ℕ) (us : List Token) → 4 * (n + length us) ≤ length w
+      → (i : ℕ) → i < length us → Token-in (lay-tokens ts w n us) (n + i) (getD us i past)
+  unfolding lay-tokens
+  lay-from w n [] l i h = absurd (omega arith)
+  lay-from w n (u ∷ us) l zero h = rw (add-zero n) (lay-keeps _ n us u (put-holds w n _ _ _ _ (omega arith)))
+  lay-from w n (u ∷ us) l (suc i) h =
+      let z : n + suc i ≡ n + 1 + i = omega arith in
+      let x = put-length w n (u .kind) (u .place) (u .place + length (u .spelling)) (payload ts u) in
+      rw z (lay-from _ (n + 1) us (omega arith) i (omega arith))
+
+-- each token is read back
+pub lay-holds : (ts : List Token) (w : List ℕ) → 4 * length ts ≤ length w
+    → (i : ℕ) → i < length ts → Token-in ts (lay-tokens ts w 0 ts) i (getD ts i past)
+lay-holds ts w l i h = rw zero-add at (lay-from ts w 0 ts (omega arith) i h)
+
+-- a table laid with tokens stands for them
+pub lay-stands : (ts : List Token) (w : List ℕ) → length ts ≤ TOKENS → TABLE ≤ length w → Stand (lay-tokens ts w 0 ts) (length ts) ts
+unfolding kind-at place-at kind-of
+lay-stands ts w h l =
+    let holds = lay-holds ts w (omega arith) in
+    record {
+      long = refl;
+      few = h;
+      kinds = λ i.
+          ⊎-elim (λ x. rw (lt-ltb i (length ts) x) (sym (holds i x .kinds)))
+          (λ x. rw (le-ltb i (length ts) x) (ap (λ u. u .kind) (List·getD-eq-default ts past x)))
+          (either i (length ts));
+      values = λ i x. holds i x .values;
+      places = λ i x. holds i x .places;
+    }
