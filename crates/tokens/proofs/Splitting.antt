@@ -1,0 +1,93 @@
+-- What the loop of `split` keeps: the tokens that are reached lie in the table.
+use lib.ListN.{length, length-append}
+use lib.Seq.{slice}
+use mathlib.Core.List.{List, [], _∷_, _++_}
+use mathlib.Core.Path.{_≡_, refl, sym, _∙_, ap, subst, subst₂}
+use native.Mathlib.Omega.{arith}
+use Prim.Native.Nat.{ℕ, _+_, _*_, _≤_, _<_}
+use Rattle.language.proofs.Text.OnePiece.{form-bounds}
+use Rattle.language.specs.Sizes.{SOURCE, TOKENS, TABLE, LARGEST}
+use Rattle.language.specs.Text as Text
+use Rattle.language.specs.Text.{Piece, Reaches, Wrong, token-of}
+use Rattle.language.specs.Text.Content.{space, token}
+use Rattle.language.specs.Text.Reaches.{start, skip, next}
+use Rattle.language.specs.Tokens.{Token}
+use Rattle.layout.proofs.TokenLaws.{lay-length, lay-more}
+use Rattle.layout.specs.Names.{lay-tokens, payload}
+use Rattle.layout.specs.Table.{put-token}
+use Rattle.tokens.proofs.Written.{table-spans, payload-found, token-end}
+use Rattle.tokens.specs.Answer.{Laid, Whole, Broken}
+use Rattle.tokens.specs.Found.{Spans, Payload}
+
+-- the split comes as far as p with n tokens, which lie in the table: w₀ before, w now
+pub record Reached (t w₀ w : List ℕ) (p n : ℕ) : Type 0 where
+  pub tokens : List Token
+  pub reaches : Reaches t p tokens
+  pub count : n ≡ length tokens
+  pub few : n ≤ TOKENS
+  pub laid : Laid tokens w₀ w
+
+-- at first no token is reached
+pub reached-none : (t w : List ℕ) → Reached t w w 0 0
+unfolding lay-tokens
+reached-none t w = record { tokens = []; reaches = start; count = refl; few = omega arith; laid = refl }
+
+module _ {t w₀ w : List ℕ} {p n : ℕ} (r : Reached t w₀ w p n) where
+  -- the table keeps its length
+  pub reached-length : length w ≡ length w₀
+  reached-length = ap length (r .laid) ∙ lay-length (r .tokens) w₀ 0 (r .tokens)
+
+  -- a piece that is no token is passed over
+  pub reached-skip : {q : ℕ} → Piece t p q space → Reached t w₀ w q n
+  reached-skip x = record { tokens = r .tokens; reaches = skip (r .reaches) x; count = r .count; few = r .few; laid = r .laid }
+
+  -- the flaw at p stops the split
+  pub reached-broken : (f : Text.Flaw) → length t ≤ SOURCE → ((ts : List Token) → n ≡ length ts → Wrong t p ts f)
+      → Broken t w₀ w f p
+  reached-broken f l x =
+      record {
+        short = l;
+        flawed =
+            record { tokens = r .tokens; before = r .reaches; few = omega (arith, r .count, r .few); here = x (r .tokens) (r .count) };
+        laid = r .laid;
+      }
+
+  -- the end of the text ends it
+  pub reached-whole : length t ≤ SOURCE → p ≡ length t → Whole t w₀ w n
+  reached-whole l e =
+      record {
+        short = l;
+        tokens = r .tokens;
+        splits = record { whole = subst (λ q. Reaches t q (r .tokens)) e (r .reaches); few = omega (arith, r .count, r .few) };
+        count = r .count;
+        laid = r .laid;
+      }
+
+  module _ (room : TABLE ≤ length w₀) where
+    fits : 4 * length (r .tokens) ≤ length w₀
+    fits = omega (arith, r .count, r .few)
+
+    -- the bytes of each token in the table lie in the text
+    pub reached-spans : Spans t w n
+    reached-spans =
+        subst₂ (λ v m. Spans t v m) (sym (r .laid)) (sym (r .count)) (table-spans t w₀ (r .tokens) (r .reaches) fits)
+
+    -- a token is written behind the others
+    pub reached-next : {q k v m : ℕ} {w′ : List ℕ} → n < TOKENS → Piece t p q (token k v) → v ≤ LARGEST
+        → Payload t w n k (slice p q t) v m → w′ ≡ put-token w n k p q m → Reached t w₀ w′ q (n + 1)
+    reached-next {q} {k} {v} {m} l x h y z =
+        let ts = r .tokens in
+        let u = token-of t p q k v in
+        let b = form-bounds t p q (token k v) (x .form) in
+        let c = r .count in
+        let d = r .laid in
+        let e : p + length (slice p q t) ≡ q = token-end t p q (omega (arith, b .0)) (b .1) in
+        let y′ = subst₂ (λ a i. Payload t a i k (slice p q t) v m) d c y in
+        let f : payload (ts ++ (u ∷ [])) u ≡ m = payload-found t w₀ ts (r .reaches) fits p q k v m (x .form) y′ in
+        record {
+          tokens = ts ++ (u ∷ []);
+          reaches = next (r .reaches) x h refl;
+          count = simp length-append (omega arith);
+          few = omega arith;
+          laid = z ∙ sym (lay-more ts u w₀ ∙ rw (e, f, ← c, ← d));
+        }

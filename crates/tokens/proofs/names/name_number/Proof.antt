@@ -1,0 +1,45 @@
+-- `name_number` gives `putchar` a number of its own, and any other name the ordinal of its first token.
+use borrow.Author.Needs.{needs}
+use lib.Seq.{slice}
+use mathlib.Core.Path.{refl, sym, _∙_}
+use native.Mathlib.Omega.{arith}
+use Rattle.language.proofs.Text.Choices.{clash}
+use Rattle.language.specs.Trees.{PUTCHAR}
+use Rattle.tokens.proofs.Compared.{same-swap}
+use Rattle.tokens.proofs.names.name_number.Statement.{statement}
+use Rattle.tokens.proofs.names.name_number.Tie as tie
+
+slice-aggregate-spells : tie.Need-slice-aggregate-spells
+slice-aggregate-spells c = search needs
+
+spells-requires : tie.Need-spells-requires
+spells-requires c κs = (c .before .before .before .pre .order, c .before .before .before .pre .inside)
+
+returns : tie.Need-returns
+returns c =
+    let a = c .before .before .before .before .before .args in
+    let e = same-swap (slice (a .p) (a .q) (a .source .now)) PUTCHAR ∙ sym (c .before .spells .ensures) ∙ c .if1 .taken in
+    record { putchar = λ x. refl; first = λ x. absurd (clash e x) }
+
+first-alike-requires : tie.Need-first-alike-requires
+first-alike-requires c κs = c .before .before .before .before .before .pre
+
+cast-result : tie.Need-cast-result
+cast-result c = omega (arith, c .first-alike .ensures .within, c .before .before .before .before .before .before .pre .few)
+
+returns-2 : tie.Need-returns-2
+returns-2 c =
+    let a = c .before .before .before .before .before .before .args in
+    let e = same-swap (slice (a .p) (a .q) (a .source .now)) PUTCHAR ∙ sym (c .before .before .spells .ensures) ∙ c .before .if1 .left in
+    record { putchar = λ x. absurd (clash x e); first = λ x. c .first-alike .ensures }
+
+pub name-number-spec : {M : Type 1} → statement M
+name-number-spec =
+    tie.close
+    (tie.spec
+    slice-aggregate-spells
+    spells-requires
+    returns
+    first-alike-requires
+    cast-result
+    returns-2)

@@ -1,0 +1,51 @@
+-- What the answer of `split` says, and what it leaves in the table.
+use lib.ListN.{length}
+use mathlib.Core.List.{List}
+use mathlib.Core.Path.{_≡_}
+use Prim.Native.Nat.{ℕ, _≤_, _<_}
+use Rattle.language.specs.Sizes.{SOURCE}
+use Rattle.language.specs.Text as Text
+use Rattle.language.specs.Text.{Splits, Flawed}
+use Rattle.language.specs.Text.Flaw.{strange-byte, open-comment, large-number, many-tokens}
+use Rattle.language.specs.Tokens as Tokens
+use Rattle.layout.specs.Names.{lay-tokens}
+use Rattle.tokens.specs.declared.answer.Flaw as flaw
+use Rattle.tokens.specs.declared.answer.Flaw.the-variants.{StrangeByte, OpenComment, LargeNumber, ManyTokens}
+use Rattle.tokens.specs.declared.answer.Split as split
+use Rattle.tokens.specs.declared.answer.Split.the-variants.{Tokens, Stopped, TooLong}
+
+-- the flaw of the language that the code's flaw is
+abbrev pub meant : flaw.Flaw → Text.Flaw
+meant StrangeByte = strange-byte
+meant OpenComment = open-comment
+meant LargeNumber = large-number
+meant ManyTokens = many-tokens
+
+-- the table w with the tokens ts is v
+abbrev pub Laid : List Tokens.Token → List ℕ → List ℕ → Type 0
+Laid ts w v = v ≡ lay-tokens ts w 0 ts
+
+-- the text t splits into n tokens, which lie in the table
+pub record Whole (t w v : List ℕ) (n : ℕ) : Type 0 where
+  pub short : length t ≤ SOURCE
+  pub tokens : List Tokens.Token
+  pub splits : Splits t tokens
+  pub count : n ≡ length tokens
+  pub laid : Laid tokens w v
+
+-- this flaw stands at p, and the tokens before it lie in the table
+pub record Broken (t w v : List ℕ) (f : Text.Flaw) (p : ℕ) : Type 0 where
+  pub short : length t ≤ SOURCE
+  pub flawed : Flawed t f p
+  pub laid : Laid (flawed .tokens) w v
+
+-- the text is too long, and the table is as it was
+pub record Long (t w v : List ℕ) : Type 0 where
+  pub long : SOURCE < length t
+  pub kept : v ≡ w
+
+-- of the text t and the table w before, w′ after
+abbrev pub IsSplit : List ℕ → List ℕ → List ℕ → split.Split → Type 0
+IsSplit t w v (Tokens n) = Whole t w v n
+IsSplit t w v (Stopped f p) = Broken t w v (meant f) p
+IsSplit t w v TooLong = Long t w v

@@ -1,0 +1,127 @@
+// Bytes of a text: how one is read, and the classes that tell what may begin at a place.
+ghost use mathlib.Core.Path.{_≡_};
+ghost use Prim.Native.Nat.{_≤_};
+ghost use lib.ListN.{length};
+ghost use Rattle.language.specs.Text as Text;
+ghost use Rattle.language.specs.Text.{is-blank, is-letter, is-digit, is-name-byte, is-in-line};
+ghost use Rattle.language.proofs.Text.Runs.{Run};
+ghost use Rattle.language.proofs.Text.Spellings.{stands};
+
+// The byte at a place, 0 past the end. Every other function reads the text through this one, so a text
+// that lies in several parts changes nothing else.
+pub fn byte(source: &[u8], at: usize) -> u8
+    ensures { λ r. ⌜ r ≡ Text.byte (now (source .entry)) at ⌝ }
+{
+    if at < source.len() { source[at] } else { 0 }
+}
+
+pub fn is_letter(b: u8) -> bool
+    ensures { λ r. ⌜ r ≡ is-letter b ⌝ }
+{
+    if b < b'A' {
+        return false;
+    }
+    if b <= b'Z' {
+        return true;
+    }
+    if b < b'a' {
+        return false;
+    }
+    b <= b'z'
+}
+
+pub fn is_digit(b: u8) -> bool
+    ensures { λ r. ⌜ r ≡ is-digit b ⌝ }
+{
+    if b < b'0' {
+        return false;
+    }
+    b <= b'9'
+}
+
+pub fn is_name_byte(b: u8) -> bool
+    ensures { λ r. ⌜ r ≡ is-name-byte b ⌝ }
+{
+    if is_letter(b) {
+        return true;
+    }
+    if is_digit(b) {
+        return true;
+    }
+    b == b'_'
+}
+
+pub fn is_blank(b: u8) -> bool
+    ensures { λ r. ⌜ r ≡ is-blank b ⌝ }
+{
+    if b == b' ' {
+        return true;
+    }
+    if b == b'\t' {
+        return true;
+    }
+    if b == b'\r' {
+        return true;
+    }
+    b == b'\n'
+}
+
+// Where the run of name bytes from a place on ends.
+pub fn name_end(source: &[u8], at: usize) -> usize
+    requires { ⌜ at ≤ length (now source) ⌝ }
+    ensures { λ r. ⌜ Run is-name-byte (now (source .entry)) at r ⌝ }
+{
+    let mut i = at;
+    while i < source.len() {
+        if !is_name_byte(byte(source, i)) {
+            return i;
+        }
+        i += 1;
+    }
+    i
+}
+
+// Where the run of digits from a place on ends.
+pub fn digits_end(source: &[u8], at: usize) -> usize
+    requires { ⌜ at ≤ length (now source) ⌝ }
+    ensures { λ r. ⌜ Run is-digit (now (source .entry)) at r ⌝ }
+{
+    let mut i = at;
+    while i < source.len() {
+        if !is_digit(byte(source, i)) {
+            return i;
+        }
+        i += 1;
+    }
+    i
+}
+
+// Where the line that goes on at a place ends: at its LF, which is not among its bytes, or with the text.
+pub fn line_end(source: &[u8], at: usize) -> usize
+    requires { ⌜ at ≤ length (now source) ⌝ }
+    ensures { λ r. ⌜ Run is-in-line (now (source .entry)) at r ⌝ }
+{
+    let mut i = at;
+    while i < source.len() {
+        if byte(source, i) == b'\n' {
+            return i;
+        }
+        i += 1;
+    }
+    i
+}
+
+// Do these bytes stand at a place?
+pub fn stands_at(source: &[u8], at: usize, bytes: &[u8]) -> bool
+    requires { ⌜ at ≤ length (now source) ⌝ }
+    ensures { λ r. ⌜ r ≡ stands (now (source .entry)) at (now (bytes .entry)) ⌝ }
+{
+    let mut i = 0;
+    while i < bytes.len() {
+        if byte(source, at + i) != bytes[i] {
+            return false;
+        }
+        i += 1;
+    }
+    true
+}

@@ -1,0 +1,62 @@
+// What stands at a place of a text.
+ghost use Prim.Native.Nat.{_<_};
+ghost use lib.ListN.{length};
+ghost use Rattle.tokens.specs.Found.{IsPiece};
+use crate::bytes::byte;
+use crate::bytes::is_blank;
+use crate::bytes::is_digit;
+use crate::bytes::is_letter;
+use crate::bytes::line_end;
+use crate::bytes::name_end;
+use crate::bytes::stands_at;
+use crate::comments::Close;
+use crate::comments::comment_end;
+use crate::marks::Mark;
+use crate::marks::mark_at;
+use crate::numbers::Worth;
+use crate::numbers::number;
+use crate::words::word;
+use language::kinds;
+
+pub enum Piece {
+    // A blank or a comment, up to this place.
+    Space(usize),
+    // A token: its kind, its end, and of a number its value, else 0.
+    Token(u32, usize, u32),
+    OpenComment,
+    LargeNumber,
+    Nothing,
+}
+
+pub fn piece_at(source: &[u8], at: usize) -> Piece
+    requires { ⌜ at < length (now source) ⌝ }
+    ensures { λ r. ⌜ IsPiece (now (source .entry)) at r ⌝ }
+{
+    let first = byte(source, at);
+    if is_blank(first) {
+        return Piece::Space(at + 1);
+    }
+    if is_letter(first) {
+        let end = name_end(source, at);
+        return Piece::Token(word(source, at, end), end, 0);
+    }
+    if is_digit(first) {
+        return match number(source, at) {
+            Worth::Is(end, value) => Piece::Token(kinds::NUMBER, end, value),
+            Worth::TooLarge => Piece::LargeNumber,
+        };
+    }
+    if stands_at(source, at, b"//") {
+        return Piece::Space(line_end(source, at + 2));
+    }
+    if stands_at(source, at, b"/*") {
+        return match comment_end(source, at) {
+            Close::At(end) => Piece::Space(end),
+            Close::Never => Piece::OpenComment,
+        };
+    }
+    match mark_at(source, at) {
+        Mark::Is(kind, size) => Piece::Token(kind, at + size, 0),
+        Mark::None => Piece::Nothing,
+    }
+}
