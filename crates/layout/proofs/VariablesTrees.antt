@@ -86,7 +86,7 @@ right-inside (suc f) ts w i r = r .inside
 
 argument-alike : (v w : List ℕ) (f : ℕ) (ts : List Token) (i : ℕ) → Dec (i ≡ 0)
     → ((i ≡ 0 → ⊥) → more (tree-at f ts v (row-word v i 2)) (args-at f ts v (row-word v i 3))
-      ≡ more (tree-at f ts w (row-word w i 2)) (args-at f ts w (row-word w i 3)))
+    ≡ more (tree-at f ts w (row-word w i 2)) (args-at f ts w (row-word w i 3)))
     → args-at (suc f) ts v i ≡ args-at (suc f) ts w i
 unfolding args-at
 argument-alike v w f ts i (yes e) h = rw (eq-eqb i 0 e) refl
