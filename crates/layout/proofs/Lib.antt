@@ -7,6 +7,7 @@ pub mod Holding
 pub mod Laid
 pub mod FewRows
 pub mod Held
+pub mod NodesInRows
 pub mod Wiped
 pub mod NameLaws
 pub mod TokenLaws

@@ -1,12 +1,11 @@
 -- Tokens in a table: what is written is read back, a name keeps its number when tokens follow, and a table laid with tokens
 -- stands for them.
 use borrow.Author.Tests.{eq-eqb, lt-ltb, le-ltb}
-use lib.Dec.{eqb, ltb}
 use lib.ListN.{length, getD, set, length-set, List·getD-eq-default}
 use lib.Seq.{getD-set-same, getD-set-other}
-use mathlib.Core.Bool.{Bool, true, false, cond}
+use mathlib.Core.Bool.{true, false, cond}
 use mathlib.Core.List.{List, [], _∷_, _++_}
-use mathlib.Core.Logic.{⊎-elim, _⊎_, inl, inr}
+use mathlib.Core.Logic.{⊎-elim}
 use mathlib.Core.Path.{_≡_, refl, sym, _∙_, ap}
 use native.Mathlib.Nat.{add-zero, zero-add}
 use native.Mathlib.Omega.{arith}
@@ -47,7 +46,8 @@ first-append n (t ∷ ts) us s (suc i) h e =
     ap (λ x. cond (same (t .spelling) s) n x) (first-append (suc n) ts us s i (omega arith) e)
 
 -- the fourth word of a token is the same when tokens follow
-pub payload-append : (ts us : List Token) (i : ℕ) → i < length ts → payload (ts ++ us) (getD ts i past) ≡ payload ts (getD ts i past)
+pub payload-append : (ts us : List Token) (i : ℕ) → i < length ts
+    → payload (ts ++ us) (getD ts i past) ≡ payload ts (getD ts i past)
 unfolding payload name-number
 payload-append ts us i h =
     let s = getD ts i past .spelling in
@@ -56,7 +56,8 @@ payload-append ts us i h =
 -- ---- tokens written one after the other
 
 lay-like : (ts us : List Token) (w : List ℕ) (n : ℕ) (vs : List Token)
-    → ((i : ℕ) → i < length vs → payload ts (getD vs i past) ≡ payload us (getD vs i past)) → lay-tokens ts w n vs ≡ lay-tokens us w n vs
+    → ((i : ℕ) → i < length vs → payload ts (getD vs i past) ≡ payload us (getD vs i past))
+    → lay-tokens ts w n vs ≡ lay-tokens us w n vs
 unfolding lay-tokens
 lay-like ts us w n [] f = refl
 lay-like ts us w n (v ∷ vs) f = rw (f 0 (omega arith)) (lay-like ts us _ (n + 1) vs (λ i h. f (suc i) (omega arith)))
@@ -75,8 +76,9 @@ pub lay-more : (ts : List Token) (u : Token) (w : List ℕ)
     ≡ put-token (lay-tokens ts w 0 ts) (length ts) (u .kind) (u .place) (u .place + length (u .spelling)) (payload (ts ++ (u ∷ [])) u)
 unfolding lay-tokens
 lay-more ts u w =
-    let e : lay-tokens (ts ++ (u ∷ [])) w 0 ts ≡ lay-tokens ts w 0 ts = lay-like (ts ++ (u ∷ [])) ts w 0 ts (payload-append ts (u ∷ [])) in
-    lay-append (ts ++ (u ∷ [])) w 0 ts (u ∷ []) ∙ rw (e, zero-add (length ts))
+    let us = ts ++ (u ∷ []) in
+    let e : lay-tokens us w 0 ts ≡ lay-tokens ts w 0 ts = lay-like us ts w 0 ts (payload-append ts (u ∷ [])) in
+    lay-append us w 0 ts (u ∷ []) ∙ rw (e, zero-add (length ts))
 
 -- ---- tokens read back
 
@@ -161,7 +163,8 @@ pub lay-holds : (ts : List Token) (w : List ℕ) → 4 * length ts ≤ length w
 lay-holds ts w l i h = rw zero-add at (lay-from ts w 0 ts (omega arith) i h)
 
 -- a table laid with tokens stands for them
-pub lay-stands : (ts : List Token) (w : List ℕ) → length ts ≤ TOKENS → TABLE ≤ length w → Stand (lay-tokens ts w 0 ts) (length ts) ts
+pub lay-stands : (ts : List Token) (w : List ℕ) → length ts ≤ TOKENS → TABLE ≤ length w
+    → Stand (lay-tokens ts w 0 ts) (length ts) ts
 unfolding kind-at place-at kind-of
 lay-stands ts w h l =
     let holds = lay-holds ts w (omega arith) in

@@ -44,7 +44,7 @@ pub record Long (t w v : List ℕ) : Type 0 where
   pub long : SOURCE < length t
   pub kept : v ≡ w
 
--- of the text t and the table w before, w′ after
+-- what the answer says of the text t, the table w before and the table v after
 abbrev pub IsSplit : List ℕ → List ℕ → List ℕ → split.Split → Type 0
 IsSplit t w v (Tokens n) = Whole t w v n
 IsSplit t w v (Stopped f p) = Broken t w v (meant f) p

@@ -42,6 +42,8 @@ fn payload(
     value
 }
 
+// Splits the source into tokens and writes them into the table, as far as the first flaw. All other
+// words of the table stay as they were.
 pub fn split(source: &[u8], table: &mut [u32]) -> Split
     requires { ⌜ TABLE ≤ length (now table) ⌝ }
     ensures { λ r. ⌜ IsSplit (now (source .entry)) (now (table .entry)) (now (table .exit)) r ⌝ }

@@ -56,7 +56,7 @@ pub fn mark_at(source: &[u8], at: usize) -> Mark
     punctuation(source, at)
 }
 
-// The same, where none of the marks above stands.
+// The same where none of the marks above stands: punctuation is left.
 fn punctuation(source: &[u8], at: usize) -> Mark
     requires { ⌜ (at < length (now source)) × Begins (now source) at others × Missed longer-first (now source) at 11 ⌝ }
     ensures { λ r. ⌜ IsMark (now (source .entry)) at r ⌝ }

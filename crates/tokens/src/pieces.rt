@@ -28,6 +28,7 @@ pub enum Piece {
     Nothing,
 }
 
+// The longest piece at a place. What begins there is settled by its first two bytes.
 pub fn piece_at(source: &[u8], at: usize) -> Piece
     requires { ⌜ at < length (now source) ⌝ }
     ensures { λ r. ⌜ IsPiece (now (source .entry)) at r ⌝ }

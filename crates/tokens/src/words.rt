@@ -50,7 +50,7 @@ pub fn word(source: &[u8], p: usize, q: usize) -> u32
     type_word(source, p, q)
 }
 
-// The same, where the name is none of the words above.
+// The same for a name that is none of the words above: the words of types and constants are left.
 fn type_word(source: &[u8], p: usize, q: usize) -> u32
     requires { ⌜ (p ≤ q) × (q ≤ length (now source)) × Past words 11 (slice p q (now source)) ⌝ }
     ensures { λ r. ⌜ r ≡ word-kind (slice p q (now (source .entry))) ⌝ }

@@ -1,0 +1,90 @@
+-- A search from the last to the first, step by step.
+use mathlib.Core.Bool.{Bool, true, false, cond}
+use mathlib.Core.List.{List, [], _∷_}
+use mathlib.Core.Option.{Option, none, some}
+use mathlib.Core.Path.{_≡_, refl, sym, ap, subst, _∙_}
+use Prim.Native.Nat.{ℕ, zero, suc, _+_, _≤_, _<_}
+use native.Mathlib.Omega.{arith}
+use lib.Dec.{eqb}
+use borrow.Author.Tests.{eq-eqb, ne-eqb, lt-ltb, le-ltb}
+use Rattle.language.specs.Sizes.{TOKENS, NODES}
+use Rattle.language.specs.Trees.{int}
+use Rattle.language.specs.Meaning.{type-number}
+use Rattle.layout.specs.Table.{token-word, row-word, function-row, variable-name, variable-kind}
+use Rattle.checker.specs.Sight.{find-variable, found, Headed, function-name, callee-in, Rowed, wanted-in}
+use Rattle.checker.specs.Judged.{looked}
+use Rattle.checker.specs.declared.Reason.the-variants.{NoBinding}
+use Rattle.checker.specs.declared.Typing.the-variants as Typing
+use Rattle.checker.specs.declared.sight.Found.{Found}
+use Rattle.checker.specs.declared.sight.Found.the-variants as Found
+use Rattle.checker.specs.declared.sight.Callee.{Callee}
+use Rattle.checker.specs.declared.sight.Callee.the-variants as Callee
+
+module _ (w : List ℕ) (x : ℕ) {i k : ℕ} (last : i ≡ suc k) where
+  -- the last variable is the one, or it is one of those before
+  pub variable-here : variable-name w k ≡ x → find-variable w x i ≡ some (variable-kind w k)
+  unfolding find-variable
+  variable-here e = rw (last, eq-eqb _ _ (sym e)) refl
+
+  pub variable-past : (variable-name w k ≡ x → ⊥) → find-variable w x i ≡ find-variable w x k
+  unfolding find-variable
+  variable-past h = rw (last, ne-eqb _ _ (λ e. h (sym e))) refl
+
+  -- and so with functions
+  pub callee-here : function-name w k ≡ x → callee-in w x i ≡ Callee.Function (function-row w k)
+  unfolding callee-in
+  callee-here e = rw (last, eq-eqb _ _ (sym e)) refl
+
+  pub callee-past : (function-name w k ≡ x → ⊥) → callee-in w x i ≡ callee-in w x k
+  unfolding callee-in
+  callee-past h = rw (last, ne-eqb _ _ (λ e. h (sym e))) refl
+
+module _ (w : List ℕ) (x : ℕ) {i : ℕ} (over : i ≡ 0) where
+  pub variable-none : find-variable w x i ≡ none
+  unfolding find-variable
+  variable-none = rw over refl
+
+  pub callee-putchar : x ≡ TOKENS → callee-in w x i ≡ Callee.Putchar
+  unfolding callee-in
+  callee-putchar e = rw (over, eq-eqb _ _ e) refl
+
+  pub callee-nobody : (x ≡ TOKENS → ⊥) → callee-in w x i ≡ Callee.Nobody
+  unfolding callee-in
+  callee-nobody h = rw (over, ne-eqb _ _ h) refl
+
+-- the token behind a function's `def` is one of the tokens
+pub name-inside : (w : List ℕ) {k row def : ℕ} → Headed w k → row ≡ function-row w k → def ≡ row-word w row 1 → def + 1 < TOKENS
+name-inside w h e d = let p = d ∙ ap (λ (i : ℕ). row-word w i 1) e in omega (arith, h .name)
+
+-- ---- a callee, by its case
+
+pub rowed-function : (w : List ℕ) {c : Callee} {r : ℕ} → c ≡ Callee.Function r → Rowed w c → r + row-word w r 2 < NODES
+rowed-function w e h = subst (λ (c : Callee). Rowed w c) e h
+
+module _ (w : List ℕ) {c : Callee} where
+  pub wanted-inside : {r k : ℕ} → c ≡ Callee.Function r → k < row-word w r 2 → wanted-in w c k ≡ row-word w (r + k + 1) 2
+  wanted-inside {k = k} e h = ap (λ (c : Callee). wanted-in w c k) e ∙ rw (lt-ltb _ _ h) refl
+
+  pub wanted-outside : {r k : ℕ} → c ≡ Callee.Function r → row-word w r 2 ≤ k → wanted-in w c k ≡ 0
+  wanted-outside {k = k} e h = ap (λ (c : Callee). wanted-in w c k) e ∙ rw (le-ltb _ _ h) refl
+
+  pub wanted-first : {k : ℕ} → c ≡ Callee.Putchar → k ≡ 0 → wanted-in w c k ≡ type-number int
+  wanted-first {k} e h = ap (λ (c : Callee). wanted-in w c k) e ∙ rw (eq-eqb _ _ h) refl
+
+  pub wanted-later : {k : ℕ} → c ≡ Callee.Putchar → (k ≡ 0 → ⊥) → wanted-in w c k ≡ 0
+  wanted-later {k} e h = ap (λ (c : Callee). wanted-in w c k) e ∙ rw (ne-eqb _ _ h) refl
+
+-- ---- a name, by what was found
+
+module _ (w : List ℕ) (node binds : ℕ) {token number : ℕ} (q : Found) (e : token ≡ row-word w node 1) (d : number ≡ token-word w token 3)
+    (h : found q ≡ find-variable w number binds) where
+  name-search : find-variable w (token-word w (row-word w node 1) 3) binds ≡ found q
+  name-search = ap (λ (x : ℕ). find-variable w x binds) (ap (λ (i : ℕ). token-word w i 3) (sym e) ∙ sym d) ∙ sym h
+
+  pub name-found : {t : ℕ} → q ≡ Found.Is t
+      → Typing.«Type» t ≡ looked (find-variable w (token-word w (row-word w node 1) 3) binds) (row-word w node 1)
+  name-found k = sym (ap (λ o. looked o (row-word w node 1)) (name-search ∙ ap found k))
+
+  pub name-nowhere : {i : ℕ} → i ≡ row-word w node 1 → q ≡ Found.Nowhere
+      → Typing.Fault NoBinding i ≡ looked (find-variable w (token-word w (row-word w node 1) 3) binds) (row-word w node 1)
+  name-nowhere a k = ap (λ (i : ℕ). Typing.Fault NoBinding i) a ∙ sym (ap (λ o. looked o (row-word w node 1)) (name-search ∙ ap found k))

@@ -1,0 +1,20 @@
+use borrow.Author.Needs.{needs}
+use mathlib.Core.Path.{_∙_}
+use Rattle.checker.proofs.ProgramLaws.{answers}
+use Rattle.checker.proofs.type_of.Statement.{statement}
+use Rattle.checker.proofs.type_of.Tie as tie
+
+conclude-requires : tie.Need-conclude-requires
+conclude-requires c κs = search needs
+
+clear-requires : tie.Need-clear-requires
+clear-requires c κs = search needs
+
+same-length : tie.Need-same-length
+same-length c = search needs
+
+returns : tie.Need-returns
+returns c = record { right = λ ts p h. answers p (c .before .before .before .before .before .before .conclude .ensures .right ts p h); table = c .before .before .clear .ensures ∙ c .before .before .before .before .before .before .conclude .ensures .kept .rest }
+
+pub type-of-spec : {M : Type 1} → statement M
+type-of-spec = tie.close (tie.spec conclude-requires clear-requires same-length returns)

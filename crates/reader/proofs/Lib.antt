@@ -1,0 +1,14 @@
+pub mod Topping
+pub mod Standing
+pub mod Moving
+pub mod RowKinds
+pub mod Answering
+pub mod SeqLaws
+pub mod ItemLaws
+pub mod OperandLaws
+pub mod OperatorLaws
+pub mod CallLaws
+pub mod TypeLaws
+pub mod DefinitionLaws
+pub mod ProgramLaws
+pub mod OneFinding

@@ -1,0 +1,84 @@
+-- The whole list: what is read of it, and what is cleared where that is not all of it.
+use borrow.Author.Needs.{needs}
+use Rattle.reader.proofs.ProgramLaws.{known-program, found-none, found-short, found-program, found-large}
+use Rattle.reader.proofs.read.Statement.{statement}
+use Rattle.reader.proofs.read.Tie as tie
+
+program-requires : tie.Need-program-requires
+program-requires c κs = search needs
+
+enum-known-sheet : tie.Need-enum-known-sheet
+enum-known-sheet c = search needs
+
+clear-requires : tie.Need-clear-requires
+clear-requires c κs = search needs
+
+same-length : tie.Need-same-length
+same-length c = search needs
+
+returns : tie.Need-returns
+returns c =
+    found-short
+    (known-program (c .before .before .before .before .before .before .before .before .before .before .program .ensures)
+    (c .before .before .before .before .before .before .sheet .given .1)) (c .before .before .before .before .if1 .taken)
+    (c .before .before .clear .ensures)
+
+cast-row : tie.Need-cast-row
+cast-row c = search needs
+
+same-length-2 : tie.Need-same-length-2
+same-length-2 c = search needs
+
+returns-2 : tie.Need-returns-2
+returns-2 c =
+    found-program
+    (known-program (c .before .before .before .before .before .before .before .program .ensures)
+    (c .before .before .before .sheet .given .1)) (c .before .if1 .left) (c .if2 .taken)
+
+clear-requires-2 : tie.Need-clear-requires-2
+clear-requires-2 c κs = search needs
+
+enum-known-sheet-2 : tie.Need-enum-known-sheet-2
+enum-known-sheet-2 c = search needs
+
+clear-requires-3 : tie.Need-clear-requires-3
+clear-requires-3 c κs = search needs
+
+same-length-3 : tie.Need-same-length-3
+same-length-3 c = search needs
+
+returns-3 : tie.Need-returns-3
+returns-3 c =
+    found-large
+    (known-program (c .before .before .before .before .before .before .before .before .before .before .before .program .ensures)
+    (c .before .before .before .before .before .before .before .sheet .given .1)) (c .before .before .before .before .before .if1 .left)
+    (c .before .before .before .before .if2 .left)
+
+same-length-4 : tie.Need-same-length-4
+same-length-4 c = search needs
+
+returns-4 : tie.Need-returns-4
+returns-4 c =
+    found-none
+    (known-program (c .before .before .before .before .before .before .before .before .before .program .ensures)
+    (c .before .before .before .before .before .sheet2 .given .1)) (c .before .before .clear3 .ensures)
+
+pub read-spec : {M : Type 1} → statement M
+read-spec =
+    tie.close
+    (tie.spec
+    program-requires
+    enum-known-sheet
+    clear-requires
+    same-length
+    returns
+    cast-row
+    same-length-2
+    returns-2
+    clear-requires-2
+    enum-known-sheet-2
+    clear-requires-3
+    same-length-3
+    returns-3
+    same-length-4
+    returns-4)

@@ -1,0 +1,69 @@
+// The reader: from the tokens in table memory to the rows of their reading.
+//
+// A function for each rule of the grammar begins at a token and at the first free row. It answers what
+// it read, laid down in rows, the parts before their whole, or the token at which it failed. `specs/`
+// says what is told of an answer.
+
+mod definitions;
+mod items;
+mod names;
+mod operands;
+mod operators;
+mod parts;
+mod types;
+
+ghost use mathlib.Core.List.{List};
+ghost use mathlib.Core.Path.{_≡_};
+ghost use Prim.Native.Nat.{ℕ, _≤_};
+ghost use lib.ListN.{length};
+ghost use Rattle.language.specs.Sizes.{TOKENS, TABLE};
+ghost use Rattle.language.specs.Tokens.{Token};
+ghost use Rattle.layout.specs.Names.{Stand};
+ghost use Rattle.reader.specs.Findings.{Finds};
+use definitions::Sheet;
+use definitions::program;
+use language::NODES;
+use layout::ROWS_AT;
+use layout::VARIABLES_AT;
+use layout::memory::clear;
+
+pub enum Found {
+    // How many functions the reading has, and the row of its last expression.
+    Program { defs: usize, root: usize },
+    // The token at which reading failed.
+    None { at: usize },
+    TooLarge,
+}
+
+// Reads the first `count` tokens of the table. Where there is no reading, no row is left in it.
+//
+// The last row is the root's, and every node has a row: where the root lies among the first NODES rows,
+// there are at most NODES nodes. Each row has a token of its own, so that TooLarge is never answered
+// while a sheet has no more tokens than nodes may be.
+pub fn read(table: &mut [u32], count: usize) -> Found
+    requires { ⌜ (TABLE ≤ length (now table)) × (count ≤ TOKENS) ⌝ }
+    ensures { λ g. ⌜ ((ts : List Token) → Stand (now (table .entry)) count ts → Finds ts (now (table .entry)) g (now (table .exit))) ⌝ }
+{
+    let sheet = program(table, count, 0, 0, 0);
+    match sheet {
+        Sheet::Program { defs, root, next } => {
+            if next != count {
+                clear(table, ROWS_AT, VARIABLES_AT);
+                return Found::None { at: next };
+            }
+            let row = root as usize;
+            if row < NODES {
+                return Found::Program {
+                    defs: defs,
+                    root: row,
+                };
+            }
+            clear(table, ROWS_AT, VARIABLES_AT);
+            Found::TooLarge
+        }
+        Sheet::None { at: e } => {
+            clear(table, ROWS_AT, VARIABLES_AT);
+            Found::None { at: e }
+        }
+    }
+}

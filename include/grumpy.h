@@ -1,0 +1,99 @@
+/* The box: reads, checks and runs a rate sheet written in Grumpy.
+ *
+ * Two functions. They keep nothing between calls, ask for no memory of their own but the stack, and
+ * call nothing from outside. They may be called from several threads at once, each with memory of its
+ * own.
+ *
+ * Lent memory. The caller lends `table` and, to grumpy_run, `work`, of at least the words named below;
+ * what they hold before the call does not matter. After the call the required words are zero and all
+ * further words are as they were. If a memory is too short the answer is GRUMPY_SHORT_MEMORY and nothing
+ * is changed at all. `out` may have any length, 0 too: the bytes printed are its first ones and the rest
+ * is as it was; a sheet that is refused prints nothing.
+ *
+ * Memories must not overlap one another, nor the source or the report. A memory of length 0 may have any
+ * pointer that is not null and is aligned for its words.
+ *
+ * Both functions return the number, and write the report:
+ *
+ *     report[0]  the number, one of the constants below
+ *     report[1]  the place: a byte of the source, counted from 0; 0 where the number has none
+ *     report[2]  the type of the sheet, if it passed: GRUMPY_INT, GRUMPY_BOOL, ... ; else 0
+ *
+ * and grumpy_run also
+ *
+ *     report[3]  the value, a number in 64-bit two's complement: (int64_t)report[3]; 0 unless the number is 0
+ *     report[4]  the units used
+ *     report[5]  the bytes printed
+ *
+ * A report that is too short is answered with GRUMPY_SHORT_MEMORY, and nothing is changed. Words of the
+ * report past these are left alone.
+ */
+#ifndef GRUMPY_H
+#define GRUMPY_H
+
+#include <stddef.h>
+#include <stdint.h>
+
+#ifdef __cplusplus
+extern "C" {
+#endif
+
+/* lent memory, in words of 32 bits, and reports, in words of 64 bits */
+#define GRUMPY_TABLE 12288
+#define GRUMPY_WORK 16384
+#define GRUMPY_CHECK_REPORT 3
+#define GRUMPY_RUN_REPORT 6
+
+/* the largest source in bytes, and the largest allowance in units */
+#define GRUMPY_SOURCE 8192
+#define GRUMPY_ALLOWANCE 1000000
+
+/* the numbers */
+#define GRUMPY_OK 0               /* passed, or run to a value */
+#define GRUMPY_LONG_SOURCE 10     /* the source is too long */
+#define GRUMPY_STRANGE_BYTE 11    /* a byte that begins no token */
+#define GRUMPY_OPEN_COMMENT 12    /* a comment that is never closed */
+#define GRUMPY_LARGE_NUMBER 13    /* a number that is too large to write */
+#define GRUMPY_MANY_TOKENS 14     /* more than 1,024 tokens */
+#define GRUMPY_NOT_A_PROGRAM 20   /* the tokens have no reading */
+#define GRUMPY_MANY_NODES 21      /* more than 1,024 nodes */
+#define GRUMPY_MANY_FUNCTIONS 30  /* a 33rd function, or a ninth parameter */
+#define GRUMPY_DEFINED_TWICE 31   /* a function's name is taken */
+#define GRUMPY_PARAMETER_TWICE 32 /* a parameter's name is taken */
+#define GRUMPY_ILL_TYPED 33       /* no typing rule fits */
+#define GRUMPY_MANY_REFS 34       /* a type with more than 15 ref */
+#define GRUMPY_SHORT_MEMORY 40    /* a lent memory or the report is too short */
+#define GRUMPY_LARGE_ALLOWANCE 41 /* the allowance is too large */
+#define GRUMPY_OUT_OF_UNITS 50    /* the allowance is used up */
+#define GRUMPY_TOO_DEEP 51        /* more than 512 nodes active at once */
+#define GRUMPY_OVERFLOW 52        /* a result outside 32 bits */
+#define GRUMPY_DIVISION_BY_ZERO 53
+#define GRUMPY_FREED_CELL 54      /* a cell is used after its block has ended */
+#define GRUMPY_MANY_CELLS 55      /* 1,024 cells are live already */
+#define GRUMPY_NOT_A_BYTE 56      /* putchar of something outside 0 to 255 */
+#define GRUMPY_OUTPUT_FULL 57     /* no room for another byte */
+
+/* the types; 8 more for each ref around one of them */
+#define GRUMPY_INT 1
+#define GRUMPY_BOOL 2
+#define GRUMPY_UNIT 3
+#define GRUMPY_REF 8
+
+/* Reads and checks a sheet. */
+uint32_t grumpy_check(const uint8_t *source, size_t source_length,
+                      uint32_t *table, size_t table_length,
+                      uint64_t *report, size_t report_length);
+
+/* Reads and checks a sheet, and runs it if it passes. */
+uint32_t grumpy_run(const uint8_t *source, size_t source_length,
+                    uint32_t *table, size_t table_length,
+                    uint32_t *work, size_t work_length,
+                    uint8_t *out, size_t out_length,
+                    uint64_t allowance,
+                    uint64_t *report, size_t report_length);
+
+#ifdef __cplusplus
+}
+#endif
+
+#endif
