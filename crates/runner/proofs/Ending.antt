@@ -1,0 +1,92 @@
+-- The end of a run: what is reported of it, what the output is, and that cleared memory is the same whatever lay in it.
+use mathlib.Core.Path.{_≡_, refl, sym, ap, subst, _∙_}
+use mathlib.Core.Bool.{Bool, true, false}
+use mathlib.Core.List.{List, [], _∷_, _++_, reverse, reverse-cons}
+use Prim.Native.Nat.{ℕ, zero, suc, _+_, _-_, _≤_, _<_}
+use native.Mathlib.Omega.{arith}
+use lib.Dec.{eqb, ltb}
+use lib.ListN.{length, getD, set, take, drop, length-set, length-drop, length-reverse, take-append-drop}
+use lib.Seq.{getD-set-other, getD-drop, take-suc, ext-getD}
+use borrow.Author.Tests.{eqb-true, eqb-false, ltb-true, ltb-false}
+use Rattle.language.specs.Sizes.{WORK}
+use Rattle.language.specs.State as M
+use Rattle.layout.specs.Table.{zeros}
+use Rattle.layout.specs.declared.values.Value.{Value}
+use Rattle.runner.specs.Outcomes.{bytes, memory, outcome, tally, Kept}
+use Rattle.runner.specs.Contract.{spent, reported, Counts, Tells-of, printed-by}
+use Rattle.runner.specs.declared.state.Tally.{Tally}
+use Rattle.runner.specs.declared.state.Outcome.{Outcome}
+use Rattle.runner.specs.declared.state.Outcome.the-variants.{Gives, Halts}
+
+-- ---- cleared memory
+
+zero-here : (v : List ℕ) (a : ℕ) → getD (set v a 0) a 0 ≡ 0
+zero-here [] a = refl
+zero-here (x ∷ v) zero = refl
+zero-here (x ∷ v) (suc a) = zero-here v a
+
+-- memories that are the same outside the words that become 0 are the same then
+pub zeros-same : (n a : ℕ) (v w : List ℕ) → length v ≡ length w → ((k : ℕ) → (a ≤ k → k < a + n → ⊥) → getD v k 0 ≡ getD w k 0)
+    → zeros v a n ≡ zeros w a n
+unfolding zeros
+zeros-same zero a v w e h = ext-getD 0 v w e (λ k l. h k (λ p q. omega arith))
+zeros-same (suc n) a v w e h =
+    zeros-same n (a + 1) (set v a 0) (set w a 0) (length-set v a 0 ∙ e ∙ sym (length-set w a 0)) (λ k l. by k l (eqb k a) refl)
+  where
+    by : (k : ℕ) → (a + 1 ≤ k → k < a + 1 + n → ⊥) → (b : Bool) → eqb k a ≡ b → getD (set v a 0) k 0 ≡ getD (set w a 0) k 0
+    by k l true q =
+        subst (λ (j : ℕ). getD (set v a 0) j 0 ≡ getD (set w a 0) j 0) (sym (eqb-true k a q)) (zero-here v a ∙ sym (zero-here w a))
+    by k l false q =
+        let d = eqb-false k a q in
+        getD-set-other v a k 0 0 d ∙ h k (λ x y. l (omega arith) (omega arith)) ∙ sym (getD-set-other w a k 0 0 d)
+
+-- what a run changed is among the words that are cleared
+pub cleared-same : {m : ℕ} {w o w1 o1 : List ℕ} {top : ℕ} {s t : Tally} → Kept m w o w1 o1 top s t → zeros w1 0 WORK ≡ zeros w 0 WORK
+cleared-same {w = w} {w1 = w1} k = zeros-same WORK 0 w1 w (k .long) (λ i h. by i h (ltb i WORK) refl)
+  where
+    by : (i : ℕ) → (0 ≤ i → i < 0 + WORK → ⊥) → (b : Bool) → ltb i WORK ≡ b → getD w1 i 0 ≡ getD w i 0
+    by i h true e = let l = ltb-true i WORK e in absurd (h (omega arith) (omega arith))
+    by i h false e = k .beyond i (ltb-false i WORK e)
+
+-- ---- the output
+
+bytes-length : (o : List ℕ) (n : ℕ) → length (bytes o n) ≡ n
+unfolding bytes
+bytes-length o zero = refl
+bytes-length o (suc n) = ap suc (bytes-length o n)
+
+bytes-take : (o : List ℕ) (n : ℕ) → n ≤ length o → reverse (bytes o n) ≡ take n o
+unfolding bytes
+bytes-take o zero l = refl
+bytes-take o (suc n) l =
+    reverse-cons (getD o n 0) (bytes o n) ∙ ap (λ (x : List ℕ). x ++ (getD o n 0 ∷ [])) (bytes-take o n (omega arith)) ∙ sym (take-suc o n 0 (omega arith))
+
+drop-same : (n : ℕ) (v w : List ℕ) → length v ≡ length w → ((k : ℕ) → n ≤ k → getD v k 0 ≡ getD w k 0) → drop n v ≡ drop n w
+drop-same n v w e h =
+    ext-getD 0 (drop n v) (drop n w) (length-drop n v ∙ ap (λ (k : ℕ). k - n) e ∙ sym (length-drop n w))
+    (λ k l. getD-drop n v k 0 ∙ h (n + k) (omega arith) ∙ sym (getD-drop n w k 0))
+
+-- the bytes printed, then what was behind them
+pub output-is : (o o1 : List ℕ) (n : ℕ) → length o1 ≡ length o → n ≤ length o → ((k : ℕ) → n ≤ k → getD o1 k 0 ≡ getD o k 0)
+    → o1 ≡ reverse (bytes o1 n) ++ drop (length (reverse (bytes o1 n))) o
+output-is o o1 n e l h =
+    let m : length (reverse (bytes o1 n)) ≡ n = length-reverse (bytes o1 n) ∙ bytes-length o1 n in
+    sym (take-append-drop n o1)
+    ∙ ap (λ (x : List ℕ). x ++ drop n o1) (sym (bytes-take o1 n (omega arith)))
+    ∙ ap (λ (x : List ℕ). reverse (bytes o1 n) ++ x) (drop-same n o1 o e h)
+    ∙ ap (λ (k : ℕ). reverse (bytes o1 n) ++ drop k o) (sym m)
+
+-- ---- the report
+
+counts : (w o : List ℕ) (s : Tally) → Counts (spent s) (memory w o s)
+counts w o s = record { left = refl; printed = sym (bytes-length o (s .printed)) }
+
+-- it is the outcome's
+pub report-is : (w o : List ℕ) (r : Outcome) → Tells-of (outcome w o r) (reported r)
+report-is w o (Gives v s) = (refl, counts w o s)
+report-is w o (Halts y p s) = (refl, refl, counts w o s)
+
+-- and so are the bytes printed
+pub printed-is : (w o : List ℕ) (r : Outcome) → printed-by (outcome w o r) ≡ reverse (bytes o (tally r .printed))
+printed-is w o (Gives v s) = refl
+printed-is w o (Halts y p s) = refl

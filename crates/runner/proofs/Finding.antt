@@ -1,0 +1,142 @@
+-- Functions by name: the row that is found is that of the function which the meaning finds.
+use mathlib.Core.Path.{_≡_, refl, sym, ap, subst, _∙_}
+use mathlib.Core.Bool.{Bool, true, false, cond}
+use mathlib.Core.List.{List, [], _∷_}
+use mathlib.Core.Option.{Option, none, some}
+use Prim.Native.Nat.{ℕ, zero, suc, _+_, _≤_, _<_}
+use native.Mathlib.Omega.{arith}
+use lib.Dec.{eqb}
+use borrow.Author.Tests.{eqb-true, eqb-false}
+use lib.ListN.{length}
+use Rattle.language.specs.Sizes.{TOKENS, NODES, PARAMETERS, TABLE}
+use Rattle.language.specs.Tokens.{Token, At, NAME, same, spelling-at}
+use Rattle.language.specs.Trees.{Name, Param, Def, Scope, empty, push, nearest, PUTCHAR}
+use Rattle.language.specs.Meaning.{Fun, putchar, defined}
+use Rattle.language.proofs.Meaning.CellTypes.{none-some, some-one}
+use Rattle.layout.specs.Table.{token-word, row-word, function-row}
+use Rattle.layout.specs.Names.{name-number, Stand}
+use Rattle.layout.specs.Decode.{ParamsAt, params-none, params-more, FunctionAt}
+use Rattle.layout.proofs.NameLaws.{Named, name-inside, named-at, named-same}
+use Rattle.runner.specs.Rows.{carried, find-function, callee, Headed, Function, Callable}
+use Rattle.runner.specs.Contract.{Defines, defines-none, defines-more}
+use Rattle.runner.specs.declared.callees.Callee.{Callee}
+use Rattle.runner.specs.declared.callees.Callee.the-variants.{Putchar, Defined}
+
+-- ---- parameters
+
+-- each parameter's token is a name
+pub parameter-token : {ts : List Token} {w : List ℕ} {r : ℕ} {ps : List Param} → ParamsAt ts w r ps → (k : ℕ) → k < length ps
+    → At ts (row-word w (r + k) 1) NAME
+parameter-token params-none k l = absurd (omega arith)
+parameter-token {ts} {w} {r} (params-more {p = p} e a c t rest) zero l =
+    let q : r + 0 ≡ r = omega arith in
+    subst (λ (n : ℕ). At ts (row-word w n 1) NAME) (sym q) (subst (λ (n : ℕ). At ts n NAME) (sym e) a)
+parameter-token {ts} {w} {r} (params-more e a c t rest) (suc k) l =
+    let q : r + 1 + k ≡ r + suc k = omega arith in
+    subst (λ (n : ℕ). At ts (row-word w n 1) NAME) q (parameter-token rest k (omega arith))
+
+-- ---- the functions of a table
+
+-- the function at a row is the one of that name
+pub record Finds (d : ℕ) (ts : List Token) (table : List ℕ) (fs : Scope Fun) (x : Name) (row : ℕ) : Type 0 where
+  pub def : Def
+  pub at : FunctionAt d ts table row def
+  pub few : length (def .params) ≤ PARAMETERS
+  pub found : nearest x fs ≡ some (defined (def .params) (def .body))
+
+module _ {d : ℕ} {ts : List Token} {table : List ℕ} (stand : Stand table (length ts) ts) where
+  -- a function's name has its number
+  pub function-named : {r : ℕ} {f : Def} → FunctionAt d ts table r f → Named ts (carried table r 1) (f .called)
+  function-named {r} {f} at =
+      let n = named-at stand _ (at .name) in
+      let e : carried table r 1 ≡ token-word table (f .at + 1) 3 = ap (λ (i : ℕ). token-word table (i + 1) 3) (at .at) in
+      record {
+        at = f .at + 1;
+        inside = name-inside ts _ (at .name);
+        spelled = sym (at .called);
+        number = e ∙ n .number ∙ ap (name-number ts) (sym (at .called));
+      }
+
+  -- and a function's row is one that can be called
+  pub function-of : TABLE ≤ length table → {r : ℕ} {f : Def} → FunctionAt d ts table r f → length (f .params) ≤ PARAMETERS → Function table r
+  function-of long {r} {f} at few =
+      record {
+        long = long;
+        inside = at .inside;
+        few = omega (arith, at .count);
+        last = omega (arith, at .count, at .last-param);
+        named = λ k l.
+            let i = name-inside ts _ (parameter-token (at .params) k (omega (arith, at .count))) in
+            omega (arith, stand .few);
+      }
+
+  -- all of them have rows and names
+  pub headed : TABLE ≤ length table → {n : ℕ} {fs : Scope Fun} → Defines d ts table n fs → n ≤ TOKENS → Headed table n
+  headed long def few = record { long = long; few = few; inside = inside def; named = named def }
+    where
+      inside : {n : ℕ} {fs : Scope Fun} → Defines d ts table n fs → (k : ℕ) → k < n → function-row table k < NODES
+      inside defines-none k l = absurd (omega arith)
+      inside (defines-more {n = n} at few rest) k l = by (eqb k n) refl (λ m. inside rest k m)
+        where
+          by : (b : Bool) → eqb k n ≡ b → (k < n → function-row table k < NODES) → function-row table k < NODES
+          by true e ih = subst (λ (i : ℕ). function-row table i < NODES) (sym (eqb-true k n e)) (at .inside)
+          by false e ih = let q = eqb-false k n e in ih (omega arith)
+
+      named : {n : ℕ} {fs : Scope Fun} → Defines d ts table n fs → (k : ℕ) → k < n → row-word table (function-row table k) 1 + 1 < TOKENS
+      named defines-none k l = absurd (omega arith)
+      named (defines-more {n = n} {f = f} at few rest) k l = by (eqb k n) refl (λ m. named rest k m)
+        where
+          by : (b : Bool) → eqb k n ≡ b → (k < n → row-word table (function-row table k) 1 + 1 < TOKENS)
+              → row-word table (function-row table k) 1 + 1 < TOKENS
+          by true e ih =
+              let i = name-inside ts _ (at .name) in
+              subst (λ (j : ℕ). row-word table (function-row table j) 1 + 1 < TOKENS) (sym (eqb-true k n e)) (omega (arith, at .at, stand .few))
+          by false e ih = let q = eqb-false k n e in ih (omega arith)
+
+  -- ---- the one that has a name
+
+  module _ {key : ℕ} {x : Name} (h : Named ts key x) where
+    -- there is none
+    pub finds-none : {n : ℕ} {fs : Scope Fun} → Defines d ts table n fs → none ≡ find-function table key n
+        → nearest x fs ≡ nearest x (push PUTCHAR putchar empty)
+    unfolding find-function nearest
+    finds-none defines-none e = refl
+    finds-none (defines-more {n = n} {fs = fs} {f = f} at few rest) e =
+        by (eqb key (carried table (function-row table n) 1)) refl (λ q. finds-none rest q)
+      where
+        by : (b : Bool) → eqb key (carried table (function-row table n) 1) ≡ b
+            → (none ≡ find-function table key n → nearest x fs ≡ nearest x (push PUTCHAR putchar empty))
+            → cond (same x (f .called)) (some (defined (f .params) (f .body))) (nearest x fs) ≡ nearest x (push PUTCHAR putchar empty)
+        by true q ih = let z : _≡_ {A = Option ℕ} none (some (function-row table n)) = rw q at e in absurd (none-some z)
+        by false q ih =
+            let z : none ≡ find-function table key n = rw q at e in
+            rw (sym (named-same (stand .few) h (function-named at)) ∙ q) (ih z)
+
+    -- it is the one at this row
+    pub finds-some : {n : ℕ} {fs : Scope Fun} → Defines d ts table n fs → {row : ℕ} → some row ≡ find-function table key n → Finds d ts table fs x row
+    unfolding find-function nearest
+    finds-some defines-none e = absurd (none-some (sym e))
+    finds-some (defines-more {n = n} {fs = fs} {f = f} at few rest) {row} e =
+        by (eqb key (carried table (function-row table n) 1)) refl (λ q. finds-some rest q)
+      where
+        by : (b : Bool) → eqb key (carried table (function-row table n) 1) ≡ b → (some row ≡ find-function table key n → Finds d ts table fs x row)
+            → Finds d ts table (push (f .called) (defined (f .params) (f .body)) fs) x row
+        by true q ih =
+            let z : _≡_ {A = Option ℕ} (some row) (some (function-row table n)) = rw q at e in
+            subst (λ (i : ℕ). Finds d ts table (push (f .called) (defined (f .params) (f .body)) fs) x i) (sym (some-one z))
+            (record { def = f; at = at; few = few; found = rw (sym (named-same (stand .few) h (function-named at)) ∙ q) refl })
+        by false q ih =
+            let z : some row ≡ find-function table key n = rw q at e in
+            let g = ih z in
+            record {
+              def = g .def;
+              at = g .at;
+              few = g .few;
+              found = rw (sym (named-same (stand .few) h (function-named at)) ∙ q) (g .found);
+            }
+
+    -- what is found can be called
+    pub callable : TABLE ≤ length table → {n : ℕ} {fs : Scope Fun} → Defines d ts table n fs → (c : Callee) → callee c ≡ find-function table key n
+        → Callable table c
+    callable long def Putchar e = long
+    callable long def (Defined row) e = let g = finds-some def e in function-of long (g .at) (g .few)

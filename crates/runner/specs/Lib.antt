@@ -1,0 +1,5 @@
+pub mod Operands
+pub mod Slots
+pub mod Rows
+pub mod Outcomes
+pub mod Contract

@@ -1,0 +1,99 @@
+// Runs a reading that has a type. Each node uses a unit when it begins; bindings and cells lie in lent
+// work memory, which is cleared at the end, and bytes go to the lent output.
+
+mod bindings;
+mod callees;
+mod calls;
+mod cells;
+mod leaves;
+mod nodes;
+mod numbers;
+mod operands;
+mod operators;
+mod output;
+mod state;
+
+ghost use mathlib.Core.Path.{_≡_};
+ghost use Rattle.runner.specs.Contract.{Sheet, RunsTo, reported};
+use crate::state::Frame;
+use crate::state::Outcome;
+use crate::state::Tally;
+use language::ACTIVE;
+use language::WORK;
+use layout::memory;
+use layout::values::Value;
+
+// Why a run stops before it has a value: rows 50 to 57, in their order.
+pub enum Stop {
+    NoUnit,
+    TooDeep,
+    OutOfRange,
+    ZeroDivisor,
+    CellFreed,
+    CellsFull,
+    NotAByte,
+    OutputFull,
+}
+
+// The units that are left of the allowance, and how many bytes were printed.
+pub struct Spent {
+    pub left: u32,
+    pub printed: usize,
+}
+
+// A value, or why and at which token the run stopped.
+pub enum Done {
+    Value(Value, Spent),
+    Stop(Stop, u32, Spent),
+}
+
+fn report(outcome: Outcome) -> Done
+    ensures { λ r. ⌜ r ≡ reported outcome ⌝ }
+{
+    match outcome {
+        Outcome::Gives(v, t) => {
+            let spent = Spent {
+                left: t.units,
+                printed: t.printed,
+            };
+            Done::Value(v, spent)
+        }
+        Outcome::Halts(why, place, t) => {
+            let spent = Spent {
+                left: t.units,
+                printed: t.printed,
+            };
+            Done::Stop(why, place, spent)
+        }
+    }
+}
+
+// Runs the program that the table holds: `count` tokens, `defs` functions, the last expression at row
+// `root`.
+pub fn run(
+    table: &[u32],
+    work: &mut [u32],
+    out: &mut [u8],
+    count: usize,
+    defs: usize,
+    root: usize,
+    allowance: u32,
+) -> Done
+    requires { ⌜ Sheet (now table) (now work) count defs root allowance ⌝ }
+    ensures { λ r. ⌜ RunsTo (now (table .entry)) (now (work .entry)) (now (out .entry)) (now (work .exit)) (now (out .exit)) count defs root allowance r ⌝ }
+{
+    let frame = Frame {
+        defs,
+        base: 0,
+        size: 0,
+    };
+    let start = Tally {
+        units: allowance,
+        births: 0,
+        cells: 0,
+        printed: 0,
+    };
+    let outcome = nodes::eval(table, work, out, root, ACTIVE, frame, start);
+    memory::clear(work, 0, WORK);
+    report(outcome)
+}

@@ -1,0 +1,317 @@
+// What each node does. A node uses a unit when it begins; `depth` is how many more may be active with it.
+ghost use mathlib.Core.Path.{_≡_};
+ghost use Prim.Native.Nat.{ℕ, _+_};
+ghost use Rattle.language.specs.Tokens.{LBRACE, SEMI, LET, IF, WHILE};
+ghost use Rattle.language.specs.Meaning.{eval, step};
+ghost use Rattle.layout.specs.Table.{row-word};
+ghost use Rattle.runner.specs.Rows.{IsUnary, IsBinary};
+ghost use Rattle.runner.specs.Contract.{Ready, Ran, Spends};
+use crate::Stop;
+use crate::bindings;
+use crate::calls;
+use crate::leaves;
+use crate::operands;
+use crate::operators;
+use crate::state::Frame;
+use crate::state::Outcome;
+use crate::state::Tally;
+use language::kinds;
+use layout::rows;
+use layout::slots;
+use layout::values::Value;
+
+pub fn eval(
+    table: &[u32],
+    work: &mut [u32],
+    out: &mut [u8],
+    node: usize,
+    depth: usize,
+    frame: Frame,
+    s: Tally,
+) -> Outcome
+    requires { ⌜ Ready (now table) (now work) (now out) node depth frame s ⌝ }
+    ensures { λ r. ⌜ Ran (λ fs. eval fs depth) 0 (now (table .entry)) (now (work .entry)) (now (out .entry)) (now (work .exit)) (now (out .exit)) node frame s r × Spends r (s .units) ⌝ }
+{
+    let place = rows::word(table, node, 1);
+    let units = s.units;
+    let births = s.births;
+    let cells = s.cells;
+    let printed = s.printed;
+    if units == 0 {
+        return Outcome::Halts(Stop::NoUnit, place, s);
+    }
+    let t = Tally {
+        units: units - 1,
+        births,
+        cells,
+        printed,
+    };
+    if depth == 0 {
+        return Outcome::Halts(Stop::TooDeep, place, t);
+    }
+    step(table, work, out, node, depth - 1, frame, t)
+}
+
+fn step(
+    table: &[u32],
+    work: &mut [u32],
+    out: &mut [u8],
+    node: usize,
+    depth: usize,
+    frame: Frame,
+    s: Tally,
+) -> Outcome
+    requires { ⌜ Ready (now table) (now work) (now out) node (depth + 1) frame s ⌝ }
+    ensures { λ r. ⌜ Ran (λ fs. step fs (eval fs depth)) 1 (now (table .entry)) (now (work .entry)) (now (out .entry)) (now (work .exit)) (now (out .exit)) node frame s r ⌝ }
+{
+    let kind = rows::word(table, node, 0);
+    if kind == kinds::NAME {
+        let place = rows::word(table, node, 1);
+        let key = leaves::carried(table, node, 0);
+        return bindings::look(work, place, key, frame.base, frame.size, s);
+    }
+    if kind == kinds::LPAR {
+        let inner = rows::link(table, node, 2);
+        return eval(table, work, out, inner, depth, frame, s);
+    }
+    if kind == kinds::LBRACE {
+        return block(table, work, out, node, depth, frame, s);
+    }
+    if kind == kinds::SEMI {
+        return follow(table, work, out, node, depth, frame, s);
+    }
+    if kind == kinds::LET {
+        return bind(table, work, out, node, depth, frame, s);
+    }
+    if kind == kinds::IF {
+        return branch(table, work, out, node, depth, frame, s);
+    }
+    if kind == kinds::WHILE {
+        return passes(table, work, out, node, depth, frame, s);
+    }
+    if kind == rows::CALL {
+        return calls::call(table, work, out, node, depth, frame, s);
+    }
+    if rows::PREFIX <= kind {
+        return unary(table, work, out, node, depth, frame, s);
+    }
+    if kinds::PLUS <= kind {
+        return binary(table, work, out, node, depth, frame, s);
+    }
+    let v = leaves::literal(table, node);
+    Outcome::Gives(v, s)
+}
+
+fn unary(
+    table: &[u32],
+    work: &mut [u32],
+    out: &mut [u8],
+    node: usize,
+    depth: usize,
+    frame: Frame,
+    s: Tally,
+) -> Outcome
+    requires { ⌜ Ready (now table) (now work) (now out) node (depth + 1) frame s × IsUnary (now table) node ⌝ }
+    ensures { λ r. ⌜ Ran (λ fs. step fs (eval fs depth)) 1 (now (table .entry)) (now (work .entry)) (now (out .entry)) (now (work .exit)) (now (out .exit)) node frame s r ⌝ }
+{
+    let op = rows::word(table, node, 0);
+    let place = rows::word(table, node, 1);
+    let operand = rows::link(table, node, 2);
+    let first = eval(table, work, out, operand, depth, frame, s);
+    match first {
+        Outcome::Halts(why, p, t) => Outcome::Halts(why, p, t),
+        Outcome::Gives(v, t) => operators::apply_unary(op, place, work, v, t),
+    }
+}
+
+fn binary(
+    table: &[u32],
+    work: &mut [u32],
+    out: &mut [u8],
+    node: usize,
+    depth: usize,
+    frame: Frame,
+    s: Tally,
+) -> Outcome
+    requires { ⌜ Ready (now table) (now work) (now out) node (depth + 1) frame s × IsBinary (now table) node ⌝ }
+    ensures { λ r. ⌜ Ran (λ fs. step fs (eval fs depth)) 1 (now (table .entry)) (now (work .entry)) (now (out .entry)) (now (work .exit)) (now (out .exit)) node frame s r ⌝ }
+{
+    let op = rows::word(table, node, 0);
+    let place = rows::word(table, node, 1);
+    let left = rows::link(table, node, 2);
+    let right = rows::link(table, node, 3);
+    let first = eval(table, work, out, left, depth, frame, s);
+    match first {
+        Outcome::Halts(why, p, t) => Outcome::Halts(why, p, t),
+        Outcome::Gives(a, t) => {
+            if operators::settles(op, a) {
+                return Outcome::Gives(a, t);
+            }
+            let second = eval(table, work, out, right, depth, frame, t);
+            match second {
+                Outcome::Halts(why, p, u) => Outcome::Halts(why, p, u),
+                Outcome::Gives(b, u) => operators::apply_binary(op, place, work, a, b, u),
+            }
+        }
+    }
+}
+
+// `;`
+fn follow(
+    table: &[u32],
+    work: &mut [u32],
+    out: &mut [u8],
+    node: usize,
+    depth: usize,
+    frame: Frame,
+    s: Tally,
+) -> Outcome
+    requires { ⌜ Ready (now table) (now work) (now out) node (depth + 1) frame s × (row-word (now table) node 0 ≡ SEMI) ⌝ }
+    ensures { λ r. ⌜ Ran (λ fs. step fs (eval fs depth)) 1 (now (table .entry)) (now (work .entry)) (now (out .entry)) (now (work .exit)) (now (out .exit)) node frame s r ⌝ }
+{
+    let one = rows::link(table, node, 2);
+    let two = rows::link(table, node, 3);
+    let first = eval(table, work, out, one, depth, frame, s);
+    match first {
+        Outcome::Halts(why, p, t) => Outcome::Halts(why, p, t),
+        Outcome::Gives(_, t) => eval(table, work, out, two, depth, frame, t),
+    }
+}
+
+// A Block: the cells born since it began are freed, which are those above the ones that were live then.
+fn block(
+    table: &[u32],
+    work: &mut [u32],
+    out: &mut [u8],
+    node: usize,
+    depth: usize,
+    frame: Frame,
+    s: Tally,
+) -> Outcome
+    requires { ⌜ Ready (now table) (now work) (now out) node (depth + 1) frame s × (row-word (now table) node 0 ≡ LBRACE) ⌝ }
+    ensures { λ r. ⌜ Ran (λ fs. step fs (eval fs depth)) 1 (now (table .entry)) (now (work .entry)) (now (out .entry)) (now (work .exit)) (now (out .exit)) node frame s r ⌝ }
+{
+    let inner = rows::link(table, node, 2);
+    let cells = s.cells;
+    let first = eval(table, work, out, inner, depth, frame, s);
+    match first {
+        Outcome::Halts(why, p, t) => Outcome::Halts(why, p, t),
+        Outcome::Gives(v, t) => {
+            let units = t.units;
+            let births = t.births;
+            let printed = t.printed;
+            let u = Tally {
+                units,
+                births,
+                cells,
+                printed,
+            };
+            Outcome::Gives(v, u)
+        }
+    }
+}
+
+// `let`
+fn bind(
+    table: &[u32],
+    work: &mut [u32],
+    out: &mut [u8],
+    node: usize,
+    depth: usize,
+    frame: Frame,
+    s: Tally,
+) -> Outcome
+    requires { ⌜ Ready (now table) (now work) (now out) node (depth + 1) frame s × (row-word (now table) node 0 ≡ LET) ⌝ }
+    ensures { λ r. ⌜ Ran (λ fs. step fs (eval fs depth)) 1 (now (table .entry)) (now (work .entry)) (now (out .entry)) (now (work .exit)) (now (out .exit)) node frame s r ⌝ }
+{
+    let key = leaves::carried(table, node, 1);
+    let one = rows::link(table, node, 2);
+    let two = rows::link(table, node, 3);
+    let defs = frame.defs;
+    let base = frame.base;
+    let size = frame.size;
+    let at = 4 * base;
+    let inner = Frame {
+        defs,
+        base,
+        size: size + 1,
+    };
+    let first = eval(table, work, out, one, depth, frame, s);
+    match first {
+        Outcome::Halts(why, p, t) => Outcome::Halts(why, p, t),
+        Outcome::Gives(v, t) => {
+            slots::put(work, at, size, key, v);
+            eval(table, work, out, two, depth, inner, t)
+        }
+    }
+}
+
+// `if`
+fn branch(
+    table: &[u32],
+    work: &mut [u32],
+    out: &mut [u8],
+    node: usize,
+    depth: usize,
+    frame: Frame,
+    s: Tally,
+) -> Outcome
+    requires { ⌜ Ready (now table) (now work) (now out) node (depth + 1) frame s × (row-word (now table) node 0 ≡ IF) ⌝ }
+    ensures { λ r. ⌜ Ran (λ fs. step fs (eval fs depth)) 1 (now (table .entry)) (now (work .entry)) (now (out .entry)) (now (work .exit)) (now (out .exit)) node frame s r ⌝ }
+{
+    let test = rows::link(table, node, 2);
+    let one = rows::link(table, node, 3);
+    let two = rows::link(table, node, 4);
+    let first = eval(table, work, out, test, depth, frame, s);
+    match first {
+        Outcome::Halts(why, p, t) => Outcome::Halts(why, p, t),
+        Outcome::Gives(v, t) => {
+            if operands::is_true(v) {
+                eval(table, work, out, one, depth, frame, t)
+            } else {
+                eval(table, work, out, two, depth, frame, t)
+            }
+        }
+    }
+}
+
+// `while`: a test, and a pass after each that is true. Every test uses a unit, so it ends.
+fn passes(
+    table: &[u32],
+    work: &mut [u32],
+    out: &mut [u8],
+    node: usize,
+    depth: usize,
+    frame: Frame,
+    s: Tally,
+) -> Outcome
+    requires { ⌜ Ready (now table) (now work) (now out) node (depth + 1) frame s × (row-word (now table) node 0 ≡ WHILE) ⌝ }
+    ensures { λ r. ⌜ Ran (λ fs. step fs (eval fs depth)) 1 (now (table .entry)) (now (work .entry)) (now (out .entry)) (now (work .exit)) (now (out .exit)) node frame s r ⌝ }
+{
+    let test = rows::link(table, node, 2);
+    let body = rows::link(table, node, 3);
+    let mut t = s;
+    loop {
+        let first = eval(table, work, out, test, depth, frame, t);
+        match first {
+            Outcome::Halts(why, p, u) => {
+                return Outcome::Halts(why, p, u);
+            }
+            Outcome::Gives(v, u) => {
+                if operands::is_true(v) {
+                    let second = eval(table, work, out, body, depth, frame, u);
+                    match second {
+                        Outcome::Halts(why, p, x) => {
+                            return Outcome::Halts(why, p, x);
+                        }
+                        Outcome::Gives(_, x) => {
+                            t = x;
+                        }
+                    }
+                } else {
+                    return Outcome::Gives(Value::Nothing, u);
+                }
+            }
+        }
+    }
+}
