@@ -1,0 +1,5 @@
+pub mod Layers
+pub mod Runs
+pub mod Services
+pub mod Determined
+pub mod Demands

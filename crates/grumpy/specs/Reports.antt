@@ -1,0 +1,44 @@
+-- What the answers of the services say in the paper's numbers: the row of the table, and the report.
+use lib.IntN.{pos}
+use Rattle.language.specs.Numbers.{Row, passed, short-memory, large-allowance, long-source, text, no-reading, many-nodes, types, stopped, number}
+use Rattle.language.specs.Answers.{CheckReport, check-report, RunReport, refusal}
+use Rattle.tokens.specs.Answer as Tokens
+use Rattle.checker.specs.Checked as Checker
+use Rattle.runner.specs.Outcomes.{why}
+use Rattle.grumpy.specs.declared.answers.Refusal.{Refusal}
+use Rattle.grumpy.specs.declared.answers.Refusal.the-variants.{ShortMemory, LargeAllowance, LongSource, Text, NoReading, ManyNodes, Types}
+use Rattle.grumpy.specs.declared.answers.Checked as checked
+use Rattle.grumpy.specs.declared.answers.Ran as ran
+
+-- the row that a refusal is
+abbrev pub refusal-row : Refusal → Row
+refusal-row ShortMemory = short-memory
+refusal-row LargeAllowance = large-allowance
+refusal-row LongSource = long-source
+refusal-row (Text f) = text (Tokens.meant f)
+refusal-row NoReading = no-reading
+refusal-row ManyNodes = many-nodes
+refusal-row (Types r) = types (Checker.meant r)
+
+-- ---- check
+
+abbrev pub checked-row : checked.Checked → Row
+checked-row (checked.the-variants.Passed t) = passed
+checked-row (checked.the-variants.Refused w i) = refusal-row w
+
+abbrev pub checked-report : checked.Checked → CheckReport
+checked-report (checked.the-variants.Passed t) = check-report passed 0 t
+checked-report (checked.the-variants.Refused w i) = check-report (refusal-row w) i 0
+
+-- ---- run
+
+abbrev pub ran-row : ran.Ran → Row
+ran-row (ran.the-variants.Value t v u n) = passed
+ran-row (ran.the-variants.Stopped w i t u n) = stopped (why w)
+ran-row (ran.the-variants.Refused w i) = refusal-row w
+
+abbrev pub ran-report : ran.Ran → RunReport
+ran-report (ran.the-variants.Value t v u n) = record { number = number passed; place = 0; type = t; value = v; units = u; printed = n }
+ran-report (ran.the-variants.Stopped w i t u n) =
+    record { number = number (stopped (why w)); place = i; type = t; value = pos 0; units = u; printed = n }
+ran-report (ran.the-variants.Refused w i) = refusal (refusal-row w) i

@@ -1,0 +1,40 @@
+// What the services answer. `specs/Reports.antt` gives the paper's numbers for each case.
+use checker::Reason;
+use runner::Stop;
+use tokens::answer::Flaw;
+
+// Why a sheet is not run: the rows below 50, in the order in which they are looked for.
+pub enum Refusal {
+    ShortMemory,
+    LargeAllowance,
+    LongSource,
+    Text(Flaw),
+    NoReading,
+    ManyNodes,
+    Types(Reason),
+}
+
+// A type's number, or a refusal and the byte it is told at.
+pub enum Checked {
+    Passed(u32),
+    Refused(Refusal, usize),
+}
+
+// A value as it is reported, or a stop and the byte it is told at, each with the program's type, the
+// units used and the bytes printed; or a refusal.
+pub enum Ran {
+    Value {
+        kind: u32,
+        value: i64,
+        units: u32,
+        printed: usize,
+    },
+    Stopped {
+        why: Stop,
+        place: usize,
+        kind: u32,
+        units: u32,
+        printed: usize,
+    },
+    Refused(Refusal, usize),
+}
