@@ -1,0 +1,131 @@
+// The C interface of the box. Both functions return the paper's number and write a report: number,
+// place, type, and for run also value (64-bit two's complement), units and bytes printed. A report
+// that is too short is answered like memory that is too short, and nothing is changed.
+ghost use mathlib.Core.Path.{_≡_};
+ghost use Prim.Native.Nat.{ℕ, _≤_};
+ghost use lib.ListN.{length};
+ghost use mir.Syntax.{w64};
+ghost use mir.Val.{ofZ};
+ghost use Rattle.grumpy_c.specs.Reports.{three, six, ToldChecked, ToldRan, CheckedC, RanC};
+use grumpy::answers::Checked;
+use grumpy::answers::Ran;
+use grumpy::numbers;
+
+// The two's complement of v.
+fn complement(v: i64) -> u64
+    ensures { λ r. ⌜ r ≡ ofZ w64 v ⌝ }
+{
+    if v < 0 {
+        let below = -(v + 1);
+        18446744073709551615 - (below as u64)
+    } else {
+        v as u64
+    }
+}
+
+fn put_three(report: &mut [u64], number: u32, place: usize, kind: u32)
+    requires { ⌜ 3 ≤ length (now report) ⌝ }
+    ensures { λ _. ⌜ now (report .exit) ≡ three (now (report .entry)) number place kind ⌝ }
+{
+    report[0] = number as u64;
+    report[1] = place as u64;
+    report[2] = kind as u64;
+}
+
+fn put_six(
+    report: &mut [u64],
+    number: u32,
+    place: usize,
+    kind: u32,
+    value: u64,
+    units: u32,
+    printed: usize,
+)
+    requires { ⌜ 6 ≤ length (now report) ⌝ }
+    ensures { λ _. ⌜ now (report .exit) ≡ six (now (report .entry)) number place kind value units printed ⌝ }
+{
+    put_three(report, number, place, kind);
+    report[3] = value;
+    report[4] = units as u64;
+    report[5] = printed as u64;
+}
+
+fn report_checked(report: &mut [u64], answer: Checked) -> u32
+    requires { ⌜ 3 ≤ length (now report) ⌝ }
+    ensures { λ r. ⌜ ToldChecked answer (now (report .entry)) (now (report .exit)) r ⌝ }
+{
+    match answer {
+        Checked::Passed(kind) => {
+            put_three(report, 0, 0, kind);
+            0
+        }
+        Checked::Refused(why, place) => {
+            let number = numbers::of_refusal(why);
+            put_three(report, number, place, 0);
+            number
+        }
+    }
+}
+
+fn report_ran(report: &mut [u64], answer: Ran) -> u32
+    requires { ⌜ 6 ≤ length (now report) ⌝ }
+    ensures { λ r. ⌜ ToldRan answer (now (report .entry)) (now (report .exit)) r ⌝ }
+{
+    match answer {
+        Ran::Value {
+            kind,
+            value,
+            units,
+            printed,
+        } => {
+            let bits = complement(value);
+            put_six(report, 0, 0, kind, bits, units, printed);
+            0
+        }
+        Ran::Stopped {
+            why,
+            place,
+            kind,
+            units,
+            printed,
+        } => {
+            let number = numbers::of_stop(why);
+            put_six(report, number, place, kind, 0, units, printed);
+            number
+        }
+        Ran::Refused(why, place) => {
+            let number = numbers::of_refusal(why);
+            put_six(report, number, place, 0, 0, 0, 0);
+            number
+        }
+    }
+}
+
+#[no_mangle]
+pub extern "C" fn grumpy_check(source: &[u8], table: &mut [u32], report: &mut [u64]) -> u32
+    ensures { λ r. ⌜ CheckedC (now (source .entry)) (now (table .entry)) (now (report .entry)) (now (table .exit)) (now (report .exit)) r ⌝ }
+{
+    if report.len() < 3 {
+        return 40;
+    }
+    let answer = grumpy::check(source, table);
+    report_checked(report, answer)
+}
+
+#[no_mangle]
+pub extern "C" fn grumpy_run(
+    source: &[u8],
+    table: &mut [u32],
+    work: &mut [u32],
+    out: &mut [u8],
+    allowance: u64,
+    report: &mut [u64],
+) -> u32
+    ensures { λ r. ⌜ RanC (now (source .entry)) (now (table .entry)) (now (work .entry)) (now (out .entry)) allowance (now (report .entry)) (now (table .exit)) (now (work .exit)) (now (out .exit)) (now (report .exit)) r ⌝ }
+{
+    if report.len() < 6 {
+        return 40;
+    }
+    let answer = grumpy::run(source, table, work, out, allowance);
+    report_ran(report, answer)
+}
