@@ -3,7 +3,6 @@
 
 use crate::answer::{self, Answer, Left, TABLE_WORDS, WORK_WORDS};
 use crate::chance::Chance;
-use crate::on_stack;
 use crate::trial::Trial;
 use std::fmt::Debug;
 
@@ -17,24 +16,6 @@ pub struct Loans<'a> {
 pub trait Other {
     fn check(&self, source: &[u8], table: &mut [u32], report: &mut [u64]) -> u32;
     fn run(&self, source: &[u8], loans: Loans, allowance: u64, report: &mut [u64]) -> u32;
-}
-
-/// Another implementation whose every call gets a stack of this many bytes.
-pub struct Stacked<O> {
-    pub bytes: usize,
-    pub inner: O,
-}
-
-impl<O: Other + Sync> Other for Stacked<O> {
-    fn check(&self, source: &[u8], table: &mut [u32], report: &mut [u64]) -> u32 {
-        on_stack(self.bytes, || self.inner.check(source, table, report))
-    }
-
-    fn run(&self, source: &[u8], loans: Loans, allowance: u64, report: &mut [u64]) -> u32 {
-        on_stack(self.bytes, || {
-            self.inner.run(source, loans, allowance, report)
-        })
-    }
 }
 
 pub const CHECK_REPORT: usize = 3;

@@ -11,6 +11,7 @@ pub mod deep;
 pub mod forms;
 pub mod grammar;
 pub mod paper;
+pub mod piped;
 pub mod quote;
 pub mod rare;
 pub mod run;

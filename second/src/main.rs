@@ -5,21 +5,22 @@
 //! second trace N SEED START the same, naming each trial before it is made
 //! second show SEED INDEX    one random trial as a case
 //! second cases              all case files and all examples of the paper
+//! second table FILE         the file's sheets, each with the answer under it
 //! second deep BYTES         the deepest sheets on a stack of that size
 //! ```
 //!
-//! With the feature `box` each of them, but for `show`, holds the other
-//! implementation against this one; without it this one runs alone.
+//! Where GRUMPY_BOX names a program (see `piped`), each of them but `show` holds
+//! that one against this one; without it this one runs alone.
 
 use second::answer::{self, Answer, Lent};
 use second::cases::{self, Case};
+use second::compare::compare;
+use second::piped::Piped;
 use second::trial::Trial;
 use second::{deep, on_big_stack, paper, shrink, trial};
 use std::collections::BTreeMap;
 use std::process::ExitCode;
-
-#[cfg(feature = "box")]
-mod box_ffi;
+use std::sync::LazyLock;
 
 /// Failures shown in full; later ones are only counted.
 const MOST_SHOWN: u64 = 10;
@@ -29,6 +30,7 @@ fn main() -> ExitCode {
     let words: Vec<&str> = words.iter().map(String::as_str).collect();
     let failed = match words[..] {
         ["cases"] => on_big_stack(all_cases),
+        ["table", file] => on_big_stack(|| table(file)),
         ["show", seed, index] => show(number(seed), number(index)),
         ["deep", bytes] => all_deep(number(bytes) as usize),
         ["trace", count, seed, start] => series(number(count), number(seed), number(start), true),
@@ -45,19 +47,26 @@ fn number(word: &str) -> u64 {
 }
 
 fn usage() -> u64 {
-    eprintln!("second N SEED [START] | trace N SEED START | show SEED INDEX | cases | deep BYTES");
+    eprintln!("second N SEED [START] | trace N SEED START | show SEED INDEX | cases | table FILE | deep BYTES");
     1
 }
 
+/// The stack of the other implementation, where none is asked for.
+const STACK: usize = 1 << 23;
+
+/// The other implementation, started at its first use.
+static OTHER: LazyLock<Option<Piped>> = LazyLock::new(|| Piped::from_environment(STACK));
+
 /// Whether the trial passes, given this interpreter's answer to it.
-#[cfg(feature = "box")]
 fn verdict(trial: &Trial, answer: &Answer) -> Result<(), String> {
-    second::compare::compare(&box_ffi::Boxed, trial, answer)
+    match &*OTHER {
+        Some(other) => compare(other, trial, answer),
+        None => alone(trial, answer),
+    }
 }
 
 /// Alone, an answer can only be held against what is true of all answers.
-#[cfg(not(feature = "box"))]
-fn verdict(trial: &Trial, answer: &Answer) -> Result<(), String> {
+fn alone(trial: &Trial, answer: &Answer) -> Result<(), String> {
     let check = answer::check(&trial.sheet, trial.lent.table);
     let found = [u64::from(check.number), check.place, check.kind];
     let follows = cases::check_from_run(answer).is_none_or(|wanted| wanted == found);
@@ -199,6 +208,32 @@ fn all_cases() -> u64 {
     tally.close()
 }
 
+/// Of a file whose lines are a sheet and its answer in turn, the answers begun
+/// with an allowance and a colon: the same lines with this interpreter's answers.
+fn table(file: &str) -> u64 {
+    let text = std::fs::read_to_string(file).expect("the file can be read");
+    let lines: Vec<&str> = text.lines().collect();
+    for pair in lines.chunks(2) {
+        let (sheet, allowance) = (pair[0], pair[1].split(':').next().unwrap_or_default());
+        let lent = Lent {
+            allowance: number(allowance.trim()),
+            ..Lent::default()
+        };
+        let a = answer::run(sheet.as_bytes(), &lent);
+        let printed: String = a.printed.iter().map(|byte| format!(" {byte}")).collect();
+        let Answer {
+            number,
+            place,
+            kind,
+            value,
+            units,
+            ..
+        } = a;
+        println!("{sheet}\n{allowance}: {number} {place} {kind} {value} {units}{printed}");
+    }
+    0
+}
+
 /// This interpreter needs its big stack; the other one gets the given one.
 fn all_deep(bytes: usize) -> u64 {
     let mut failed = 0;
@@ -217,18 +252,10 @@ fn all_deep(bytes: usize) -> u64 {
     failed
 }
 
-#[cfg(feature = "box")]
 fn deep_verdict(bytes: usize, trial: Trial, answer: Answer) -> Result<(), String> {
-    use second::compare::{compare, Stacked};
-    let other = Stacked {
-        bytes,
-        inner: box_ffi::Boxed,
-    };
-    on_big_stack(|| compare(&other, &trial, &answer))
-}
-
-#[cfg(not(feature = "box"))]
-fn deep_verdict(bytes: usize, trial: Trial, answer: Answer) -> Result<(), String> {
+    if let Some(other) = Piped::from_environment(bytes) {
+        return on_big_stack(|| compare(&other, &trial, &answer));
+    }
     let again = second::on_stack(bytes, || answer::run(&trial.sheet, &trial.lent));
     match again == answer {
         true => Ok(()),

@@ -1,54 +1,51 @@
 -- A function's body, and the function whole: one law for each way through the code.
-use mathlib.Core.List.{List, [], _∷_}
+use mathlib.Core.List.{List}
 use mathlib.Core.Option.{Option, none, some}
 use mathlib.Core.Path.{_≡_, refl, sym, ap, subst, subst₂, _∙_}
 use Prim.Native.Nat.{ℕ, zero, suc, _+_, _≤_, _<_}
-use native.Mathlib.Decide.{decLe}
-use native.Mathlib.Numerals.{add-one}
 use native.Mathlib.Omega.{arith}
 use lib.ListN.{length}
-use Rattle.language.specs.Sizes.{TOKENS, NODES, TABLE, REFS, FUNCTIONS}
-use Rattle.language.specs.Tokens.{Token, NAME, At}
-use Rattle.language.specs.Trees.{Ty, refs, Ty-discrete, Param, Def, Exp, Scope, empty, nearest, size}
-use Rattle.language.specs.Types.{Sig, sig, with-def}
+use Rattle.language.specs.Sizes.{TOKENS, NODES, TABLE, REFS}
+use Rattle.language.specs.Tokens.{Token}
+use Rattle.language.specs.Trees.{Ty, refs, Param, Def, Exp, Scope, empty}
+use Rattle.language.specs.Types.{Sig, with-def}
 use Rattle.language.specs.Faults as Faults
 use Rattle.language.specs.Meaning.{type-number}
 use Rattle.language.proofs.Types.TypeNumbers.{number-refs}
 use Rattle.language.proofs.Types.Verdict.{Res, ok, bad, after, need, after-ok, after-bad, need-yes, need-no}
 use Rattle.language.proofs.Types.Checker.{unbound, infer, take-params, check-def}
 use Rattle.layout.specs.Table.{row-word, function-row, without-variables}
-use Rattle.layout.specs.Names.{Stand}
 use Rattle.layout.specs.Rows.{below}
 use Rattle.layout.specs.Decode.{tree-at, Right, ParamsAt, params-none, params-more, FunctionAt}
 use Rattle.layout.proofs.NameLaws.{name-inside}
 use Rattle.layout.proofs.VariablesWords.{row-without, function-without}
 use Rattle.checker.specs.Checked.{meant}
-use Rattle.checker.specs.Sight.{Variables, Headed, function-name, Functions, functions-given, functions-more, Sheet, callee-in, Means}
+use Rattle.checker.specs.Sight.{Variables, Sheet}
 use Rattle.checker.specs.Asked.{Tells}
-use Rattle.checker.specs.Judged.{Kept, Ready, Told, Judged}
+use Rattle.checker.specs.Judged.{Kept, Ready, Judged}
 use Rattle.checker.specs.Ruled.{Rules, check-head, check-body, Headings, Taken, Next, Headlines, Fresh, Bodied, Fitting, Listed, Ruled}
 use Rattle.checker.specs.declared.Reason.{Reason}
-use Rattle.checker.specs.declared.Reason.the-variants.{TooManyFunctions, FunctionTwice, TooManyRefs, WrongBody}
+use Rattle.checker.specs.declared.Reason.the-variants.{TooManyRefs, WrongBody}
 use Rattle.checker.specs.declared.Typing.{Typing}
 use Rattle.checker.specs.declared.Typing.the-variants as Typing
-use Rattle.checker.specs.declared.sight.Callee.{Callee}
-use Rattle.checker.specs.declared.sight.Callee.the-variants as Callee
 use Rattle.checker.specs.declared.programs.Verdict.{Verdict}
 use Rattle.checker.specs.declared.programs.Verdict.the-variants as Verdict
 use Rattle.checker.proofs.TellLaws.{type-told, fault-told, tells-as}
 use Rattle.checker.proofs.OperatorLaws.{is-type, isnt-type}
 use Rattle.checker.proofs.KeptLaws.{kept-self, kept-then, kept-fewer, kept-row}
-use Rattle.checker.proofs.SheetLaws.{name-of, sheet-headed, callee-means}
-use Rattle.checker.proofs.PlainLaws.{headed-plain, name-plain, callee-plain}
-use Rattle.checker.proofs.FunctionLaws.{sheet-before, sheet-with, next-few, next-headed}
+use Rattle.checker.proofs.PlainLaws.{headed-plain}
+use Rattle.checker.proofs.FunctionLaws.{sheet-with, next-few, next-headed}
 
 -- ---- its body
 
-pub body-ready : {w : List ℕ} {k row root count : ℕ} → Bodied w k row → root ≡ row-word w row 4 → count ≡ row-word w row 2 → Ready w root (k + 1) count
+-- its root can be checked
+pub body-ready : {w : List ℕ} {k row root count : ℕ} → Bodied w k row → root ≡ row-word w row 4 → count ≡ row-word w row 2
+    → Ready w root (k + 1) count
 body-ready {w} {k} b e d = subst₂ (λ (i n : ℕ). Ready w i (k + 1) n) (sym e) (sym d) (b .ready)
 
 module _ {w : List ℕ} {k row : ℕ} (b : Bodied w k row) {at result : ℕ} (ea : at ≡ row-word w row 1) (er : result ≡ row-word w row 3) where
-  module _ {ts : List Token} {f : ℕ} {Δ : Scope Sig} {d : Def} (n : Next ts f (without-variables w) k Δ d) (e : row ≡ function-row (without-variables w) k) where
+  module _ {ts : List Token} {f : ℕ} {Δ : Scope Sig} {d : Def} (n : Next ts f (without-variables w) k Δ d) (e : row ≡ function-row
+      (without-variables w) k) where
     here : FunctionAt f ts (without-variables w) row d
     here = subst (λ (r : ℕ). FunctionAt f ts (without-variables w) r d) (sym e) (n .here)
 
@@ -106,8 +103,12 @@ module _ {w : List ℕ} {k row : ℕ} (b : Bodied w k row) {at result : ℕ} (ea
       type-fits s = record {
         kept = body-kept;
         right = λ ts f Δ Γ d n o vs.
-            let u = type-told (tells-as e (body-told n o vs)) in
-            (tt, need-yes _ _ _ _ (shallow n o few) (after-ok _ (u .1) (need-yes _ _ _ _ (is-type (u .0) (d .result) (u .2) (result-is n o) s) refl)), tt);
+            let u = type-told (tells-as e (body-told n o vs)) in (
+              tt,
+              need-yes _ _ _ _ (shallow n o few) (after-ok _ (u .1) (need-yes _ _ _ _ (is-type (u .0) (d .result) (u .2)
+                  (result-is n o) s) refl)),
+              tt,
+            );
       }
 
       -- and of another
@@ -124,13 +125,15 @@ module _ {w : List ℕ} {k row : ℕ} (b : Bodied w k row) {at result : ℕ} (ea
 
 -- where the head is fine the rest decides, and where it is not nothing does
 module _ {A B C : Type 0} (r q : Faults.Reason) (n m : ℕ) (f : Unit {0} → Res C) where
-  gate-fine : (d : Dec A) (o : Option B) → _≡_ {A = Res (Unit {0})} (need d r n λ _. unbound o q m λ _. ok tt) (ok tt) → need d r n (λ _. unbound o q m f) ≡ f tt
+  gate-fine : (d : Dec A) (o : Option B) → _≡_ {A = Res (Unit {0})} (need d r n λ _. unbound o q m λ _. ok tt) (ok tt)
+      → need d r n (λ _. unbound o q m f) ≡ f tt
   unfolding need unbound
   gate-fine (yes p) none e = refl
   gate-fine (yes p) (some a) e = absurd (let z : _≡_ {A = ℕ} 0 1 = cc in omega arith)
   gate-fine (no p) o e = absurd (let z : _≡_ {A = ℕ} 0 1 = cc in omega arith)
 
-  gate-wrong : (d : Dec A) (o : Option B) (s : Faults.Reason) (i : ℕ) → _≡_ {A = Res (Unit {0})} (need d r n λ _. unbound o q m λ _. ok tt) (bad s i)
+  gate-wrong : (d : Dec A) (o : Option B) (s : Faults.Reason) (i : ℕ)
+      → _≡_ {A = Res (Unit {0})} (need d r n λ _. unbound o q m λ _. ok tt) (bad s i)
       → need d r n (λ _. unbound o q m f) ≡ bad s i
   unfolding need unbound
   gate-wrong (yes p) none s i e = absurd (let z : _≡_ {A = ℕ} 0 1 = cc in omega arith)
@@ -138,7 +141,8 @@ module _ {A B C : Type 0} (r q : Faults.Reason) (n m : ℕ) (f : Unit {0} → Re
   gate-wrong (no p) o s i e = cc
 
 -- the names of parameters are tokens
-params-named : {ts : List Token} {w : List ℕ} {r : ℕ} {ps : List Param} → ParamsAt ts w r ps → length ts ≤ TOKENS → (j : ℕ) → j < length ps → row-word w (r + j) 1 < TOKENS
+params-named : {ts : List Token} {w : List ℕ} {r : ℕ} {ps : List Param} → ParamsAt ts w r ps → length ts ≤ TOKENS → (j : ℕ)
+    → j < length ps → row-word w (r + j) 1 < TOKENS
 params-named params-none few j l = absurd (omega arith)
 params-named {ts} {w} {r} (params-more {p = p} a n c t h) few zero l =
     let e : row-word w (r + 0) 1 ≡ p .at = ap (λ (i : ℕ). row-word w i 1) (omega arith) ∙ a in
@@ -154,9 +158,11 @@ module _ {w : List ℕ} {k row : ℕ} (l : Listed w k) (er : row ≡ function-ro
   at-row : FunctionAt (l .f) (l .tokens) (without-variables w) row (l .def)
   at-row = subst (λ (r : ℕ). FunctionAt (l .f) (l .tokens) (without-variables w) r (l .def)) (sym row-is) (l .next .here)
 
+  -- its row and the names before it
   pub listed-heads : Headlines w k row
   listed-heads = record { long = l .long; at = er; heads = λ j h. headed-plain w (next-headed (l .next) j h) }
 
+  -- the rows of its parameters
   pub listed-params : Headings w row
   listed-params =
       let a = at-row in
@@ -180,7 +186,8 @@ module _ {w : List ℕ} {k row : ℕ} (l : Listed w k) (er : row ≡ function-ro
   unfolding check-def
   head-ruled {v} h e = record {
     kept = kept-self w 0;
-    right = λ ts f Δ d n. gate-wrong _ _ _ _ _ _ _ _ _ (subst (λ (v : Verdict). Rules v (check-head Δ d) λ _. Unit {0}) e (h .right ts f Δ d n));
+    right = λ ts f Δ d n. gate-wrong _ _ _ _ _ _ _ _ _ (subst (λ (v : Verdict). Rules v (check-head Δ d) λ _. Unit {0}) e
+        (h .right ts f Δ d n));
   }
 
   module _ {u : Verdict} (h : Fresh w k u) (eu : u ≡ Verdict.Fine) {w₁ : List ℕ} {v : Verdict} (t : Taken w w₁ row v) where
@@ -192,7 +199,8 @@ module _ {w : List ℕ} {k row : ℕ} (l : Listed w k) (er : row ≡ function-ro
         let e = subst (λ (v : Verdict). Rules v (check-head Δ d) λ _. Unit {0}) eu (h .right ts f Δ d n) in
         gate-fine _ _ _ _ _ _ _ (e .1)
 
-    here-at : {ts : List Token} {f : ℕ} {Δ : Scope Sig} {d : Def} → Next ts f (without-variables w) k Δ d → FunctionAt f ts (without-variables w) row d
+    here-at : {ts : List Token} {f : ℕ} {Δ : Scope Sig} {d : Def} → Next ts f (without-variables w) k Δ d
+        → FunctionAt f ts (without-variables w) row d
     here-at {ts} {f} {d = d} n = subst (λ (r : ℕ). FunctionAt f ts (without-variables w) r d) (sym row-is) (n .here)
 
     -- a parameter is wrong
@@ -218,8 +226,10 @@ module _ {w : List ℕ} {k row : ℕ} (l : Listed w k) (er : row ≡ function-ro
           let a = at-row in
           let p = without-variables w in
           let c = taken (l .next) in
-          let r₂ : row-word w₁ row 2 ≡ length (l .def .params) = kept-row (t .kept) row 2 (a .inside) (omega arith) ∙ sym (row-without w row 2 (a .inside) (omega arith)) ∙ a .count in
-          let r₄ : row-word w₁ row 4 ≡ row-word p row 4 = kept-row (t .kept) row 4 (a .inside) (omega arith) ∙ sym (row-without w row 4 (a .inside) (omega arith)) in
+          let r₂ : row-word w₁ row 2 ≡ length (l .def .params) = kept-row (t .kept) row 2 (a .inside) (omega arith)
+          ∙ sym (row-without w row 2 (a .inside) (omega arith)) ∙ a .count in
+          let r₄ : row-word w₁ row 4 ≡ row-word p row 4 = kept-row (t .kept) row 4 (a .inside) (omega arith)
+          ∙ sym (row-without w row 4 (a .inside) (omega arith)) in
           let long : TABLE ≤ length w₁ = omega (arith, l .long, t .kept .long) in
           record {
             long = long;
@@ -233,11 +243,13 @@ module _ {w : List ℕ} {k row : ℕ} (l : Listed w k) (er : row ≡ function-ro
               long = long;
               stands = record {
                 depth = l .f;
-                sheet = subst (λ (v : List ℕ). Sheet (l .tokens) (l .f) v (k + 1) (with-def (l .functions) (l .def))) (sym (t .kept .rest)) (sheet-with (l .next));
+                sheet = subst (λ (v : List ℕ). Sheet (l .tokens) (l .f) v (k + 1) (with-def (l .functions) (l .def))) (sym
+                    (t .kept .rest)) (sheet-with (l .next));
                 whole = subst (λ (v : List ℕ). Right (l .f) (l .tokens) v (row-word p row 4)) (sym (t .kept .rest)) (a .right);
                 scope = c .2;
               };
-              room = subst (λ (v : List ℕ). length (l .def .params) + below (tree-at (l .f) (l .tokens) v (row-word p row 4)) < NODES) (sym (t .kept .rest))
+              room = subst (λ (v : List ℕ). length (l .def .params) + below (tree-at (l .f) (l .tokens) v (row-word p row 4)) < NODES)
+                  (sym (t .kept .rest))
                   (subst (λ (x : Exp). length (l .def .params) + below x < NODES) (sym (a .body)) (a .room));
             };
           }

@@ -1,24 +1,21 @@
 -- Arguments suit exactly when their types are those that the callee takes, and what a call then answers.
-use mathlib.Core.Bool.{Bool, true, false, cond, _&&_}
+use mathlib.Core.Bool.{Bool, true, false, _&&_}
 use mathlib.Core.List.{List, [], _∷_, map}
-use mathlib.Core.Option.{Option, none, some}
 use mathlib.Core.Path.{_≡_, refl, sym, ap, subst, _∙_}
-use Prim.Native.Nat.{ℕ, zero, suc, _+_, _≤_, _<_}
+use Prim.Native.Nat.{ℕ, suc, _+_}
 use native.Mathlib.Omega.{arith}
 use lib.Dec.{eqb}
 use lib.ListN.{length, length-map}
 use borrow.Author.Tests.{eqb-true, eqb-false, lt-ltb}
 use Rattle.language.specs.Tokens.{Token}
 use Rattle.language.specs.Trees.{Ty, int, Param}
-use Rattle.language.specs.Types.{Sig, sig}
-use Rattle.language.specs.Faults.{no-function}
+use Rattle.language.specs.Types.{sig}
 use Rattle.language.specs.Meaning.{type-number}
 use Rattle.language.proofs.Types.TypeNumbers.{one-number}
 use Rattle.language.proofs.Types.Verdict.{after-ok, after-bad, told-some, told-none}
 use Rattle.language.proofs.Types.Checker.{infer}
 use Rattle.layout.specs.Table.{row-word}
 use Rattle.layout.specs.Decode.{ParamsAt, params-none, params-more}
-use Rattle.checker.specs.Sight.{wanted-in}
 use Rattle.checker.specs.Asked.{suits, Matches, AsksCall}
 use Rattle.checker.specs.declared.Reason.the-variants.{NoFunction}
 use Rattle.checker.specs.declared.Typing.{Typing}
@@ -64,7 +61,8 @@ suits-putchar w (u ∷ v ∷ us) n = absurd (omega arith)
 
 module _ (w : List ℕ) {c : Callee} {n : ℕ} {b : Bool} (i : ℕ) where
   -- a function's answer
-  pub call-function : {r a g : ℕ} {q : Typing} → c ≡ Callee.Function r → a ≡ row-word w r 2 → g ≡ row-word w r 3 → Matches a g n b i q → AsksCall w c n b i q
+  pub call-function : {r a g : ℕ} {q : Typing} → c ≡ Callee.Function r → a ≡ row-word w r 2 → g ≡ row-word w r 3 → Matches a g n b i q
+      → AsksCall w c n b i q
   unfolding infer
   call-function {r} {q = q} e x y m =
       subst (λ (c : Callee). AsksCall w c n b i q) (sym e) λ ts f Δ Γ z es us h k l s.

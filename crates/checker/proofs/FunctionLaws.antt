@@ -1,45 +1,28 @@
 -- A function's head: the functions before it are counted, and its name is new. One law for each way through the code.
-use mathlib.Core.List.{List, [], _∷_}
-use mathlib.Core.Option.{Option, none, some}
+use mathlib.Core.List.{List}
+use mathlib.Core.Option.{some}
 use mathlib.Core.Path.{_≡_, refl, sym, ap, subst, _∙_}
-use Prim.Native.Nat.{ℕ, zero, suc, _+_, _≤_, _<_}
-use native.Mathlib.Decide.{decLe}
+use Prim.Native.Nat.{ℕ, suc, _+_, _≤_, _<_}
 use native.Mathlib.Numerals.{add-one}
 use native.Mathlib.Omega.{arith}
-use lib.ListN.{length}
-use Rattle.language.specs.Sizes.{TOKENS, NODES, TABLE, REFS, FUNCTIONS}
-use Rattle.language.specs.Tokens.{Token, NAME, At}
-use Rattle.language.specs.Trees.{Ty, refs, Ty-discrete, Param, Def, Exp, Scope, empty, nearest, size}
-use Rattle.language.specs.Types.{Sig, sig, with-def}
+use Rattle.language.specs.Sizes.{TOKENS, NODES, FUNCTIONS}
+use Rattle.language.specs.Tokens.{Token}
+use Rattle.language.specs.Trees.{Def, Scope, nearest, size}
+use Rattle.language.specs.Types.{Sig, with-def}
 use Rattle.language.specs.Faults as Faults
-use Rattle.language.specs.Meaning.{type-number}
-use Rattle.language.proofs.Types.TypeNumbers.{number-refs}
-use Rattle.language.proofs.Types.Verdict.{Res, ok, bad, after, need, after-ok, after-bad, need-yes, need-no}
-use Rattle.language.proofs.Types.Checker.{unbound, infer, take-params, check-def}
-use Rattle.layout.specs.Table.{row-word, function-row, without-variables}
-use Rattle.layout.specs.Names.{Stand}
-use Rattle.layout.specs.Rows.{below}
-use Rattle.layout.specs.Decode.{tree-at, Right, ParamsAt, params-none, params-more, FunctionAt}
-use Rattle.layout.proofs.NameLaws.{name-inside}
+use Rattle.language.proofs.Types.Verdict.{bad, need-yes, need-no}
+use Rattle.layout.specs.Table.{row-word, without-variables}
 use Rattle.layout.proofs.VariablesWords.{row-without, function-without}
 use Rattle.checker.specs.Checked.{meant}
-use Rattle.checker.specs.Sight.{Variables, Headed, function-name, Functions, functions-given, functions-more, Sheet, callee-in, Means}
-use Rattle.checker.specs.Asked.{Tells}
-use Rattle.checker.specs.Judged.{Kept, Ready, Told, Judged}
-use Rattle.checker.specs.Ruled.{Rules, check-head, check-body, Headings, Taken, Next, Headlines, Fresh, Bodied, Fitting, Listed, Ruled}
-use Rattle.checker.specs.declared.Reason.{Reason}
-use Rattle.checker.specs.declared.Reason.the-variants.{TooManyFunctions, FunctionTwice, TooManyRefs, WrongBody}
-use Rattle.checker.specs.declared.Typing.{Typing}
-use Rattle.checker.specs.declared.Typing.the-variants as Typing
+use Rattle.checker.specs.Sight.{Headed, function-name, Functions, functions-given, functions-more, Sheet, callee-in, Means}
+use Rattle.checker.specs.Ruled.{check-head, Next, Headlines, Fresh}
+use Rattle.checker.specs.declared.Reason.the-variants.{TooManyFunctions, FunctionTwice}
 use Rattle.checker.specs.declared.sight.Callee.{Callee}
 use Rattle.checker.specs.declared.sight.Callee.the-variants as Callee
 use Rattle.checker.specs.declared.programs.Verdict.{Verdict}
 use Rattle.checker.specs.declared.programs.Verdict.the-variants as Verdict
-use Rattle.checker.proofs.TellLaws.{type-told, fault-told}
-use Rattle.checker.proofs.OperatorLaws.{is-type, isnt-type}
-use Rattle.checker.proofs.KeptLaws.{kept-self, kept-then, kept-fewer, kept-row}
 use Rattle.checker.proofs.SheetLaws.{name-of, sheet-headed, callee-means}
-use Rattle.checker.proofs.PlainLaws.{headed-plain, name-plain, callee-plain}
+use Rattle.checker.proofs.PlainLaws.{name-plain, callee-plain}
 use Rattle.checker.proofs.ParameterLaws.{unbound-none, unbound-some}
 
 -- ---- the functions in sight
@@ -57,16 +40,25 @@ module _ {ts : List Token} {f : ℕ} {p : List ℕ} {k : ℕ} {Δ : Scope Sig} {
 
   -- and those that its body sees
   pub sheet-with : Sheet ts f p (k + 1) (with-def Δ d)
-  sheet-with = record { count = n .count; stand = n .stand; few = omega (arith, n .few); functions = functions-more (add-one k) (n .here) (n .before) }
+  sheet-with = record {
+    count = n .count;
+    stand = n .stand;
+    few = omega (arith, n .few);
+    functions = functions-more (add-one k)
+        (n .here) (n .before);
+  }
 
+  -- it is one of the functions that there is room for
   pub next-few : k < TOKENS
   next-few = omega (arith, n .few, n .stand .few)
 
+  -- its head, and those before it
   pub next-headed : (j : ℕ) → j ≤ k → Headed p j
   next-headed j l = sheet-headed sheet-with j (omega arith)
 
 -- ---- its head
 
+-- its row is one of the rows
 pub heads-inside : {w : List ℕ} {k row : ℕ} → Headlines w k row → row < NODES
 heads-inside {k = k} h = omega (arith, h .at, h .heads k (omega arith) .row)
 
@@ -77,9 +69,11 @@ module _ {w : List ℕ} {k row : ℕ} (h : Headlines w k row) {at : ℕ} (ea : a
       let e = function-without w k (next-few n) in
       ea ∙ ap (λ (i : ℕ). row-word w i 1) (h .at ∙ sym e) ∙ sym (row-without w _ 1 (n .here .inside) (omega arith)) ∙ n .here .at
 
+  -- and its name one of the tokens
   pub def-inside : at + 1 < TOKENS
   def-inside = let e = ea ∙ ap (λ (i : ℕ). row-word w i 1) (h .at) in omega (arith, h .heads k (omega arith) .name)
 
+  -- too many functions before it
   pub many-fresh : FUNCTIONS ≤ k → Fresh w k (Verdict.Wrong TooManyFunctions at)
   many-fresh l = record {
     right = λ ts f Δ d n.
@@ -89,7 +83,8 @@ module _ {w : List ℕ} {k row : ℕ} (h : Headlines w k row) {at : ℕ} (ea : a
 
   module _ (few : k < FUNCTIONS) {name : ℕ} {c : Callee} (en : name ≡ function-name w k) (ec : c ≡ callee-in w name k) where
     -- whom its name means before it
-    means : {ts : List Token} {f : ℕ} {Δ : Scope Sig} {d : Def} → Next ts f (without-variables w) k Δ d → Means f ts (without-variables w) c (nearest (d .called) Δ)
+    means : {ts : List Token} {f : ℕ} {Δ : Scope Sig} {d : Def} → Next ts f (without-variables w) k Δ d
+        → Means f ts (without-variables w) c (nearest (d .called) Δ)
     means {ts} {f} {Δ} {d} n =
         let p = without-variables w in
         let a = callee-means (sheet-before n) (name-of (n .stand) k (n .here)) in
@@ -98,26 +93,35 @@ module _ {w : List ℕ} {k row : ℕ} (h : Headlines w k row) {at : ℕ} (ea : a
         ∙ ap (λ (x : ℕ). callee-in w x k) (name-plain w (next-headed n k (omega arith)) ∙ sym en) ∙ sym ec in
         subst (λ (c : Callee). Means f ts p c (nearest (d .called) Δ)) e a
 
-    twice : {s : Sig} {ts : List Token} {f : ℕ} {Δ : Scope Sig} {d : Def} → (n : Next ts f (without-variables w) k Δ d) → nearest (d .called) Δ ≡ some s
+    twice : {s : Sig} {ts : List Token} {f : ℕ} {Δ : Scope Sig} {d : Def} → (n : Next ts f (without-variables w) k Δ d)
+        → nearest (d .called) Δ ≡ some s
         → check-head Δ d ≡ bad Faults.function-twice (at + 1)
     twice n e =
         let s = functions-size (n .before) in
-        need-yes _ _ _ _ (omega arith) (unbound-some _ _ _ e) ∙ ap (bad Faults.function-twice) (n .here .named ∙ ap (λ (i : ℕ). i + 1) (sym (def-at n)))
+        need-yes _ _ _ _ (omega arith) (unbound-some _ _ _ e) ∙ ap (bad Faults.function-twice) (n .here .named
+        ∙ ap (λ (i : ℕ). i + 1) (sym (def-at n)))
 
+    -- a name that is another function's
     pub function-fresh : {r : ℕ} → c ≡ Callee.Function r → Fresh w k (Verdict.Wrong FunctionTwice (at + 1))
     function-fresh e = record {
       right = λ ts f Δ d n.
           twice n (subst (λ (c : Callee). Means f ts (without-variables w) c (nearest (d .called) Δ)) e (means n) .2);
     }
 
+    -- the name `putchar`
     pub putchar-fresh : c ≡ Callee.Putchar → Fresh w k (Verdict.Wrong FunctionTwice (at + 1))
     putchar-fresh e = record {
       right = λ ts f Δ d n. twice n (subst (λ (c : Callee). Means f ts (without-variables w) c (nearest (d .called) Δ)) e (means n));
     }
 
+    -- a new name
     pub nobody-fresh : c ≡ Callee.Nobody → Fresh w k Verdict.Fine
     nobody-fresh e = record {
       right = λ ts f Δ d n.
-          let s = functions-size (n .before) in
-          (tt, need-yes _ _ _ _ (omega arith) (unbound-none _ _ _ (subst (λ (c : Callee). Means f ts (without-variables w) c (nearest (d .called) Δ)) e (means n)) refl), tt);
+          let s = functions-size (n .before) in (
+            tt,
+            need-yes _ _ _ _ (omega arith) (unbound-none _ _ _ (subst (λ (c : Callee). Means f ts (without-variables w) c (nearest
+                (d .called) Δ)) e (means n)) refl),
+            tt,
+          );
     }

@@ -2,7 +2,7 @@
 use mathlib.Core.Bool.{Bool}
 use mathlib.Core.List.{List}
 use mathlib.Core.Path.{_≡_, refl, sym, ap, subst, _∙_}
-use Prim.Native.Nat.{ℕ, suc, _+_, _*_, _≤_, _<_}
+use Prim.Native.Nat.{ℕ, _+_, _*_, _≤_, _<_}
 use native.Mathlib.Numerals.{add-one}
 use native.Mathlib.Omega.{arith}
 use lib.ListN.{length}
@@ -12,7 +12,7 @@ use Rattle.language.specs.Trees.{Name, Ty, Scope, push}
 use Rattle.language.specs.Types.{Sig}
 use Rattle.language.specs.Meaning.{type-number}
 use Rattle.language.proofs.Types.Checker.{infer, infers}
-use Rattle.layout.specs.Table.{VARIABLES-AT, row-word, variable-name, variable-kind, put-variable, without-variables}
+use Rattle.layout.specs.Table.{VARIABLES-AT, row-word, put-variable, without-variables}
 use Rattle.layout.specs.Decode.{tree-at, args-at}
 use Rattle.layout.proofs.NameLaws.{Named}
 use Rattle.layout.proofs.VariablesWords.{row-without, length-put-variable, without-put-variable, put-variable-name, put-variable-kind, put-variable-before}
@@ -54,12 +54,16 @@ pub kept-row : {v w : List ℕ} {binds : ℕ} → Kept v w binds → (i k : ℕ)
 kept-row {v} {w} h i k l m = sym (row-without w i k l m) ∙ ap (λ (p : List ℕ). row-word p i k) (h .rest) ∙ row-without v i k l m
 
 -- variables that are kept are the same variables
-variables-same : {ts : List Token} {v w : List ℕ} {n : ℕ} {Γ : Scope Ty} {binds : ℕ} → n ≤ binds → Kept v w binds → Variables ts v n Γ → Variables ts w n Γ
+variables-same : {ts : List Token} {v w : List ℕ} {n : ℕ} {Γ : Scope Ty} {binds : ℕ} → n ≤ binds → Kept v w binds → Variables ts v n Γ
+    → Variables ts w n Γ
 variables-same l k variables-none = variables-none
 variables-same {ts} l k (variables-more {n = n} {x = x} e a b r) =
-    variables-more e (subst (λ (y : ℕ). Named ts y x) (sym (k .names n (omega arith))) a) (k .kinds n (omega arith) ∙ b) (variables-same (omega arith) k r)
+    variables-more e (subst (λ (y : ℕ). Named ts y x) (sym (k .names n (omega arith))) a) (k .kinds n (omega arith)
+    ∙ b) (variables-same (omega arith) k r)
 
-pub variables-kept : {ts : List Token} {v w : List ℕ} {binds : ℕ} {Γ : Scope Ty} → Kept v w binds → Variables ts v binds Γ → Variables ts w binds Γ
+-- all of them
+pub variables-kept : {ts : List Token} {v w : List ℕ} {binds : ℕ} {Γ : Scope Ty} → Kept v w binds → Variables ts v binds Γ
+    → Variables ts w binds Γ
 variables-kept k r = variables-same (omega arith) k r
 
 -- one more variable
@@ -71,18 +75,23 @@ variables-put {ts} {w} {n} {x = x} {y = y} {k = k} l h a b r =
     (variables-kept (kept-put w n x k h) r)
 
 -- the words go on to stand for what they stood for
-pub stands-kept : {Whole : ℕ → List Token → List ℕ → ℕ → Type 0} {v w : List ℕ} {i seen binds : ℕ} {ts : List Token} {f : ℕ} {Δ : Scope Sig} {Γ : Scope Ty}
-    → Kept v w binds → Stands Whole (without-variables v) v i seen binds ts f Δ Γ → Stands Whole (without-variables w) w i seen binds ts f Δ Γ
+pub stands-kept : {Whole : ℕ → List Token → List ℕ → ℕ
+    → Type 0} {v w : List ℕ} {i seen binds : ℕ} {ts : List Token} {f : ℕ} {Δ : Scope Sig} {Γ : Scope Ty}
+    → Kept v w binds → Stands Whole (without-variables v) v i seen binds ts f Δ Γ
+    → Stands Whole (without-variables w) w i seen binds ts f Δ Γ
 stands-kept {Whole} {w = w} {i = i} {seen = seen} {binds = binds} {ts = ts} {f = f} {Δ = Δ} {Γ = Γ} k s =
     subst (λ (p : List ℕ). Stands Whole p w i seen binds ts f Δ Γ) (sym (k .rest))
     (record { depth = s .depth; sheet = s .sheet; whole = s .whole; scope = variables-kept k (s .scope) })
 
 -- what was told after a step was so before it
 module _ {v w : List ℕ} {binds : ℕ} (k : Kept v w binds) where
-  pub told-before : {node seen : ℕ} {r : Typing} → Told (without-variables w) w node seen binds r → Told (without-variables v) v node seen binds r
+  -- of a node
+  pub told-before : {node seen : ℕ} {r : Typing} → Told (without-variables w) w node seen binds r
+      → Told (without-variables v) v node seen binds r
   told-before {node} {r = r} h ts f Δ Γ st =
       subst (λ (p : List ℕ). Tells r (infer Δ (tree-at f ts p node) Γ)) (k .rest) (h ts f Δ Γ (stands-kept k st))
 
+  -- of arguments
   pub told-all-before : {row seen n : ℕ} {c : Callee} {b : Bool} {r : Passed} → ToldAll (without-variables w) w row seen binds c n b r
       → ToldAll (without-variables v) v row seen binds c n b r
   told-all-before {row} {n = n} {c = c} {b = b} {r = r} h ts f Δ Γ st =

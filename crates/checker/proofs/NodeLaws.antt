@@ -1,40 +1,39 @@
 -- A node's answer from its children's, one law for each way through the code: a fault of a child is the node's, and when
 -- all children have types the node asks.
-use mathlib.Core.Bool.{Bool, true, false}
 use mathlib.Core.List.{List}
-use mathlib.Core.Option.{Option, none, some}
+use mathlib.Core.Option.{some}
 use mathlib.Core.Path.{_≡_, refl, sym, ap, subst, subst₂, _∙_}
-use Prim.Native.Nat.{ℕ, zero, suc, _+_, _≤_, _<_}
+use Prim.Native.Nat.{ℕ, zero, suc, _≤_}
 use native.Mathlib.Omega.{arith}
-use lib.ListN.{length}
-use Rattle.language.specs.Sizes.{TOKENS, NODES}
 use Rattle.language.specs.Tokens.{Token, entry, NAME, LET, spelling-at}
-use Rattle.language.specs.Trees.{Name, Ty, Exp, name, branch, call, bind, Exps, Scope, push}
+use Rattle.language.specs.Trees.{Ty, Exp, Exps, Scope}
 use Rattle.language.specs.Types.{Sig}
 use Rattle.language.specs.Meaning.{type-number}
-use Rattle.language.proofs.Types.Verdict.{Res, ok, bad, after-ok, after-bad}
-use Rattle.language.proofs.Types.Checker.{infer, infers}
-use Rattle.layout.specs.Table.{token-word, row-word, without-variables}
-use Rattle.layout.specs.Rows.{CALL, below, under}
+use Rattle.language.proofs.Types.Verdict.{ok, after-ok, after-bad}
+use Rattle.language.proofs.Types.Checker.{infer}
+use Rattle.layout.specs.Table.{token-word, row-word}
+use Rattle.layout.specs.Rows.{CALL}
 use Rattle.layout.specs.Decode.{Shape, a-name, a-follow, a-group, a-block, a-call, a-let, an-if, a-while, a-unary, a-binary, shape-of, children, build, build-if, tree-at, args-at, Node, Right, RightArgs}
 use Rattle.layout.proofs.NameLaws.{Named, named-at}
 use Rattle.layout.proofs.VariablesTrees.{shape-kind, kind-of-shape}
 use Rattle.checker.specs.Sight.{find-variable}
-use Rattle.checker.specs.Asked.{Tells, Children, Constant, AsksOne, AsksTwo, AsksIf, AsksCall}
+use Rattle.checker.specs.Asked.{Tells, Children, Constant, AsksOne, AsksTwo, AsksIf}
 use Rattle.checker.specs.Judged.{Stands, looked, Told}
 use Rattle.checker.specs.declared.Reason.{Reason}
 use Rattle.checker.specs.declared.Typing.{Typing}
 use Rattle.checker.specs.declared.Typing.the-variants as Typing
-use Rattle.checker.proofs.TellLaws.{type-is, fault-is, type-told, fault-told, tells-from}
+use Rattle.checker.proofs.TellLaws.{type-is, fault-is, type-told, fault-told}
 use Rattle.checker.proofs.SheetLaws.{look-tells, sheet-few}
-use Rattle.checker.proofs.ShapeLaws.{OneChild, is-group, is-block, is-unary, one-child, TwoChildren, is-follow, is-while, is-let, is-binary, two-children, three-children}
+use Rattle.checker.proofs.ShapeLaws.{TwoChildren, is-follow, is-while, is-let, is-binary, two-children, three-children}
 
 -- ---- a row as a node
 
 -- what a whole row is: its parts, by its shape
 module _ (f : ℕ) (ts : List Token) (p : List ℕ) (i : ℕ) (s : Shape) (known : shape-of (row-word p i 0) ≡ some s) where
+  -- a row's tree is its shape's node over the trees of its parts
   pub tree-is : tree-at (suc f) ts p i
-      ≡ build ts s (row-word p i 1) (tree-at f ts p (row-word p i 2)) (tree-at f ts p (row-word p i 3)) (tree-at f ts p (row-word p i 4)) (args-at f ts p (row-word p i 2))
+      ≡ build ts s (row-word p i 1) (tree-at f ts p (row-word p i 2)) (tree-at f ts p (row-word p i 3)) (tree-at f ts p
+      (row-word p i 4)) (args-at f ts p (row-word p i 2))
   unfolding tree-at build-if
   tree-is = rw known refl
 
@@ -51,7 +50,8 @@ not-let k other s e d = other (kind-of-shape k s e ∙ ap shape-kind d)
 
 module _ (ts : List Token) (Δ : Scope Sig) (Γ : Scope Ty) (i : ℕ) (a b c : Exp) (es : Exps) {r : Reason} {j : ℕ} where
   -- the first child's is the node's
-  first-wrong : (s : Shape) → 1 ≤ children s → Tells (Typing.Fault r j) (infer Δ a Γ) → Tells (Typing.Fault r j) (infer Δ (build ts s i a b c es) Γ)
+  first-wrong : (s : Shape) → 1 ≤ children s → Tells (Typing.Fault r j) (infer Δ a Γ)
+      → Tells (Typing.Fault r j) (infer Δ (build ts s i a b c es) Γ)
   unfolding infer build
   first-wrong a-name l h = absurd (omega arith)
   first-wrong Shape.a-number l h = absurd (omega arith)
@@ -77,6 +77,7 @@ module _ (ts : List Token) (Δ : Scope Sig) (Γ : Scope Ty) (i : ℕ) (a b c : E
 
 -- ---- what stands for a node stands for its children
 
+-- a part stands in the same sight
 pub stands-child : {p w : List ℕ} {node seen binds : ℕ} {ts : List Token} {Δ : Scope Sig} {Γ : Scope Ty} {f j k : ℕ}
     → Stands Right p w node seen binds ts k Δ Γ → Right f ts p j → Stands Right p w j seen binds ts f Δ Γ
 stands-child st h = record { depth = st .depth; sheet = st .sheet; whole = h; scope = st .scope }
@@ -104,11 +105,13 @@ module _ {p w : List ℕ} {node seen binds : ℕ} where
       → Told p w node seen binds r
   told-shape {r} s e h =
       told-node λ ts f Δ Γ st n.
-      subst (λ (q : Shape). Tells r (infer Δ (over f ts p node q) Γ)) (shape-one (row-word p node 0) s (n .shape) e (n .known)) (h ts f Δ Γ st n)
+      subst (λ (q : Shape). Tells r (infer Δ (over f ts p node q) Γ)) (shape-one (row-word p node 0) s (n .shape) e (n .known))
+      (h ts f Δ Γ st n)
 
   module _ {m : ℕ} (has : Children (row-word p node 0) m) where
     -- a fault of the first child
-    pub first-stops : {r : Reason} {j : ℕ} → 1 ≤ m → Told p w (row-word p node 2) seen binds (Typing.Fault r j) → Told p w node seen binds (Typing.Fault r j)
+    pub first-stops : {r : Reason} {j : ℕ} → 1 ≤ m → Told p w (row-word p node 2) seen binds (Typing.Fault r j)
+        → Told p w node seen binds (Typing.Fault r j)
     first-stops l h =
         told-node λ ts f Δ Γ st n.
         let a : 1 ≤ children (n .shape) = let e = has (n .shape) (n .known) in omega arith in
@@ -116,6 +119,7 @@ module _ {p w : List ℕ} {node seen binds : ℕ} where
 
   -- ---- one child
 
+  -- a node with one child asks
   pub one-goes : {k i n : ℕ} {r : Typing} → Children (row-word p node 0) 1 → k ≡ row-word p node 0 → i ≡ row-word p node 1
       → Told p w (row-word p node 2) seen binds (Typing.«Type» n) → AsksOne k n i r → Told p w node seen binds r
   one-goes {n = n} {r = r} has ek ei h asks =
@@ -126,9 +130,11 @@ module _ {p w : List ℕ} {node seen binds : ℕ} where
 
   -- ---- two children
 
-  module _ (has : Children (row-word p node 0) 2) (other : row-word p node 0 ≡ LET → ⊥) {m : ℕ} (h : Told p w (row-word p node 2) seen binds (Typing.«Type» m)) where
+  module _ (has : Children (row-word p node 0) 2) (other : row-word p node 0 ≡ LET
+      → ⊥) {m : ℕ} (h : Told p w (row-word p node 2) seen binds (Typing.«Type» m)) where
     -- a fault of the second
-    pub second-stops : {r : Reason} {j : ℕ} → Told p w (row-word p node 3) seen binds (Typing.Fault r j) → Told p w node seen binds (Typing.Fault r j)
+    pub second-stops : {r : Reason} {j : ℕ} → Told p w (row-word p node 3) seen binds (Typing.Fault r j)
+        → Told p w node seen binds (Typing.Fault r j)
     second-stops g =
         told-node λ ts f Δ Γ st nd.
         let a = has (nd .shape) (nd .known) in
@@ -136,6 +142,7 @@ module _ {p w : List ℕ} {node seen binds : ℕ} where
         second-wrong ts Δ Γ _ _ _ _ _ (nd .shape) (two-children (nd .shape) (sym a)) (not-let _ other (nd .shape) (nd .known)) (q .1)
         (g ts f Δ Γ (stands-child st (nd .second (omega arith) .1)))
 
+    -- both have types: the node asks
     pub two-goes : {k i n : ℕ} {r : Typing} → k ≡ row-word p node 0 → i ≡ row-word p node 1
         → Told p w (row-word p node 3) seen binds (Typing.«Type» n) → AsksTwo k m n i r → Told p w node seen binds r
     two-goes {n = n} {r = r} ek ei g asks =
@@ -143,7 +150,8 @@ module _ {p w : List ℕ} {node seen binds : ℕ} where
         let a = has (nd .shape) (nd .known) in
         let q = type-told (h ts f Δ Γ (stands-child st (nd .first (omega arith) .1))) in
         let u = type-told (g ts f Δ Γ (stands-child st (nd .second (omega arith) .1))) in
-        subst₂ (λ (k i : ℕ). AsksTwo k m n i r) ek ei asks ts (nd .shape) Δ Γ _ _ _ _ (q .0) (u .0) (nd .known) (sym a) other (q .1) (q .2) (u .1) (u .2)
+        subst₂ (λ (k i : ℕ). AsksTwo k m n i r) ek ei asks ts (nd .shape) Δ Γ _ _ _ _ (q .0) (u .0) (nd .known) (sym a) other (q .1)
+        (q .2) (u .1) (u .2)
 
   -- ---- three children
 
@@ -161,41 +169,51 @@ module _ {p w : List ℕ} {node seen binds : ℕ} where
         (g ts f Δ Γ st (q .0) (q .1) (q .2) (nd .second (omega arith) .1) (nd .third (omega arith) .1))
 
     -- a fault of the first branch
-    pub then-stops : {r : Reason} {j : ℕ} → Told p w (row-word p node 3) seen binds (Typing.Fault r j) → Told p w node seen binds (Typing.Fault r j)
+    pub then-stops : {r : Reason} {j : ℕ} → Told p w (row-word p node 3) seen binds (Typing.Fault r j)
+        → Told p w node seen binds (Typing.Fault r j)
     unfolding infer build
     then-stops g = if-shape λ ts f Δ Γ st b e k x y. fault-is (after-ok _ e (after-bad _ (fault-told (g ts f Δ Γ (stands-child st x)))))
 
     module _ {n : ℕ} (g : Told p w (row-word p node 3) seen binds (Typing.«Type» n)) where
       -- of the second
-      pub else-stops : {r : Reason} {j : ℕ} → Told p w (row-word p node 4) seen binds (Typing.Fault r j) → Told p w node seen binds (Typing.Fault r j)
+      pub else-stops : {r : Reason} {j : ℕ} → Told p w (row-word p node 4) seen binds (Typing.Fault r j)
+          → Told p w node seen binds (Typing.Fault r j)
       unfolding infer build
       else-stops d =
           if-shape λ ts f Δ Γ st b e k x y.
           let q = type-told (g ts f Δ Γ (stands-child st x)) in
           fault-is (after-ok _ e (after-ok _ (q .1) (after-bad _ (fault-told (d ts f Δ Γ (stands-child st y))))))
 
-      pub if-goes : {l i : ℕ} {r : Typing} → i ≡ row-word p node 1 → Told p w (row-word p node 4) seen binds (Typing.«Type» l) → AsksIf m n l i r
+      -- all three have types: the `if` asks
+      pub if-goes : {l i : ℕ} {r : Typing} → i ≡ row-word p node 1 → Told p w (row-word p node 4) seen binds (Typing.«Type» l)
+          → AsksIf m n l i r
           → Told p w node seen binds r
       unfolding build
       if-goes {l} {r = r} ei d asks =
           if-shape λ ts f Δ Γ st b e k x y.
           let q = type-told (g ts f Δ Γ (stands-child st x)) in
           let u = type-told (d ts f Δ Γ (stands-child st y)) in
-          subst (λ (i : ℕ). AsksIf m n l i r) ei asks Δ Γ (tree-at f ts p (row-word p node 2)) (tree-at f ts p (row-word p node 3)) (tree-at f ts p (row-word p node 4)) b (q .0) (u .0) e k (q .1) (q .2) (u .1) (u .2)
+          subst (λ (i : ℕ). AsksIf m n l i r) ei asks Δ Γ (tree-at f ts p (row-word p node 2)) (tree-at f ts p (row-word p node 3))
+          (tree-at f ts p (row-word p node 4)) b (q .0) (u .0) e k (q .1) (q .2) (u .1) (u .2)
 
   -- ---- a name, a constant
 
+  -- a name is looked up
   pub name-goes : {x i : ℕ} → row-word p node 0 ≡ NAME → i ≡ row-word p node 1 → x ≡ token-word p (row-word p node 1) 3
       → Told p w node seen binds (looked (find-variable w x binds) i)
   unfolding infer build shape-of entry
   name-goes k ei ex =
       told-shape a-name (ap shape-of k) λ ts f Δ Γ st nd.
       let h = named-at (st .sheet .stand) (row-word p node 1) (nd .named k) in
-      rw ei (look-tells (sheet-few (st .sheet)) (subst (λ (z : ℕ). Named ts z (spelling-at ts (row-word p node 1))) (sym ex) h) (row-word p node 1) (st .scope))
+      rw ei (look-tells (sheet-few (st .sheet)) (subst (λ (z : ℕ). Named ts z (spelling-at ts (row-word p node 1))) (sym ex) h)
+      (row-word p node 1) (st .scope))
 
-  pub constant-goes : {k n : ℕ} → k ≡ row-word p node 0 → Children (row-word p node 0) 0 → (row-word p node 0 ≡ NAME → ⊥) → (row-word p node 0 ≡ CALL → ⊥)
+  -- a constant has its type
+  pub constant-goes : {k n : ℕ} → k ≡ row-word p node 0 → Children (row-word p node 0) 0 → (row-word p node 0 ≡ NAME → ⊥)
+      → (row-word p node 0 ≡ CALL → ⊥)
       → Constant k n → Told p w node seen binds (Typing.«Type» n)
   constant-goes {n = n} ek has nn nc c =
       told-node λ ts f Δ Γ st nd.
-      let q = subst (λ (k : ℕ). Constant k n) ek c ts (nd .shape) Δ Γ (row-word p node 1) _ _ _ _ (nd .known) (sym (has (nd .shape) (nd .known))) nn nc in
+      let q = subst (λ (k : ℕ). Constant k n) ek c ts (nd .shape) Δ Γ (row-word p node 1) _ _ _ _ (nd .known) (sym (has (nd .shape)
+      (nd .known))) nn nc in
       type-is (q .0) (q .1) (q .2)

@@ -68,5 +68,8 @@ one-answer p (Typing.Fault r i) (Typing.Fault q j) a b =
 -- no two answers satisfy the contract, nor do two tables
 pub checked-once : {w v u : List ℕ} {count defs root : ℕ} {r q : Typing} → Checkable w count defs root
     → Checked w v count defs root r → Checked w u count defs root q → (r ≡ q) × (v ≡ u)
-checked-once {r = r} {q = q} c a b =
-    (one-answer (c .program) r q (a .right (c .tokens) (c .program) (c .holds)) (b .right (c .tokens) (c .program) (c .holds)), a .table ∙ sym (b .table))
+checked-once {r = r} {q = q} c a b = (
+  one-answer (c .program) r q (a .right (c .tokens) (c .program) (c .holds)) (b .right (c .tokens) (c .program)
+      (c .holds)),
+  a .table ∙ sym (b .table),
+)

@@ -1,8 +1,7 @@
 -- What operators answer by the numbers of their operands' types, one law for each way through the code.
-use mathlib.Core.Bool.{Bool, true, false, cond}
-use mathlib.Core.Option.{Option, none, some}
+use mathlib.Core.Option.{none, some}
 use mathlib.Core.Path.{_≡_, refl, sym, ap, subst, _∙_}
-use Prim.Native.Nat.{ℕ, suc, _+_, _-_, _*_, _≤_, _<_}
+use Prim.Native.Nat.{ℕ, _+_, _-_, _≤_, _<_}
 use native.Mathlib.Decide.{decLt}
 use native.Mathlib.Omega.{arith}
 use Rattle.language.specs.Sizes.{REFS}
@@ -11,10 +10,10 @@ use Rattle.language.specs.Trees.{Ty, int, bool, unit, ref, refs, Ty-discrete, U
 use Rattle.language.specs.Faults.{unsuited, wrong-operands}
 use Rattle.language.specs.Meaning.{type-number}
 use Rattle.language.proofs.Types.TypeNumbers.{one-number, number-refs}
-use Rattle.language.proofs.Types.Verdict.{Res, ok, bad, told, told-some, told-none}
+use Rattle.language.proofs.Types.Verdict.{ok, bad, told, told-some, told-none}
 use Rattle.language.proofs.Types.Operators.{if-yes, both, unop, binop}
 use Rattle.layout.specs.Rows.{unary-kind, binary-kind}
-use Rattle.checker.specs.Asked.{Tells, Prefixed, Between, operand, result}
+use Rattle.checker.specs.Asked.{Tells, Prefixed, Between, operand, result, Operand, Result}
 use Rattle.checker.specs.declared.Reason.the-variants.{WrongOperands}
 use Rattle.checker.specs.declared.Typing.{Typing}
 use Rattle.checker.specs.declared.Typing.the-variants as Typing
@@ -33,21 +32,25 @@ module _ (t u : Ty) {m n : ℕ} (p : m ≡ type-number t) (q : n ≡ type-number
 
 -- ---- what is asked holds or does not
 
+-- where a statement holds its type is given
 pub if-is : {A : Type 0} (d : Dec A) (t : Ty) → A → if-yes d t ≡ some t
 unfolding if-yes
 if-is (yes p) t a = refl
 if-is (no p) t a = absurd (p a)
 
+-- and else none
 pub if-not : {A : Type 0} (d : Dec A) (t : Ty) → (A → ⊥) → if-yes d t ≡ none
 unfolding if-yes
 if-not (yes p) t h = absurd (h p)
 if-not (no p) t h = refl
 
+-- where both hold their type is given
 pub both-are : {A B : Type 0} (d : Dec A) (e : Dec B) (t : Ty) → A → B → both d e t ≡ some t
 unfolding both
 both-are (yes p) e t a b = if-is e t b
 both-are (no p) e t a b = absurd (p a)
 
+-- and else none
 pub both-not : {A B : Type 0} (d : Dec A) (e : Dec B) (t : Ty) → (A → B → ⊥) → both d e t ≡ none
 unfolding both
 both-not (yes p) e t h = if-not e t (h p)
@@ -85,6 +88,7 @@ module _ {n : ℕ} (i : ℕ) (t : Ty) (p : n ≡ type-number t) where
       let k = number-refs t in
       type-is (ref t) (told-some _ _ (if-is (decLt (refs t) REFS) (ref t) (omega (arith, k .0)))) (omega arith)
 
+  -- and else too many
   pub new-none : 120 ≤ n → told (unop new t) (unsuited new) i ≡ bad (unsuited new) i
   unfolding unop
   new-none h = let k = number-refs t in told-none _ _ (if-not (decLt (refs t) REFS) (ref t) (λ l. omega (arith, k .1)))
@@ -110,7 +114,8 @@ unary-one new new e = refl
 
 module _ {k n : ℕ} (i : ℕ) {r : Typing} where
   -- a kind that is one operator's
-  pub prefixed : (q : Unary) → k ≡ unary-kind q → ((t : Ty) → n ≡ type-number t → Tells r (told (unop q t) (unsuited q) i)) → Prefixed k n i r
+  pub prefixed : (q : Unary) → k ≡ unary-kind q → ((t : Ty) → n ≡ type-number t → Tells r (told (unop q t) (unsuited q) i))
+      → Prefixed k n i r
   prefixed q e h o t d p =
       subst (λ (o : Unary). Tells r (told (unop o t) (unsuited o) i)) (unary-one q o (sym e ∙ d)) (h t p)
 
@@ -125,6 +130,7 @@ module _ {k n : ℕ} (i : ℕ) {r : Typing} where
 -- ---- between two operands
 
 module _ {m n : ℕ} (i : ℕ) (t u : Ty) (p : m ≡ type-number t) (q : n ≡ type-number u) where
+  -- a reference to what is assigned
   pub assign-some : 8 < m → m - 8 ≡ n → told (binop assign t u) wrong-operands i ≡ ok unit
   unfolding binop type-number
   assign-some = go t p
@@ -135,6 +141,7 @@ module _ {m n : ℕ} (i : ℕ) (t u : Ty) (p : m ≡ type-number t) (q : n ≡ t
       go unit p h e = absurd (omega arith)
       go (ref v) p h e = told-some _ _ (if-is (Ty-discrete v u) unit (one-number v u (omega arith)))
 
+  -- and nothing else can be assigned to
   pub assign-none : (8 < m → m - 8 ≡ n → ⊥) → told (binop assign t u) wrong-operands i ≡ bad wrong-operands i
   unfolding binop type-number
   assign-none = go t p
@@ -166,7 +173,9 @@ unfolding binary-kind
 not-assign k other o d e = other (d ∙ ap binary-kind e)
 
 module _ {k m n : ℕ} (i : ℕ) {r : Typing} where
-  pub between-assign : k ≡ BECOMES → ((t u : Ty) → m ≡ type-number t → n ≡ type-number u → Tells r (told (binop assign t u) wrong-operands i))
+  -- a kind that is that of `:=`
+  pub between-assign : k ≡ BECOMES → ((t u : Ty) → m ≡ type-number t → n ≡ type-number u
+      → Tells r (told (binop assign t u) wrong-operands i))
       → Between k m n i r
   unfolding binary-kind
   between-assign e h add t u d p q = absurd (omega arith)
@@ -179,14 +188,17 @@ module _ {k m n : ℕ} (i : ℕ) {r : Typing} where
   between-assign e h or t u d p q = absurd (omega arith)
   between-assign e h assign t u d p q = h t u p q
 
-module _ {k m n : ℕ} (i : ℕ) (other : k ≡ BECOMES → ⊥) {v : ℕ} (wants : (o : Binary) → (o ≡ assign → ⊥) → k ≡ binary-kind o → v ≡ type-number (operand o)) where
-  pub between-fine : {x : ℕ} → ((o : Binary) → (o ≡ assign → ⊥) → k ≡ binary-kind o → x ≡ type-number (result o)) → m ≡ v → n ≡ v
+module _ {k m n : ℕ} (i : ℕ) (other : k ≡ BECOMES → ⊥) {v : ℕ} (wants : Operand k v) where
+  -- both operands of the type that the operator wants
+  pub between-fine : {x : ℕ} → Result k x → m ≡ v → n ≡ v
       → Between k m n i (Typing.«Type» x)
   between-fine gives a b o t u d p q =
       let h = not-assign k other o d in
       let w = wants o h d in
-      type-is (result o) (told-some _ _ (binop-both o h t u ∙ both-are _ _ _ (is-type t (operand o) p w a) (is-type u (operand o) q w b))) (gives o h d)
+      type-is (result o) (told-some _ _ (binop-both o h t u
+      ∙ both-are _ _ _ (is-type t (operand o) p w a) (is-type u (operand o) q w b))) (gives o h d)
 
+  -- or not both
   pub between-other : (m ≡ v → n ≡ v → ⊥) → Between k m n i (Typing.Fault WrongOperands i)
   between-other a o t u d p q =
       let h = not-assign k other o d in

@@ -1,31 +1,28 @@
 -- Parameters become variables one by one: one law for each way through the code, and the loop over them.
-use mathlib.Core.List.{List, [], _∷_}
+use mathlib.Core.List.{List, _∷_}
 use mathlib.Core.Option.{Option, none, some}
 use mathlib.Core.Path.{_≡_, refl, sym, ap, subst, _∙_}
-use Prim.Native.Nat.{ℕ, zero, suc, _+_, _≤_, _<_}
-use native.Mathlib.Decide.{decLt, decLe}
+use Prim.Native.Nat.{ℕ, suc, _≤_, _<_}
 use native.Mathlib.Omega.{arith}
 use lib.ListN.{length}
-use Rattle.language.specs.Sizes.{TOKENS, NODES, TABLE, PARAMETERS, REFS}
+use Rattle.language.specs.Sizes.{TOKENS, PARAMETERS}
 use Rattle.language.specs.Tokens.{Token, spelling-at}
-use Rattle.language.specs.Trees.{Name, Ty, refs, Param, Def, Scope, empty, push, nearest, size}
+use Rattle.language.specs.Trees.{Name, Ty, Param, Scope, nearest, size}
 use Rattle.language.specs.Faults as Faults
 use Rattle.language.specs.Faults.{no-binding}
 use Rattle.language.specs.Meaning.{type-number}
 use Rattle.language.proofs.Types.TypeNumbers.{number-refs}
-use Rattle.language.proofs.Types.Verdict.{Res, ok, bad, told, need, need-yes, need-no}
+use Rattle.language.proofs.Types.Verdict.{Res, ok, bad, told, need-yes, need-no}
 use Rattle.language.proofs.Types.Checker.{unbound, take-params}
 use Rattle.layout.specs.Table.{token-word, row-word, put-variable, without-variables}
 use Rattle.layout.specs.Names.{Stand}
-use Rattle.layout.specs.Decode.{ParamsAt, params-none, params-more, FunctionAt}
-use Rattle.layout.proofs.NameLaws.{named-at, name-inside}
-use Rattle.layout.proofs.NameLaws as NameLaws
+use Rattle.layout.specs.Decode.{ParamsAt, params-more}
+use Rattle.layout.proofs.NameLaws.{Named, named-at}
 use Rattle.layout.proofs.VariablesWords.{row-without, token-without}
 use Rattle.checker.specs.Checked.{meant}
 use Rattle.checker.specs.Sight.{Variables, variables-none, variables-more, find-variable, found}
-use Rattle.checker.specs.Asked.{Tells}
-use Rattle.checker.specs.Judged.{Kept, looked}
-use Rattle.checker.specs.Ruled.{Rules, Named, BoundIs, Bound, Headings, Taken}
+use Rattle.checker.specs.Judged.{looked}
+use Rattle.checker.specs.Ruled.{ParameterAt, Bound}
 use Rattle.checker.specs.declared.Reason.the-variants.{TooManyParameters, ParameterTwice, TooManyRefs}
 use Rattle.checker.specs.declared.Reason.{Reason}
 use Rattle.checker.specs.declared.sight.Found.{Found}
@@ -33,16 +30,20 @@ use Rattle.checker.specs.declared.sight.Found.the-variants as Found
 use Rattle.checker.specs.declared.programs.Verdict.{Verdict}
 use Rattle.checker.specs.declared.programs.Verdict.the-variants as Verdict
 use Rattle.checker.proofs.TellLaws.{type-told, fault-told, tells-as}
-use Rattle.checker.proofs.KeptLaws.{kept-self, kept-then, kept-fewer, kept-put, variables-put}
+use Rattle.checker.proofs.KeptLaws.{kept-self, kept-put, variables-put}
 use Rattle.checker.proofs.SheetLaws.{look-tells, stand-few}
 
 -- ---- what is bound under a name
 
-pub unbound-none : {A B : Type 0} {x : Option A} {y : Res B} (r : Faults.Reason) (n : ℕ) (f : Unit {0} → Res B) → x ≡ none → f tt ≡ y → unbound x r n f ≡ y
+-- a name that is new goes on
+pub unbound-none : {A B : Type 0} {x : Option A} {y : Res B} (r : Faults.Reason) (n : ℕ) (f : Unit {0} → Res B) → x ≡ none → f tt ≡ y
+    → unbound x r n f ≡ y
 unfolding unbound
 unbound-none r n f e h = rw e h
 
-pub unbound-some : {A B : Type 0} {x : Option A} {a : A} (r : Faults.Reason) (n : ℕ) (f : Unit {0} → Res B) → x ≡ some a → unbound x r n f ≡ bad r n
+-- and one that is bound ends it
+pub unbound-some : {A B : Type 0} {x : Option A} {a : A} (r : Faults.Reason) (n : ℕ) (f : Unit {0} → Res B) → x ≡ some a
+    → unbound x r n f ≡ bad r n
 unfolding unbound
 unbound-some r n f e = rw e refl
 
@@ -56,7 +57,8 @@ unfolding told
 told-nothing none r q i j e = refl
 told-nothing (some u) r q i j e = absurd (let z : _≡_ {A = ℕ} 0 1 = cc in omega arith)
 
-module _ {ts : List Token} (few : length ts ≤ TOKENS) {w : List ℕ} {x : ℕ} {y : Name} (called : NameLaws.Named ts x y) {n : ℕ} {Γ : Scope Ty} (scope : Variables ts w n Γ) where
+module _ {ts : List Token} (few : length ts ≤ TOKENS) {w : List ℕ} {x : ℕ} {y : Name} (called : Named ts x y) {n : ℕ} {Γ : Scope Ty}
+    (scope : Variables ts w n Γ) where
   -- where the search finds a variable the scope has one
   pub found-some : {t : ℕ} → find-variable w x n ≡ some t → (u : Ty) × (nearest y Γ ≡ some u)
   found-some e =
@@ -65,7 +67,8 @@ module _ {ts : List Token} (few : length ts ≤ TOKENS) {w : List ℕ} {x : ℕ}
 
   -- and where it finds none the scope has none
   pub found-none : find-variable w x n ≡ none → nearest y Γ ≡ none
-  found-none e = told-nothing (nearest y Γ) no-binding _ 0 0 (fault-told (tells-as (ap (λ o. looked o 0) e) (look-tells few called 0 scope)))
+  found-none e = told-nothing (nearest y Γ) no-binding _ 0 0 (fault-told (tells-as (ap (λ o. looked o 0) e)
+      (look-tells few called 0 scope)))
 
 -- as many as there are variables
 pub variables-size : {ts : List Token} {w : List ℕ} {n : ℕ} {Γ : Scope Ty} → Variables ts w n Γ → size Γ ≡ n
@@ -75,11 +78,12 @@ variables-size (variables-more e a b r) = ap suc (variables-size r) ∙ sym e
 
 -- ---- one parameter
 
-module _ {w : List ℕ} {row : ℕ} (r : Named w row) {at : ℕ} (ea : at ≡ row-word w row 1) where
+module _ {w : List ℕ} {row : ℕ} (r : ParameterAt w row) {at : ℕ} (ea : at ≡ row-word w row 1) where
   own : {ts : List Token} {q : Param} {qs : List Param} → ParamsAt ts (without-variables w) row (q ∷ qs) → at ≡ q .at
   own (params-more a n c t h) = ea ∙ sym (row-without w row 1 (r .inside) (omega arith)) ∙ a
 
-  deep : {ts : List Token} {q : Param} {qs : List Param} {number : ℕ} → number ≡ row-word w row 2 → ParamsAt ts (without-variables w) row (q ∷ qs) → number ≡ type-number (q .type)
+  deep : {ts : List Token} {q : Param} {qs : List Param} {number : ℕ} → number ≡ row-word w row 2
+      → ParamsAt ts (without-variables w) row (q ∷ qs) → number ≡ type-number (q .type)
   deep e (params-more a n c t h) = e ∙ sym (row-without w row 2 (r .inside) (omega arith)) ∙ t
 
   -- a ninth
@@ -93,14 +97,15 @@ module _ {w : List ℕ} {row : ℕ} (r : Named w row) {at : ℕ} (ea : at ≡ ro
   }
 
   module _ {k : ℕ} (few : k < PARAMETERS) {token name : ℕ} (et : token ≡ row-word w row 1) (en : name ≡ token-word w token 3) where
-    named : {ts : List Token} {count : ℕ} {q : Param} {qs : List Param} → Stand (without-variables w) count ts → ParamsAt ts (without-variables w) row (q ∷ qs) → NameLaws.Named ts name (q .called)
+    named : {ts : List Token} {count : ℕ} {q : Param} {qs : List Param} → Stand (without-variables w) count ts
+        → ParamsAt ts (without-variables w) row (q ∷ qs) → Named ts name (q .called)
     named {ts} {q = q} st (params-more a n c t h) =
         let e = sym (row-without w row 1 (r .inside) (omega arith)) ∙ a in
         let d : token-word (without-variables w) (q .at) 3 ≡ name =
         ap (λ (i : ℕ). token-word (without-variables w) i 3) (sym e) ∙ token-without w (row-word w row 1) 3 (r .name) (omega arith)
         ∙ sym (en ∙ ap (λ (i : ℕ). token-word w i 3) et) in
-        subst (λ (s : Name). NameLaws.Named ts name s) (sym c)
-        (subst (λ (z : ℕ). NameLaws.Named ts z (spelling-at ts (q .at))) d (named-at st (q .at) n))
+        subst (λ (s : Name). Named ts name s) (sym c)
+        (subst (λ (z : ℕ). Named ts z (spelling-at ts (q .at))) d (named-at st (q .at) n))
 
     module _ (b : Found) (eb : found b ≡ find-variable w name k) where
       -- a name that another has
@@ -125,7 +130,8 @@ module _ {w : List ℕ} {row : ℕ} (r : Named w row) {at : ℕ} (ea : at ≡ ro
               let h = found-none (stand-few st) (named st ps) vs (sym eb ∙ ap found new) in
               let m = number-refs (q .type) in
               let d = deep ed ps in
-              need-yes _ _ _ _ (omega arith) (unbound-none _ _ _ h (need-no _ _ _ _ (λ x. omega (arith, m .1)))) ∙ ap (bad (meant TooManyRefs)) (sym (own ps));
+              need-yes _ _ _ _ (omega arith) (unbound-none _ _ _ h (need-no _ _ _ _ (λ x. omega (arith, m .1))))
+              ∙ ap (bad (meant TooManyRefs)) (sym (own ps));
         }
 
         -- one more variable

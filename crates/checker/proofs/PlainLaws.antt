@@ -2,13 +2,12 @@
 use mathlib.Core.Bool.{Bool, true, false, cond, _&&_}
 use mathlib.Core.List.{List, [], _∷_}
 use mathlib.Core.Option.{Option}
-use mathlib.Core.Path.{_≡_, refl, sym, ap, ap₂, subst, _∙_}
-use Prim.Native.Nat.{ℕ, zero, suc, _+_, _≤_, _<_}
+use mathlib.Core.Path.{_≡_, refl, sym, ap, ap₂, _∙_}
+use Prim.Native.Nat.{ℕ, zero, suc, _+_, _<_}
 use native.Mathlib.Omega.{arith}
 use lib.Dec.{eqb, ltb}
-use lib.ListN.{length}
 use borrow.Author.Tests.{ltb-true}
-use Rattle.language.specs.Sizes.{TOKENS, NODES}
+use Rattle.language.specs.Sizes.{NODES}
 use Rattle.language.specs.Tokens.{Token}
 use Rattle.language.specs.Trees.{Ty}
 use Rattle.language.specs.Types.{Sig}
@@ -32,9 +31,12 @@ module _ (w : List ℕ) where
     row-plain : row-word p (function-row p k) 1 ≡ row-word w (function-row w k) 1
     row-plain = row-without w (function-row p k) 1 (h .row) (omega arith) ∙ ap (λ (i : ℕ). row-word w i 1) (function-without w k (h .few))
 
+    -- a function's name has the same number
     pub name-plain : function-name p k ≡ function-name w k
-    name-plain = token-without w (row-word p (function-row p k) 1 + 1) 3 (h .name) (omega arith) ∙ ap (λ (i : ℕ). token-word w (i + 1) 3) row-plain
+    name-plain = token-without w (row-word p (function-row p k) 1 + 1) 3 (h .name) (omega arith)
+        ∙ ap (λ (i : ℕ). token-word w (i + 1) 3) row-plain
 
+    -- and its head lies in the same place
     pub headed-plain : Headed w k
     headed-plain =
         let e = function-without w k (h .few) in
@@ -51,15 +53,18 @@ module _ (w : List ℕ) where
 
   -- ---- callees
 
+  -- the rows of its parameters
   pub rowed-plain : (c : Callee) → Rowed p c → Rowed w c
   rowed-plain (Callee.Function r) h = let e = row-without w r 2 (omega arith) (omega arith) in omega arith
   rowed-plain Callee.Putchar h = tt
   rowed-plain Callee.Nobody h = tt
 
-  wanted-function : (r k n : ℕ) → r + n < NODES → (b : Bool) → ltb k n ≡ b → cond b (row-word p (r + k + 1) 2) 0 ≡ cond b (row-word w (r + k + 1) 2) 0
+  wanted-function : (r k n : ℕ) → r + n < NODES → (b : Bool) → ltb k n ≡ b
+      → cond b (row-word p (r + k + 1) 2) 0 ≡ cond b (row-word w (r + k + 1) 2) 0
   wanted-function r k n h true e = row-without w (r + k + 1) 2 (omega (arith, ltb-true k n e)) (omega arith)
   wanted-function r k n h false e = refl
 
+  -- and their types
   pub wanted-plain : (c : Callee) (k : ℕ) → Rowed p c → wanted-in p c k ≡ wanted-in w c k
   wanted-plain (Callee.Function r) k h =
       let e = row-without w r 2 (omega arith) (omega arith) in

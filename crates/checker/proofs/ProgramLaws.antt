@@ -1,25 +1,25 @@
 -- The loop over a program's functions, its last expression, and what the answer then says of the program.
 use mathlib.Core.List.{List, [], _∷_}
-use mathlib.Core.Path.{_≡_, refl, sym, ap, subst, _∙_}
-use Prim.Native.Nat.{ℕ, suc, _+_, _≤_, _<_}
+use mathlib.Core.Path.{_≡_, refl, sym, subst, _∙_}
+use Prim.Native.Nat.{ℕ, _+_, _≤_, _<_}
 use native.Mathlib.Numerals.{add-one}
 use native.Mathlib.Omega.{arith}
 use lib.ListN.{length}
-use Rattle.language.specs.Sizes.{NODES, TABLE}
+use Rattle.language.specs.Sizes.{NODES}
 use Rattle.language.specs.Tokens.{Token}
 use Rattle.language.specs.Trees.{Ty, Exp, Def, Program, Scope, empty}
 use Rattle.language.specs.Types.{Sig, with-def, given, HasType}
 use Rattle.language.specs.Faults as Faults
 use Rattle.language.specs.Faults.{HasFault}
-use Rattle.language.proofs.Types.Verdict.{Res, ok, bad, after-ok, after-bad, Says, says, faults}
+use Rattle.language.proofs.Types.Verdict.{Res, after-ok, after-bad, Says, says, faults}
 use Rattle.language.proofs.Types.Checker.{infer, check-def, check-from, check}
 use Rattle.language.proofs.Types.CheckerSound.{check-sound}
-use Rattle.layout.specs.Table.{function-row, without-variables}
+use Rattle.layout.specs.Table.{without-variables}
 use Rattle.layout.specs.Rows.{below}
-use Rattle.layout.specs.Decode.{tree-at, Right, FunctionAt, FunctionsAt, functions-none, functions-more, Holds}
+use Rattle.layout.specs.Decode.{tree-at, Right, FunctionsAt, functions-more, Holds}
 use Rattle.layout.proofs.VariablesTrees.{holds-without}
-use Rattle.checker.specs.Checked.{meant, Checkable, Answers}
-use Rattle.checker.specs.Sight.{Variables, variables-none, Functions, functions-given, Sheet}
+use Rattle.checker.specs.Checked.{Checkable, Answers}
+use Rattle.checker.specs.Sight.{variables-none, Functions, functions-given, Sheet}
 use Rattle.checker.specs.Sight as Sight
 use Rattle.checker.specs.Asked.{Tells, tells-type, tells-fault}
 use Rattle.checker.specs.Judged.{Kept, Ready, Judged}
@@ -43,10 +43,12 @@ pub record Progress (ts : List Token) (f : ℕ) (p : List ℕ) (defs k : ℕ) (p
   pub long : k + length rest ≡ defs
   pub same : check program ≡ check-from rest scope (program .main)
 
+-- what the loop keeps: of every program that the table held at first
 pub record Underway (w₀ w : List ℕ) (count defs root k : ℕ) : Type 0 where
   pub kept : Kept w₀ w 0
   pub few : k ≤ defs
-  pub told : (ts : List Token) (program : Program) (h : Holds ts (without-variables w₀) count defs root program) → Progress ts (h .depth) (without-variables w₀) defs k program
+  pub told : (ts : List Token) (program : Program) (h : Holds ts (without-variables w₀) count defs root program)
+      → Progress ts (h .depth) (without-variables w₀) defs k program
 
 -- none is checked yet
 pub underway-starts : {w : List ℕ} {count defs root k : ℕ} → k ≡ 0 → Underway w w count defs root k
@@ -70,7 +72,8 @@ module _ {w₀ w : List ℕ} {count defs root k : ℕ} (u : Underway w₀ w coun
   module _ (l : k < defs) where
     -- the next function
     next-is : {A : Type 0} (ts : List Token) (program : Program) (h : Holds ts (without-variables w₀) count defs root program)
-        → ((d : Def) (ds : List Def) (Δ : Scope Sig) → Next ts (h .depth) (without-variables w₀) k Δ d → FunctionsAt (h .depth) ts (without-variables w₀) (k + 1) ds
+        → ((d : Def) (ds : List Def) (Δ : Scope Sig) → Next ts (h .depth) (without-variables w₀) k Δ d
+        → FunctionsAt (h .depth) ts (without-variables w₀) (k + 1) ds
         → k + length (d ∷ ds) ≡ defs → check program ≡ check-from (d ∷ ds) Δ (program .main) → A)
         → A
     next-is {A} ts program h use-it = go (s .rest) (s .later) (s .long) (s .same)
@@ -78,11 +81,20 @@ module _ {w₀ w : List ℕ} {count defs root k : ℕ} (u : Underway w₀ w coun
         s : Progress ts (h .depth) (without-variables w₀) defs k program
         s = u .told ts program h
 
-        go : (rest : List Def) → FunctionsAt (h .depth) ts (without-variables w₀) k rest → k + length rest ≡ defs → check program ≡ check-from rest (s .scope) (program .main) → A
+        go : (rest : List Def) → FunctionsAt (h .depth) ts (without-variables w₀) k rest → k + length rest ≡ defs
+            → check program ≡ check-from rest (s .scope) (program .main) → A
         go [] a m e = absurd (omega arith)
         go (d ∷ ds) (functions-more a q) m e =
-            use-it d ds (s .scope) record { count = count; stand = h .stand; few = omega (arith, h .few); before = s .before; here = a } q m e
+            use-it d ds (s .scope) record {
+              count = count;
+              stand = h .stand;
+              few = omega
+                  (arith, h .few);
+              before = s .before;
+              here = a;
+            } q m e
 
+    -- it can be checked
     pub underway-listed : Checkable w₀ count defs root → Listed w k
     underway-listed c =
         let g = holds-without (c .holds) in
@@ -201,5 +213,6 @@ told-answer : {p : Program} {r : Typing} {x : Res Ty} → Tells r x → Says (Ha
 told-answer (tells-type {t = t} e) (says h) = (t, h, e)
 told-answer {p} (tells-fault {i = i} e) (faults h) = subst (λ (q : Faults.Reason). HasFault p q i) (sym e) h
 
+-- so an answer that tells what it answers is right
 pub answers : (p : Program) {r : Typing} → Tells r (check p) → Answers r p
 answers p h = told-answer h (check-sound p)

@@ -1,25 +1,25 @@
 -- What a row's kind says of its node: how many children it has, and what it asks of their types.
-use mathlib.Core.Bool.{Bool, true, false, cond}
-use mathlib.Core.Option.{Option, none, some}
+use mathlib.Core.Bool.{true, false, cond}
 use mathlib.Core.Path.{_≡_, refl, sym, ap, subst₂, _∙_}
-use Prim.Native.Nat.{ℕ, suc, _+_, _≤_, _<_}
+use Prim.Native.Nat.{ℕ, _≤_, _<_}
 use native.Mathlib.Omega.{arith}
 use lib.Dec.{eqb, leb, ltb}
-use Rattle.language.specs.Tokens.{entry, NAME, NUMBER, TRUE, FALSE, TT, LET, IF, WHILE, SEMI, LPAR, LBRACE, PLUS, AND, OR}
-use Rattle.language.specs.Trees.{Ty, int, bool, unit, Unary, minus, not, fetch, new, Binary, add, sub, mul, div, less, equal, and, or, assign, whole, truth, trivial, Exp}
+use Rattle.language.specs.Tokens.{NUMBER, TRUE, FALSE, TT, LET, IF, WHILE, SEMI, LPAR, LBRACE, PLUS, AND, OR}
+use Rattle.language.specs.Trees.{int, bool, unit, Unary, minus, not, fetch, new, Binary, add, sub, mul, div, less, equal, and, or, assign, whole, truth, trivial}
 use Rattle.language.specs.Meaning.{type-number}
-use Rattle.language.proofs.Types.Verdict.{ok, after-ok}
+use Rattle.language.proofs.Types.Verdict.{after-ok}
 use Rattle.language.proofs.Types.Checker.{literal-type, infer}
 use Rattle.layout.specs.Rows.{PREFIX, CALL, literal-kind, unary-kind, binary-kind}
-use Rattle.layout.specs.Decode.{Shape, a-name, a-number, a-follow, a-group, a-block, a-call, a-let, an-if, a-while, a-constant, a-unary, a-binary, shapes, shape-of, children, build}
+use Rattle.layout.specs.Decode.{Shape, a-name, a-number, a-follow, a-group, a-block, a-call, a-let, an-if, a-while, a-constant, a-unary, a-binary, shape-of, children, build}
 use Rattle.layout.proofs.VariablesTrees.{shape-kind, kind-of-shape}
-use Rattle.checker.specs.Asked.{Tells, tells-type, Children, Constant, AsksOne, AsksTwo, Prefixed, Between, Follows, Repeats, operand, result}
+use Rattle.checker.specs.Asked.{Tells, Children, Constant, AsksOne, AsksTwo, Prefixed, Between, Follows, Repeats, Operand, Result}
 use Rattle.checker.specs.declared.Typing.{Typing}
 use Rattle.checker.specs.declared.Typing.the-variants as Typing
-use Rattle.checker.proofs.TellLaws.{type-is, fault-is, type-told, fault-told, tells-from}
+use Rattle.checker.proofs.TellLaws.{type-is, tells-from}
 
 -- ---- how many children
 
+-- the tests of the code
 abbrev pub children-by : ℕ → ℕ
 children-by k =
     cond (leb PREFIX k) 1
@@ -88,44 +88,38 @@ children-rest {k} {j} {m} e x y z h s d = let a = h s (ap shape-of e ∙ d) in l
 
 -- ---- the types of operators, by the tests
 
-abbrev pub operand-by : ℕ → ℕ
-operand-by k = cond (eqb k AND) 2 (cond (eqb k OR) 2 1)
+module _ (k : ℕ) {n : ℕ} where
+  -- `&&` and `||` want bools, the others ints
+  pub operand-is : (k ≡ AND → n ≡ type-number bool) → (k ≡ OR → n ≡ type-number bool) → ((k ≡ AND → ⊥) → (k ≡ OR → ⊥) → n ≡ type-number int)
+      → Operand k n
+  unfolding binary-kind
+  operand-is a b c add x d = c (λ e. omega arith) (λ e. omega arith)
+  operand-is a b c sub x d = c (λ e. omega arith) (λ e. omega arith)
+  operand-is a b c mul x d = c (λ e. omega arith) (λ e. omega arith)
+  operand-is a b c div x d = c (λ e. omega arith) (λ e. omega arith)
+  operand-is a b c less x d = c (λ e. omega arith) (λ e. omega arith)
+  operand-is a b c equal x d = c (λ e. omega arith) (λ e. omega arith)
+  operand-is a b c and x d = a d
+  operand-is a b c or x d = b d
+  operand-is a b c assign x d = absurd (x refl)
 
-abbrev pub result-by : ℕ → ℕ
-result-by k = cond (ltb k AND) 1 2
-
-operand-kind : (o : Binary) → (o ≡ assign → ⊥) → operand-by (binary-kind o) ≡ type-number (operand o)
-unfolding binary-kind type-number
-operand-kind add h = refl
-operand-kind sub h = refl
-operand-kind mul h = refl
-operand-kind div h = refl
-operand-kind less h = refl
-operand-kind equal h = refl
-operand-kind and h = refl
-operand-kind or h = refl
-operand-kind assign h = absurd (h refl)
-
-result-kind : (o : Binary) → (o ≡ assign → ⊥) → result-by (binary-kind o) ≡ type-number (result o)
-unfolding binary-kind type-number
-result-kind add h = refl
-result-kind sub h = refl
-result-kind mul h = refl
-result-kind div h = refl
-result-kind less h = refl
-result-kind equal h = refl
-result-kind and h = refl
-result-kind or h = refl
-result-kind assign h = absurd (h refl)
-
-pub operand-is : (k : ℕ) {n : ℕ} → operand-by k ≡ n → (o : Binary) → (o ≡ assign → ⊥) → k ≡ binary-kind o → n ≡ type-number (operand o)
-operand-is k e o h d = sym e ∙ ap operand-by d ∙ operand-kind o h
-
-pub result-is : (k : ℕ) {n : ℕ} → result-by k ≡ n → (o : Binary) → (o ≡ assign → ⊥) → k ≡ binary-kind o → n ≡ type-number (result o)
-result-is k e o h d = sym e ∙ ap result-by d ∙ result-kind o h
+  -- + - * / give an int, the others a bool
+  pub result-is : (k < AND → n ≡ type-number int) → (AND ≤ k → n ≡ type-number bool)
+      → Result k n
+  unfolding binary-kind
+  result-is a b add x d = a (omega arith)
+  result-is a b sub x d = a (omega arith)
+  result-is a b mul x d = a (omega arith)
+  result-is a b div x d = a (omega arith)
+  result-is a b less x d = b (omega arith)
+  result-is a b equal x d = b (omega arith)
+  result-is a b and x d = b (omega arith)
+  result-is a b or x d = b (omega arith)
+  result-is a b assign x d = absurd (x refl)
 
 -- ---- constants
 
+-- the four kinds of constants tell the type
 pub constant-is : {k n : ℕ} → (k ≡ NUMBER → n ≡ type-number int) → (k ≡ TRUE → n ≡ type-number bool) → (k ≡ FALSE → n ≡ type-number bool)
     → (k ≡ TT → n ≡ type-number unit) → Constant k n
 unfolding infer build literal-type shape-kind literal-kind
@@ -147,11 +141,13 @@ constant-is a b c d ts (a-binary o) Δ Γ i x y z es sh ch nn nc = absurd (omega
 
 -- ---- shapes by their children
 
+-- the shapes with one child
 pub data OneChild : Shape → Type 0 where
   is-group : OneChild a-group
   is-block : OneChild a-block
   is-unary : {o : Unary} → OneChild (a-unary o)
 
+-- are those
 pub one-child : (s : Shape) → children s ≡ 1 → OneChild s
 one-child a-name e = absurd (omega arith)
 one-child a-number e = absurd (omega arith)
@@ -166,12 +162,14 @@ one-child (a-constant l) e = absurd (omega arith)
 one-child (a-unary o) e = is-unary
 one-child (a-binary o) e = absurd (omega arith)
 
+-- the shapes with two
 pub data TwoChildren : Shape → Type 0 where
   is-follow : TwoChildren a-follow
   is-while : TwoChildren a-while
   is-let : TwoChildren a-let
   is-binary : {o : Binary} → TwoChildren (a-binary o)
 
+-- are those
 pub two-children : (s : Shape) → children s ≡ 2 → TwoChildren s
 two-children a-name e = absurd (omega arith)
 two-children a-number e = absurd (omega arith)
@@ -186,6 +184,7 @@ two-children (a-constant l) e = absurd (omega arith)
 two-children (a-unary o) e = absurd (omega arith)
 two-children (a-binary o) e = is-binary
 
+-- and an `if` alone has three
 pub three-children : (s : Shape) → children s ≡ 3 → s ≡ an-if
 three-children a-name e = absurd (omega arith)
 three-children a-number e = absurd (omega arith)
@@ -243,6 +242,7 @@ module _ (k : ℕ) {n : ℕ} (i : ℕ) where
       go s (is-unary {o}) d = tells-from (after-ok _ e refl) (h o t d p)
 
 module _ (k : ℕ) {m n : ℕ} (i : ℕ) {r : Typing} where
+  -- `;` asks
   pub two-follow : k ≡ SEMI → Follows m n i r → AsksTwo k m n i r
   unfolding infer build shape-kind
   two-follow l h ts s Δ Γ a b c es t u sh ch nl e p f q = go s (two-children s ch) (kind-of-shape k s sh)
@@ -253,6 +253,7 @@ module _ (k : ℕ) {m n : ℕ} (i : ℕ) {r : Typing} where
       go s is-let d = absurd (omega arith)
       go s (is-binary {o}) d = absurd (let x = binary-between o in omega (arith, x .0, x .1))
 
+  -- `while` asks
   pub two-while : k ≡ WHILE → Repeats m n i r → AsksTwo k m n i r
   unfolding infer build shape-kind
   two-while l h ts s Δ Γ a b c es t u sh ch nl e p f q = go s (two-children s ch) (kind-of-shape k s sh)
@@ -263,6 +264,7 @@ module _ (k : ℕ) {m n : ℕ} (i : ℕ) {r : Typing} where
       go s is-let d = absurd (omega arith)
       go s (is-binary {o}) d = absurd (let x = binary-between o in omega (arith, x .0, x .1))
 
+  -- an operator between its operands asks
   pub two-between : (k ≡ SEMI → ⊥) → (k ≡ WHILE → ⊥) → Between k m n i r → AsksTwo k m n i r
   unfolding infer build shape-kind
   two-between ns nw h ts s Δ Γ a b c es t u sh ch nl e p f q = go s (two-children s ch) (kind-of-shape k s sh)

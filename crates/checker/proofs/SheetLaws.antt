@@ -2,34 +2,33 @@
 use mathlib.Core.Bool.{Bool, true, false, cond}
 use mathlib.Core.List.{List, [], _∷_}
 use mathlib.Core.Option.{Option, none, some}
-use mathlib.Core.Path.{_≡_, refl, sym, ap, subst, _∙_}
-use Prim.Native.Nat.{ℕ, suc, _+_, _≤_, _<_}
+use mathlib.Core.Path.{_≡_, refl, sym, subst}
+use Prim.Native.Nat.{ℕ, _+_, _≤_, _<_}
 use native.Mathlib.Decide.{ℕ-discrete}
 use native.Mathlib.Omega.{arith}
-use lib.Dec.{eqb}
 use lib.ListN.{length}
-use Rattle.language.specs.Sizes.{TOKENS, NODES}
-use Rattle.language.specs.Tokens.{Token, NAME, same, At, spelling-at}
-use Rattle.language.specs.Trees.{Name, Ty, int, Def, Scope, empty, push, nearest, PUTCHAR}
-use Rattle.language.specs.Types.{Sig, sig, given}
+use Rattle.language.specs.Sizes.{TOKENS}
+use Rattle.language.specs.Tokens.{Token, same, spelling-at}
+use Rattle.language.specs.Trees.{Name, Ty, int, Def, Scope, nearest, PUTCHAR}
+use Rattle.language.specs.Types.{Sig, sig}
 use Rattle.language.specs.Faults.{no-binding}
 use Rattle.language.specs.Meaning.{type-number}
 use Rattle.language.proofs.Types.Verdict.{told}
-use Rattle.layout.specs.Table.{row-word, function-row, token-word, variable-name, variable-kind}
+use Rattle.layout.specs.Table.{function-row, token-word, variable-kind}
 use Rattle.layout.specs.Names.{Stand}
 use Rattle.layout.specs.Decode.{FunctionAt}
 use Rattle.layout.proofs.NameLaws.{Named, named-same, putchar-number, named-at, name-inside}
 use Rattle.checker.specs.Sight.{Variables, variables-none, variables-more, find-variable, Headed, function-name, Functions, functions-given, functions-more, Sheet, callee-in, Means, Rowed}
 use Rattle.checker.specs.Asked.{Tells, tells-type, tells-fault}
 use Rattle.checker.specs.Judged.{looked}
-use Rattle.checker.specs.declared.Typing.{Typing}
 use Rattle.checker.specs.declared.sight.Callee.{Callee}
 use Rattle.checker.specs.declared.sight.Callee.the-variants as Callee
 
 -- ---- variables
 
 -- one step of both searches
-look-step : (b : Bool) (n : ℕ) (t : Ty) (i : ℕ) (o : Option ℕ) (q : Option Ty) → n ≡ type-number t → Tells (looked o i) (told q no-binding i)
+look-step : (b : Bool) (n : ℕ) (t : Ty) (i : ℕ) (o : Option ℕ) (q : Option Ty) → n ≡ type-number t
+    → Tells (looked o i) (told q no-binding i)
     → Tells (looked (cond b (some n) o) i) (told (cond b (some t) q) no-binding i)
 unfolding told
 look-step true n t i o q e h = tells-type e
@@ -47,6 +46,7 @@ module _ {ts : List Token} (few : length ts ≤ TOKENS) {w : List ℕ} {x : ℕ}
 
 -- a function's name, by its number
 module _ {ts : List Token} {f : ℕ} {w : List ℕ} {count : ℕ} (stand : Stand w count ts) where
+  -- the number that a function's name has
   pub name-of : (n : ℕ) {d : Def} → FunctionAt f ts w (function-row w n) d → Named ts (function-name w n) (d .called)
   name-of n {d} a =
       let h = named-at stand (d .at + 1) (a .name) in
@@ -67,7 +67,8 @@ module _ {ts : List Token} {f : ℕ} {w : List ℕ} {count : ℕ} (stand : Stand
       go (yes q) ih = subst (λ (j : ℕ). Headed w j) (sym q) (head-of (omega arith) a)
       go (no q) ih = ih (omega arith)
 
-means-step : {f : ℕ} {ts : List Token} {w : List ℕ} (b : Bool) (r : ℕ) (d : Def) (c : Callee) (o : Option Sig) → FunctionAt f ts w r d → Means f ts w c o
+means-step : {f : ℕ} {ts : List Token} {w : List ℕ} (b : Bool) (r : ℕ) (d : Def) (c : Callee) (o : Option Sig) → FunctionAt f ts w r d
+    → Means f ts w c o
     → Means f ts w (cond b (Callee.Function r) c) (cond b (some (sig d)) o)
 means-step true r d c o a h = (d, a, refl)
 means-step false r d c o a h = h
@@ -77,6 +78,7 @@ means-given : (f : ℕ) (ts : List Token) (w : List ℕ) (b : Bool)
 means-given f ts w true = refl
 means-given f ts w false = refl
 
+-- tokens are few enough for their numbers
 pub stand-few : {ts : List Token} {w : List ℕ} {count : ℕ} → Stand w count ts → length ts ≤ TOKENS
 stand-few stand = omega (arith, stand .long, stand .few)
 
@@ -86,7 +88,8 @@ module _ {ts : List Token} {f : ℕ} {w : List ℕ} {count : ℕ} (stand : Stand
   unfolding callee-in nearest
   callee-functions functions-given = rw (putchar-number (stand-few stand) called) (means-given f ts w (same y PUTCHAR))
   callee-functions (functions-more {n = n} {d = d} e a r) =
-      rw (e, named-same (stand-few stand) called (name-of stand n a)) (means-step (same y (d .called)) (function-row w n) d _ _ a (callee-functions r))
+      rw (e, named-same (stand-few stand) called (name-of stand n a)) (means-step (same y (d .called)) (function-row w n) d _ _ a
+      (callee-functions r))
 
 -- a callee that is in sight has rows for all its parameters
 means-rowed : (f : ℕ) (ts : List Token) (w : List ℕ) (c : Callee) (o : Option Sig) → Means f ts w c o → Rowed w c
@@ -95,14 +98,18 @@ means-rowed f ts w Callee.Putchar o h = tt
 means-rowed f ts w Callee.Nobody o h = tt
 
 module _ {ts : List Token} {f : ℕ} {w : List ℕ} {seen : ℕ} {Δ : Scope Sig} (sheet : Sheet ts f w seen Δ) where
+  -- the heads of all functions in sight
   pub sheet-headed : (k : ℕ) → k < seen → Headed w k
   sheet-headed = headed (sheet .stand) (omega (arith, sheet .few, sheet .stand .few)) (sheet .functions)
 
+  -- the tokens of a sheet
   pub sheet-few : length ts ≤ TOKENS
   sheet-few = stand-few (sheet .stand)
 
+  -- a call's callee is what is nearest under its name
   pub callee-means : {x : ℕ} {y : Name} → Named ts x y → Means f ts w (callee-in w x seen) (nearest y Δ)
   callee-means h = callee-functions (sheet .stand) h (sheet .functions)
 
+  -- and has rows for its parameters
   pub callee-rowed : {x : ℕ} {y : Name} → Named ts x y → Rowed w (callee-in w x seen)
   callee-rowed {x} {y} h = means-rowed f ts w (callee-in w x seen) (nearest y Δ) (callee-means h)

@@ -1,11 +1,9 @@
 -- A search from the last to the first, step by step.
-use mathlib.Core.Bool.{Bool, true, false, cond}
-use mathlib.Core.List.{List, [], _∷_}
-use mathlib.Core.Option.{Option, none, some}
+use mathlib.Core.List.{List}
+use mathlib.Core.Option.{none, some}
 use mathlib.Core.Path.{_≡_, refl, sym, ap, subst, _∙_}
-use Prim.Native.Nat.{ℕ, zero, suc, _+_, _≤_, _<_}
+use Prim.Native.Nat.{ℕ, suc, _+_, _≤_, _<_}
 use native.Mathlib.Omega.{arith}
-use lib.Dec.{eqb}
 use borrow.Author.Tests.{eq-eqb, ne-eqb, lt-ltb, le-ltb}
 use Rattle.language.specs.Sizes.{TOKENS, NODES}
 use Rattle.language.specs.Trees.{int}
@@ -26,6 +24,7 @@ module _ (w : List ℕ) (x : ℕ) {i k : ℕ} (last : i ≡ suc k) where
   unfolding find-variable
   variable-here e = rw (last, eq-eqb _ _ (sym e)) refl
 
+  -- it is not the last
   pub variable-past : (variable-name w k ≡ x → ⊥) → find-variable w x i ≡ find-variable w x k
   unfolding find-variable
   variable-past h = rw (last, ne-eqb _ _ (λ e. h (sym e))) refl
@@ -35,19 +34,23 @@ module _ (w : List ℕ) (x : ℕ) {i k : ℕ} (last : i ≡ suc k) where
   unfolding callee-in
   callee-here e = rw (last, eq-eqb _ _ (sym e)) refl
 
+  -- the function is not the last
   pub callee-past : (function-name w k ≡ x → ⊥) → callee-in w x i ≡ callee-in w x k
   unfolding callee-in
   callee-past h = rw (last, ne-eqb _ _ (λ e. h (sym e))) refl
 
 module _ (w : List ℕ) (x : ℕ) {i : ℕ} (over : i ≡ 0) where
+  -- there is none
   pub variable-none : find-variable w x i ≡ none
   unfolding find-variable
   variable-none = rw over refl
 
+  -- no function is left, and the name is `putchar`
   pub callee-putchar : x ≡ TOKENS → callee-in w x i ≡ Callee.Putchar
   unfolding callee-in
   callee-putchar e = rw (over, eq-eqb _ _ e) refl
 
+  -- or another
   pub callee-nobody : (x ≡ TOKENS → ⊥) → callee-in w x i ≡ Callee.Nobody
   unfolding callee-in
   callee-nobody h = rw (over, ne-eqb _ _ h) refl
@@ -58,19 +61,24 @@ name-inside w h e d = let p = d ∙ ap (λ (i : ℕ). row-word w i 1) e in omega
 
 -- ---- a callee, by its case
 
+-- a function's parameters are rows
 pub rowed-function : (w : List ℕ) {c : Callee} {r : ℕ} → c ≡ Callee.Function r → Rowed w c → r + row-word w r 2 < NODES
 rowed-function w e h = subst (λ (c : Callee). Rowed w c) e h
 
 module _ (w : List ℕ) {c : Callee} where
+  -- the type of a function's parameter
   pub wanted-inside : {r k : ℕ} → c ≡ Callee.Function r → k < row-word w r 2 → wanted-in w c k ≡ row-word w (r + k + 1) 2
   wanted-inside {k = k} e h = ap (λ (c : Callee). wanted-in w c k) e ∙ rw (lt-ltb _ _ h) refl
 
+  -- and of none behind the last
   pub wanted-outside : {r k : ℕ} → c ≡ Callee.Function r → row-word w r 2 ≤ k → wanted-in w c k ≡ 0
   wanted-outside {k = k} e h = ap (λ (c : Callee). wanted-in w c k) e ∙ rw (le-ltb _ _ h) refl
 
+  -- `putchar` wants an int
   pub wanted-first : {k : ℕ} → c ≡ Callee.Putchar → k ≡ 0 → wanted-in w c k ≡ type-number int
   wanted-first {k} e h = ap (λ (c : Callee). wanted-in w c k) e ∙ rw (eq-eqb _ _ h) refl
 
+  -- and no second argument
   pub wanted-later : {k : ℕ} → c ≡ Callee.Putchar → (k ≡ 0 → ⊥) → wanted-in w c k ≡ 0
   wanted-later {k} e h = ap (λ (c : Callee). wanted-in w c k) e ∙ rw (ne-eqb _ _ h) refl
 
@@ -81,10 +89,12 @@ module _ (w : List ℕ) (node binds : ℕ) {token number : ℕ} (q : Found) (e :
   name-search : find-variable w (token-word w (row-word w node 1) 3) binds ≡ found q
   name-search = ap (λ (x : ℕ). find-variable w x binds) (ap (λ (i : ℕ). token-word w i 3) (sym e) ∙ sym d) ∙ sym h
 
+  -- a variable was found
   pub name-found : {t : ℕ} → q ≡ Found.Is t
       → Typing.«Type» t ≡ looked (find-variable w (token-word w (row-word w node 1) 3) binds) (row-word w node 1)
   name-found k = sym (ap (λ o. looked o (row-word w node 1)) (name-search ∙ ap found k))
 
+  -- or none
   pub name-nowhere : {i : ℕ} → i ≡ row-word w node 1 → q ≡ Found.Nowhere
       → Typing.Fault NoBinding i ≡ looked (find-variable w (token-word w (row-word w node 1) 3) binds) (row-word w node 1)
   name-nowhere a k = ap (λ (i : ℕ). Typing.Fault NoBinding i) a ∙ sym (ap (λ o. looked o (row-word w node 1)) (name-search ∙ ap found k))

@@ -1,22 +1,20 @@
 -- The loop over a function's parameters: what is told halfway, how one more goes, and how it ends.
 use mathlib.Core.List.{List, [], _∷_}
-use mathlib.Core.Path.{_≡_, refl, sym, ap, subst, _∙_}
-use Prim.Native.Nat.{ℕ, zero, suc, _+_, _≤_, _<_}
+use mathlib.Core.Path.{_≡_, refl, sym, subst, _∙_}
+use Prim.Native.Nat.{ℕ, _+_, _≤_, _<_}
 use native.Mathlib.Omega.{arith}
 use lib.ListN.{length}
-use Rattle.language.specs.Sizes.{NODES}
 use Rattle.language.specs.Tokens.{Token}
 use Rattle.language.specs.Trees.{Ty, Param, Def, Scope, empty, push}
-use Rattle.language.proofs.Types.Verdict.{Res, ok, bad}
+use Rattle.language.proofs.Types.Verdict.{ok}
 use Rattle.language.proofs.Types.Checker.{take-params}
 use Rattle.layout.specs.Table.{row-word, without-variables}
 use Rattle.layout.specs.Names.{Stand}
 use Rattle.layout.specs.Decode.{ParamsAt, params-more, FunctionAt}
 use Rattle.layout.proofs.VariablesWords.{row-without}
-use Rattle.checker.specs.Checked.{meant}
 use Rattle.checker.specs.Sight.{Variables, variables-none}
 use Rattle.checker.specs.Judged.{Kept}
-use Rattle.checker.specs.Ruled.{Rules, Named, BoundIs, Bound, Headings, Taken}
+use Rattle.checker.specs.Ruled.{ParameterAt, BoundIs, Bound, Headings, Taken}
 use Rattle.checker.specs.declared.Reason.{Reason}
 use Rattle.checker.specs.declared.programs.Verdict.{Verdict}
 use Rattle.checker.specs.declared.programs.Verdict.the-variants as Verdict
@@ -31,6 +29,7 @@ pub record Halfway (p w : List ℕ) (row k : ℕ) (ts : List Token) (d : Def) : 
   pub variables : Variables ts w k scope
   pub same : take-params (d .params) empty ≡ take-params rest scope
 
+-- what the loop keeps: of every function that the row is
 pub record Taking (w₀ w : List ℕ) (row count k : ℕ) : Type 0 where
   pub kept : Kept w₀ w 0
   pub few : k ≤ count
@@ -69,17 +68,19 @@ module _ {w₀ w : List ℕ} {row count k : ℕ} (h : Headings w₀ row) (ec : c
     right = λ ts n f d st a.
         let e = counted a in
         let v = t .told ts n f d st a in
-        go ts d (v .rest) (v .scope) (omega (arith, v .long, t .few)) (subst (λ (j : ℕ). Variables ts w j (v .scope)) (omega (arith, t .few)) (v .variables)) (v .same);
+        go ts d (v .rest) (v .scope) (omega (arith, v .long, t .few)) (subst (λ (j : ℕ). Variables ts w j (v .scope)) (omega
+        (arith, t .few)) (v .variables)) (v .same);
   }
     where
       go : (ts : List Token) (d : Def) (rest : List Param) (Γ : Scope Ty) → length rest ≡ 0 → Variables ts w (length (d .params)) Γ
-          → take-params (d .params) empty ≡ take-params rest Γ → (Γ : Scope Ty) × (take-params (d .params) empty ≡ ok Γ) × Variables ts w (length (d .params)) Γ
+          → take-params (d .params) empty ≡ take-params rest Γ
+          → (Γ : Scope Ty) × (take-params (d .params) empty ≡ ok Γ) × Variables ts w (length (d .params)) Γ
       go ts d [] Γ l vs e = (Γ, e, vs)
       go ts d (q ∷ qs) Γ l vs e = absurd (omega arith)
 
   module _ (l : k < count) where
     -- the next one's row
-    pub taking-row : Named w (row + k + 1)
+    pub taking-row : ParameterAt w (row + k + 1)
     taking-row =
         let b = h .last in
         let e = kept-row (t .kept) (row + k + 1) 1 (omega arith) (omega arith) in
@@ -87,12 +88,15 @@ module _ {w₀ w : List ℕ} {row count k : ℕ} (h : Headings w₀ row) (ec : c
         record { long = omega (arith, h .long, t .kept .long); inside = omega arith; name = omega arith }
 
     module _ {w′ : List ℕ} {v : Verdict} (g : Bound w w′ (row + k + 1) k v) where
+      -- what all steps leave
       pub bound-kept : Kept w₀ w′ 0
       bound-kept = kept-then (t .kept) (kept-fewer (omega arith) (g .kept))
 
       -- what is told of the next one
-      next-is : {A : Type 0} (ts : List Token) (n f : ℕ) (d : Def) → Stand (without-variables w₀) n ts → FunctionAt f ts (without-variables w₀) row d
-          → ((q : Param) (qs : List Param) (Γ : Scope Ty) → ParamsAt ts (without-variables w₀) (row + k + 1) (q ∷ qs) → k + length (q ∷ qs) ≡ length (d .params)
+      next-is : {A : Type 0} (ts : List Token) (n f : ℕ) (d : Def) → Stand (without-variables w₀) n ts
+          → FunctionAt f ts (without-variables w₀) row d
+          → ((q : Param) (qs : List Param) (Γ : Scope Ty) → ParamsAt ts (without-variables w₀) (row + k + 1) (q ∷ qs)
+          → k + length (q ∷ qs) ≡ length (d .params)
           → take-params (d .params) empty ≡ take-params (q ∷ qs) Γ → BoundIs ts w′ k Γ q qs v → A)
           → A
       next-is {A} ts n f d st a use-it = go (s .rest) (s .params) (s .long) (s .same)

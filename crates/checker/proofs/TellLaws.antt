@@ -10,15 +10,19 @@ use Rattle.checker.specs.declared.Reason.{Reason}
 use Rattle.checker.specs.declared.Typing.{Typing}
 use Rattle.checker.specs.declared.Typing.the-variants as Typing
 
+-- a type is answered
 pub type-is : {n : ℕ} {x : Res Ty} (t : Ty) → x ≡ ok t → n ≡ type-number t → Tells (Typing.«Type» n) x
 type-is {n} t e p = subst (λ (x : Res Ty). Tells (Typing.«Type» n) x) (sym e) (tells-type p)
 
+-- a fault is answered
 pub fault-is : {r : Reason} {i : ℕ} {x : Res Ty} → x ≡ bad (meant r) i → Tells (Typing.Fault r i) x
 fault-is {r} {i} e = subst (λ (x : Res Ty). Tells (Typing.Fault r i) x) (sym e) (tells-fault refl)
 
+-- what an answered type tells
 pub type-told : {n : ℕ} {x : Res Ty} → Tells (Typing.«Type» n) x → (t : Ty) × (x ≡ ok t) × (n ≡ type-number t)
 type-told (tells-type {t = t} p) = (t, refl, p)
 
+-- what an answered fault tells
 pub fault-told : {r : Reason} {i : ℕ} {x : Res Ty} → Tells (Typing.Fault r i) x → x ≡ bad (meant r) i
 fault-told (tells-fault {i = i} p) = ap (λ q. bad q i) (sym p)
 

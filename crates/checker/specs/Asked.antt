@@ -3,7 +3,7 @@ use mathlib.Core.Bool.{Bool, true, false, _&&_}
 use mathlib.Core.List.{List, [], _∷_}
 use mathlib.Core.Option.{some}
 use mathlib.Core.Path.{_≡_}
-use Prim.Native.Nat.{ℕ, suc, _+_}
+use Prim.Native.Nat.{ℕ, suc}
 use native.Mathlib.Decide.{ℕ-discrete}
 use lib.Dec.{eqb}
 use lib.ListN.{length}
@@ -11,10 +11,10 @@ use Rattle.language.specs.Tokens.{Token, NAME, LET}
 use Rattle.language.specs.Trees.{Name, Ty, int, bool, unit, Ty-discrete, Unary, Binary, add, sub, mul, div, less, equal, and, or, assign, Exp, branch, call, Exps, Scope, nearest}
 use Rattle.language.specs.Types.{Sig}
 use Rattle.language.specs.Faults as Faults
-use Rattle.language.specs.Faults.{unsuited, wrong-operands, not-unit, not-bool, wrong-number, wrong-argument}
+use Rattle.language.specs.Faults.{unsuited, wrong-operand, wrong-operands, not-unit, not-bool, wrong-number, wrong-argument}
 use Rattle.language.specs.Meaning.{type-number}
 use Rattle.language.proofs.Types.Verdict.{Res, ok, bad, told, need}
-use Rattle.language.proofs.Types.Operators.{unop, binop}
+use Rattle.language.proofs.Types.Operators.{if-yes, unop, binop}
 use Rattle.language.proofs.Types.Checker.{same-types, infer, infers}
 use Rattle.layout.specs.Rows.{CALL, unary-kind, binary-kind}
 use Rattle.layout.specs.Decode.{Shape, shape-of, children, build}
@@ -61,27 +61,39 @@ AsksOne kind n i r =
 abbrev pub AsksTwo : ℕ → ℕ → ℕ → ℕ → Typing → Type 0
 AsksTwo kind m n i r =
     (ts : List Token) (s : Shape) (Δ : Scope Sig) (Γ : Scope Ty) (a b c : Exp) (es : Exps) (t u : Ty)
-    → shape-of kind ≡ some s → children s ≡ 2 → (kind ≡ LET → ⊥) → infer Δ a Γ ≡ ok t → m ≡ type-number t → infer Δ b Γ ≡ ok u → n ≡ type-number u
+    → shape-of kind ≡ some s → children s ≡ 2 → (kind ≡ LET → ⊥) → infer Δ a Γ ≡ ok t → m ≡ type-number t → infer Δ b Γ ≡ ok u
+    → n ≡ type-number u
     → Tells r (infer Δ (build ts s i a b c es) Γ)
 
 -- an operator's answer, once its operands' types are known
 abbrev pub Prefixed : ℕ → ℕ → ℕ → Typing → Type 0
 Prefixed kind n i r = (o : Unary) (t : Ty) → kind ≡ unary-kind o → n ≡ type-number t → Tells r (told (unop o t) (unsuited o) i)
 
+-- between two operands
 abbrev pub Between : ℕ → ℕ → ℕ → ℕ → Typing → Type 0
 Between kind m n i r =
     (o : Binary) (t u : Ty) → kind ≡ binary-kind o → m ≡ type-number t → n ≡ type-number u → Tells r (told (binop o t u) wrong-operands i)
 
--- what `;` and `while` answer
+-- of a prefix operator that wants one type and gives it back
+abbrev pub Alike : ℕ → ℕ → ℕ → Typing → Type 0
+Alike m n i r = (t u : Ty) → m ≡ type-number t → n ≡ type-number u → Tells r (told (if-yes (Ty-discrete t u) u) wrong-operand i)
+
+-- of `:=`
+abbrev pub Assigns : ℕ → ℕ → ℕ → Typing → Type 0
+Assigns m n i r = (t u : Ty) → m ≡ type-number t → n ≡ type-number u → Tells r (told (binop assign t u) wrong-operands i)
+
+-- of `;`
 abbrev pub Follows : ℕ → ℕ → ℕ → Typing → Type 0
 Follows m n i r = (t u : Ty) → m ≡ type-number t → n ≡ type-number u → Tells r (need (Ty-discrete t unit) not-unit i λ _. ok u)
 
+-- of `while`
 abbrev pub Repeats : ℕ → ℕ → ℕ → Typing → Type 0
 Repeats m n i r =
     (t u : Ty) → m ≡ type-number t → n ≡ type-number u
     → Tells r (need (Ty-discrete t bool) not-bool i λ _. need (Ty-discrete u unit) not-unit i λ _. ok unit)
 
--- the type that an operator wants of both operands, and that of its result; `:=` is not among these
+-- the type that an operator wants of both operands, and that of its result; `:=`, which wants two types, is kept out where
+-- these are used
 abbrev pub operand : Binary → Ty
 operand add = int
 operand sub = int
@@ -93,6 +105,7 @@ operand and = bool
 operand or = bool
 operand assign = unit
 
+-- the type of the result
 abbrev pub result : Binary → Ty
 result add = int
 result sub = int
@@ -103,6 +116,13 @@ result equal = bool
 result and = bool
 result or = bool
 result assign = unit
+
+-- and these by the operator's kind
+abbrev pub Operand : ℕ → ℕ → Type 0
+Operand kind n = (o : Binary) → (o ≡ assign → ⊥) → kind ≡ binary-kind o → n ≡ type-number (operand o)
+
+abbrev pub Result : ℕ → ℕ → Type 0
+Result kind n = (o : Binary) → (o ≡ assign → ⊥) → kind ≡ binary-kind o → n ≡ type-number (result o)
 
 -- of an `if`, with the numbers of its condition's and its branches' types
 abbrev pub AsksIf : ℕ → ℕ → ℕ → ℕ → Typing → Type 0
@@ -116,7 +136,8 @@ abbrev pub Matches : ℕ → ℕ → ℕ → Bool → ℕ → Typing → Type 0
 Matches a g n b i r =
     (s : Sig) (us : List Ty) → a ≡ length (s .takes) → g ≡ type-number (s .gives) → n ≡ length us
     → (length us ≡ length (s .takes) → (b ≡ true → us ≡ s .takes) × (b ≡ false → us ≡ s .takes → ⊥))
-    → Tells r (need (ℕ-discrete (length us) (length (s .takes))) wrong-number i λ _. need (same-types us (s .takes)) wrong-argument i λ _. ok (s .gives))
+    → Tells r (need (ℕ-discrete (length us) (length (s .takes))) wrong-number i λ _. need (same-types us
+    (s .takes)) wrong-argument i λ _. ok (s .gives))
 
 -- of a call of c, which has so many arguments that suit or do not
 abbrev pub AsksCall : List ℕ → Callee → ℕ → Bool → ℕ → Typing → Type 0

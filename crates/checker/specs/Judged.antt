@@ -13,11 +13,11 @@ use Rattle.language.specs.Types.{Sig}
 use Rattle.language.specs.Faults as Faults
 use Rattle.language.proofs.Types.Verdict.{Res, ok, bad}
 use Rattle.language.proofs.Types.Checker.{infer, infers}
-use Rattle.layout.specs.Table.{variable-name, variable-kind, without-variables}
+use Rattle.layout.specs.Table.{token-word, row-word, variable-name, variable-kind, without-variables}
 use Rattle.layout.specs.Rows.{below, under}
 use Rattle.layout.specs.Decode.{tree-at, args-at, Right, RightArgs}
 use Rattle.checker.specs.Checked.{meant}
-use Rattle.checker.specs.Sight.{Variables, Sheet, Rowed}
+use Rattle.checker.specs.Sight.{Variables, find-variable, Sheet, Rowed}
 use Rattle.checker.specs.Asked.{Tells, suits}
 use Rattle.checker.specs.declared.Reason.{Reason}
 use Rattle.checker.specs.declared.Reason.the-variants.{NoBinding}
@@ -36,7 +36,8 @@ pub record Kept (w w′ : List ℕ) (binds : ℕ) : Type 0 where
 
 -- The words w, which without variables are p, stand for something whole at row i, over the tokens ts, with the functions Δ
 -- and the variables Γ in sight.
-pub record Stands (Whole : ℕ → List Token → List ℕ → ℕ → Type 0) (p w : List ℕ) (i seen binds : ℕ) (ts : List Token) (f : ℕ) (Δ : Scope Sig) (Γ : Scope Ty) : Type 0 where
+pub record Stands (Whole : ℕ → List Token → List ℕ → ℕ
+    → Type 0) (p w : List ℕ) (i seen binds : ℕ) (ts : List Token) (f : ℕ) (Δ : Scope Sig) (Γ : Scope Ty) : Type 0 where
   pub depth : ℕ
   pub sheet : Sheet ts depth p seen Δ
   pub whole : Whole f ts p i
@@ -60,6 +61,7 @@ Told p w node seen binds r =
     (ts : List Token) (f : ℕ) (Δ : Scope Sig) (Γ : Scope Ty) → Stands Right p w node seen binds ts f Δ Γ
     → Tells r (infer Δ (tree-at f ts p node) Γ)
 
+-- what is left and what is told
 pub record Judged (w w′ : List ℕ) (node seen binds : ℕ) (r : Typing) : Type 0 where
   pub kept : Kept w w′ binds
   pub right : Told (without-variables w) w node seen binds r
@@ -69,14 +71,20 @@ abbrev pub looked : Option ℕ → ℕ → Typing
 looked (some n) i = Typing.«Type» n
 looked none i = Typing.Fault NoBinding i
 
+-- the answer of the name at row `node`
+abbrev pub name-answer : List ℕ → ℕ → ℕ → Typing
+name-answer w node binds = looked (find-variable w (token-word w (row-word w node 1) 3) binds) (row-word w node 1)
+
 -- ---- arguments
 
 -- Of arguments of the callee c, k of which come before: how many there are with those, and whether they suit, as those did
 -- or did not (b).
 pub data TellsAll (w : List ℕ) (c : Callee) (k : ℕ) (b : Bool) : Passed → Res (List Ty) → Type 0 where
-  tells-types : {n : ℕ} {s : Bool} {ts : List Ty} → n ≡ k + length ts → s ≡ (b && suits w c k ts) → TellsAll w c k b (Passed.Typed n s) (ok ts)
+  tells-types : {n : ℕ} {s : Bool} {ts : List Ty} → n ≡ k + length ts → s ≡ (b && suits w c k ts)
+      → TellsAll w c k b (Passed.Typed n s) (ok ts)
   tells-wrong : {r : Reason} {q : Faults.Reason} {i : ℕ} → meant r ≡ q → TellsAll w c k b (Passed.Wrong r i) (bad q i)
 
+-- arguments can be checked, k of the callee's before them
 pub record ReadyAll (w : List ℕ) (row seen binds : ℕ) (c : Callee) (k : ℕ) : Type 0 where
   pub tokens : List Token
   pub depth : ℕ
@@ -88,11 +96,13 @@ pub record ReadyAll (w : List ℕ) (row seen binds : ℕ) (c : Callee) (k : ℕ)
   pub callee : Rowed (without-variables w) c
   pub few : k + row < NODES
 
+-- their answer is the written checker's
 abbrev pub ToldAll : List ℕ → List ℕ → ℕ → ℕ → ℕ → Callee → ℕ → Bool → Passed → Type 0
 ToldAll p w row seen binds c k b r =
     (ts : List Token) (f : ℕ) (Δ : Scope Sig) (Γ : Scope Ty) → Stands RightArgs p w row seen binds ts f Δ Γ
     → TellsAll p c k b r (infers Δ (args-at f ts p row) Γ)
 
+-- what is left and what is told
 pub record JudgedAll (w w′ : List ℕ) (row seen binds : ℕ) (c : Callee) (k : ℕ) (b : Bool) (r : Passed) : Type 0 where
   pub kept : Kept w w′ binds
   pub right : ToldAll (without-variables w) w row seen binds c k b r

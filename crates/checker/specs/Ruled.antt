@@ -1,5 +1,5 @@
 -- What is asked and promised of functions and programs: the verdict is what the executable checker of the language answers.
-use mathlib.Core.List.{List, [], _∷_}
+use mathlib.Core.List.{List, _∷_}
 use mathlib.Core.Path.{_≡_}
 use Prim.Native.Nat.{ℕ, _+_, _≤_, _<_}
 use lib.ListN.{length}
@@ -30,7 +30,7 @@ Rules (Verdict.Wrong r i) x P = x ≡ bad (meant r) i
 -- ---- parameters
 
 -- the row of a parameter, whose name is a token
-pub record Named (w : List ℕ) (row : ℕ) : Type 0 where
+pub record ParameterAt (w : List ℕ) (row : ℕ) : Type 0 where
   pub long : TABLE ≤ length w
   pub inside : row < NODES
   pub name : row-word w row 1 < TOKENS
@@ -54,6 +54,7 @@ pub record Headings (w : List ℕ) (row : ℕ) : Type 0 where
   pub last : row + row-word w row 2 < NODES
   pub names : (k : ℕ) → k < row-word w row 2 → row-word w (row + k + 1) 1 < TOKENS
 
+-- all are taken, or the first that is wrong is told
 pub record Taken (w w′ : List ℕ) (row : ℕ) (r : Verdict) : Type 0 where
   pub kept : Kept w w′ 0
   pub right : (ts : List Token) (count f : ℕ) (d : Def) → Stand (without-variables w) count ts → FunctionAt f ts (without-variables w) row d
@@ -68,6 +69,7 @@ check-head Δ d =
     unbound (nearest (d .called) Δ) function-twice (d .named) λ _.
     ok tt
 
+-- after them
 abbrev pub check-body : Scope Sig → Scope Ty → Def → Res (Unit {0})
 check-body Δ Γ d =
     need (decLe (refs (d .result)) REFS) too-many-refs (d .at) λ _.
@@ -117,12 +119,15 @@ pub record Listed (w : List ℕ) (k : ℕ) : Type 0 where
   pub long : TABLE ≤ length w
   pub next : Next tokens f (without-variables w) k functions def
 
+-- its verdict
 pub record Ruled (w w′ : List ℕ) (k : ℕ) (r : Verdict) : Type 0 where
   pub kept : Kept w w′ 0
-  pub right : (ts : List Token) (f : ℕ) (Δ : Scope Sig) (d : Def) → Next ts f (without-variables w) k Δ d → Rules r (check-def Δ d) λ _. Unit {0}
+  pub right : (ts : List Token) (f : ℕ) (Δ : Scope Sig) (d : Def) → Next ts f (without-variables w) k Δ d
+      → Rules r (check-def Δ d) λ _. Unit {0}
 
 -- ---- programs
 
+-- the whole program's answer
 pub record Concluded (w w′ : List ℕ) (count defs root : ℕ) (r : Typing) : Type 0 where
   pub kept : Kept w w′ 0
   pub right : (ts : List Token) (p : Program) → Holds ts w count defs root p → Tells r (check p)

@@ -33,6 +33,7 @@ unfoldable pub find-variable : List ℕ → ℕ → ℕ → Option ℕ
 find-variable w x zero = none
 find-variable w x (suc n) = cond (eqb x (variable-name w n)) (some (variable-kind w n)) (find-variable w x n)
 
+-- what the search says
 abbrev pub found : Found → Option ℕ
 found (Is t) = some t
 found Nowhere = none

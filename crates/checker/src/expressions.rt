@@ -1,17 +1,16 @@
 // Expressions: the checker calls itself on a node's children, from left to right, before the node asks
 // anything. A child's row comes before its node's, so the row's number falls.
 ghost use mathlib.Core.Path.{_≡_};
-ghost use Prim.Native.Nat.{ℕ, _+_, _≤_, _<_};
+ghost use Prim.Native.Nat.{_+_, _≤_, _<_};
 ghost use lib.ListN.{length};
-ghost use mathlib.Core.Bool.{Bool, _&&_};
+ghost use mathlib.Core.Bool.{_&&_};
 ghost use lib.Dec.{eqb};
 ghost use Rattle.language.specs.Sizes.{TOKENS, NODES, TABLE};
 ghost use Rattle.language.specs.Tokens.{LET};
-ghost use Rattle.layout.specs.Table.{token-word, row-word};
+ghost use Rattle.layout.specs.Table.{row-word};
 ghost use Rattle.layout.specs.Rows.{CALL};
-ghost use Rattle.checker.specs.Sight.{find-variable, wanted-in};
 ghost use Rattle.checker.specs.Asked.{Children};
-ghost use Rattle.checker.specs.Judged.{looked, Ready, Judged, ReadyAll, JudgedAll};
+ghost use Rattle.checker.specs.Judged.{name-answer, Ready, Judged, ReadyAll, JudgedAll};
 use crate::Reason;
 use crate::Typing;
 use crate::operators;
@@ -32,7 +31,7 @@ pub enum Passed {
 // A name has the type of the nearest variable that is called so.
 fn name(table: &[u32], node: usize, binds: usize) -> Typing
     requires { ⌜ (TABLE ≤ length (now table)) × (node < NODES) × (row-word (now table) node 1 < TOKENS) × (binds ≤ TOKENS) ⌝ }
-    ensures { λ r. ⌜ r ≡ looked (find-variable (now (table .entry)) (token-word (now (table .entry)) (row-word (now (table .entry)) node 1) 3) binds) (row-word (now (table .entry)) node 1) ⌝ }
+    ensures { λ r. ⌜ r ≡ name-answer (now (table .entry)) node binds ⌝ }
 {
     let at = rows::word(table, node, 1);
     let token = rows::link(table, node, 1);
@@ -135,17 +134,17 @@ fn branch(table: &mut [u32], node: usize, seen: usize, binds: usize) -> Typing
 {
     let at = rows::word(table, node, 1);
     let test = rows::link(table, node, 2);
-    let left = rows::link(table, node, 3);
-    let right = rows::link(table, node, 4);
+    let chosen = rows::link(table, node, 3);
+    let other = rows::link(table, node, 4);
     let condition = type_at(table, test, seen, binds);
     match condition {
         Typing::Fault(r, i) => Typing::Fault(r, i),
         Typing::Type(b) => {
-            let first = type_at(table, left, seen, binds);
+            let first = type_at(table, chosen, seen, binds);
             match first {
                 Typing::Fault(r, i) => Typing::Fault(r, i),
                 Typing::Type(t) => {
-                    let second = type_at(table, right, seen, binds);
+                    let second = type_at(table, other, seen, binds);
                     match second {
                         Typing::Fault(r, i) => Typing::Fault(r, i),
                         Typing::Type(u) => operators::branches(b, t, u, at),

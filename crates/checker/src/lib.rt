@@ -1,12 +1,11 @@
 // The type checker: of the program that a table holds, its type or its first fault.
-ghost use mathlib.Core.Path.{_≡_};
 ghost use Rattle.checker.specs.Checked.{Checkable, Checked};
 
-pub mod expressions;
-pub mod operators;
-pub mod programs;
-pub mod sight;
-pub mod types;
+mod expressions;
+mod operators;
+mod programs;
+mod sight;
+mod types;
 
 use layout::TABLE_END;
 use layout::VARIABLES_AT;
@@ -42,7 +41,7 @@ pub fn type_of(table: &mut [u32], count: usize, defs: usize, root: usize) -> Typ
     requires { ⌜ Checkable (now table) count defs root ⌝ }
     ensures { λ r. ⌜ Checked (now (table .entry)) (now (table .exit)) count defs root r ⌝ }
 {
-    let answer = programs::conclude(table, count, defs, root);
+    let answer = programs::program(table, count, defs, root);
     memory::clear(table, VARIABLES_AT, TABLE_END);
     answer
 }

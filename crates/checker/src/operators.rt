@@ -1,17 +1,9 @@
 // What a node asks of its children's types, once all of them are known.
-ghost use mathlib.Core.Path.{_≡_};
-ghost use mathlib.Core.Bool.{Bool};
-ghost use Prim.Native.Nat.{ℕ, _≤_};
+ghost use Prim.Native.Nat.{_≤_};
 ghost use lib.ListN.{length};
 ghost use Rattle.language.specs.Sizes.{TABLE};
-ghost use Rattle.language.specs.Trees.{Ty, Binary, assign, Ty-discrete};
-ghost use Rattle.language.specs.Faults.{wrong-operand, wrong-operands};
-ghost use Rattle.language.specs.Meaning.{type-number};
-ghost use Rattle.language.proofs.Types.Verdict.{told};
-ghost use Rattle.language.proofs.Types.Operators.{if-yes, binop};
-ghost use Rattle.layout.specs.Rows.{binary-kind};
 ghost use Rattle.checker.specs.Sight.{Rowed};
-ghost use Rattle.checker.specs.Asked.{Tells, Children, Constant, AsksOne, AsksTwo, AsksIf, AsksCall, Prefixed, Between, Follows, Repeats, Matches, operand, result};
+ghost use Rattle.checker.specs.Asked.{Children, Constant, AsksOne, AsksTwo, AsksIf, AsksCall, Prefixed, Between, Alike, Assigns, Follows, Repeats, Matches, Operand, Result};
 use crate::Reason;
 use crate::Typing;
 use crate::sight::Callee;
@@ -72,7 +64,7 @@ pub fn constant(kind: u32) -> u32
 
 // An operand that must be of one type, which is the result's too.
 fn alike(found: u32, wanted: u32, at: u32) -> Typing
-    ensures { λ r. ⌜ ((t u : Ty) → found ≡ type-number t → wanted ≡ type-number u → Tells r (told (if-yes (Ty-discrete t u) u) wrong-operand at)) ⌝ }
+    ensures { λ r. ⌜ Alike found wanted at r ⌝ }
 {
     if found == wanted {
         return Typing::Type(wanted);
@@ -113,7 +105,7 @@ pub fn one(kind: u32, found: u32, at: u32) -> Typing
 
 // The type of both operands of an operator; `:=` takes two types.
 fn operand(kind: u32) -> u32
-    ensures { λ r. ⌜ ((o : Binary) → (o ≡ assign → ⊥) → kind ≡ binary-kind o → r ≡ type-number (operand o)) ⌝ }
+    ensures { λ r. ⌜ Operand kind r ⌝ }
 {
     if kind == kinds::AND {
         return types::BOOL;
@@ -126,7 +118,7 @@ fn operand(kind: u32) -> u32
 
 // The type of its result.
 fn result(kind: u32) -> u32
-    ensures { λ r. ⌜ ((o : Binary) → (o ≡ assign → ⊥) → kind ≡ binary-kind o → r ≡ type-number (result o)) ⌝ }
+    ensures { λ r. ⌜ Result kind r ⌝ }
 {
     if kind < kinds::AND {
         return types::INT;
@@ -136,7 +128,7 @@ fn result(kind: u32) -> u32
 
 // What is assigned to a cell must have the type of what the cell holds.
 fn assigned(first: u32, second: u32, at: u32) -> Typing
-    ensures { λ r. ⌜ ((t u : Ty) → first ≡ type-number t → second ≡ type-number u → Tells r (told (binop assign t u) wrong-operands at)) ⌝ }
+    ensures { λ r. ⌜ Assigns first second at r ⌝ }
 {
     if types::REF < first {
         let held = first - types::REF;

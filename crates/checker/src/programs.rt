@@ -1,13 +1,8 @@
 // Functions in their order, then the last expression. A function is checked whole before the next: how
 // many there are, its name, its parameters one by one, its result's type, its body.
-ghost use mathlib.Core.Path.{_≡_};
-ghost use Prim.Native.Nat.{ℕ, _+_, _≤_, _<_};
-ghost use lib.ListN.{length};
-ghost use Rattle.language.specs.Sizes.{TOKENS, NODES, TABLE};
-ghost use Rattle.layout.specs.Table.{row-word, function-row};
+ghost use Prim.Native.Nat.{_+_, _<_};
 ghost use Rattle.checker.specs.Checked.{Checkable};
-ghost use Rattle.checker.specs.Judged.{Ready};
-ghost use Rattle.checker.specs.Ruled.{Named, Bound, Headings, Taken, Headlines, Fresh, Bodied, Fitting, Listed, Ruled, Concluded};
+ghost use Rattle.checker.specs.Ruled.{ParameterAt, Bound, Headings, Taken, Headlines, Fresh, Bodied, Fitting, Listed, Ruled, Concluded};
 use crate::Reason;
 use crate::Typing;
 use crate::expressions;
@@ -29,7 +24,7 @@ pub enum Verdict {
 
 // Parameter k becomes variable k: there is room for it, its name is new, its type allowed.
 fn parameter(table: &mut [u32], row: usize, k: usize) -> Verdict
-    requires { ⌜ Named (now table) row ⌝ }
+    requires { ⌜ ParameterAt (now table) row ⌝ }
     ensures { λ r. ⌜ Bound (now (table .entry)) (now (table .exit)) row k r ⌝ }
 {
     let at = rows::word(table, row, 1);
@@ -82,11 +77,12 @@ fn fresh(table: &[u32], k: usize, row: usize) -> Verdict
     if FUNCTIONS <= k {
         return Verdict::Wrong(Reason::TooManyFunctions, at);
     }
+    let named = at + 1;
     let name = sight::name_of(table, k);
     let other = sight::called(table, k, name);
     match other {
-        Callee::Function(_) => Verdict::Wrong(Reason::FunctionTwice, at + 1),
-        Callee::Putchar => Verdict::Wrong(Reason::FunctionTwice, at + 1),
+        Callee::Function(_) => Verdict::Wrong(Reason::FunctionTwice, named),
+        Callee::Putchar => Verdict::Wrong(Reason::FunctionTwice, named),
         Callee::Nobody => Verdict::Fine,
     }
 }
@@ -135,7 +131,7 @@ fn function(table: &mut [u32], k: usize) -> Verdict
 }
 
 // The whole program.
-pub fn conclude(table: &mut [u32], count: usize, defs: usize, root: usize) -> Typing
+pub fn program(table: &mut [u32], count: usize, defs: usize, root: usize) -> Typing
     requires { ⌜ Checkable (now table) count defs root ⌝ }
     ensures { λ r. ⌜ Concluded (now (table .entry)) (now (table .exit)) count defs root r ⌝ }
 {

@@ -3,8 +3,7 @@
 ghost use mathlib.Core.Path.{_≡_};
 ghost use Prim.Native.Nat.{ℕ, _+_, _≤_, _<_};
 ghost use lib.ListN.{length};
-ghost use Rattle.language.specs.Sizes.{TOKENS, NODES, TABLE};
-ghost use Rattle.layout.specs.Table.{row-word, function-row};
+ghost use Rattle.language.specs.Sizes.{TOKENS, TABLE};
 ghost use Rattle.checker.specs.Sight.{find-variable, found, function-name, callee-in, Rowed, wanted-in, Headed};
 use crate::types;
 use layout::PUTCHAR;

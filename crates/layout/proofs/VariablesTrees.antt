@@ -1,7 +1,7 @@
 -- A table reads back the same reading whatever its variables are: trees, functions and tokens lie before them.
 use mathlib.Core.Bool.{Bool, true, false, cond}
 use mathlib.Core.List.{List, [], _∷_}
-use mathlib.Core.Option.{Option, none, some}
+use mathlib.Core.Option.{some}
 use mathlib.Core.Path.{_≡_, refl, sym, ap, ap₂, subst, _∙_}
 use Prim.Native.Nat.{ℕ, zero, suc, _+_, _*_, _≤_, _<_}
 use native.Mathlib.Decide.{ℕ-discrete}
@@ -9,17 +9,18 @@ use native.Mathlib.Omega.{arith}
 use lib.Dec.{eqb, ltb}
 use lib.ListN.{length, getD}
 use borrow.Author.Tests.{eqb-true, eq-eqb, ne-eqb, ltb-true}
-use Rattle.language.specs.Sizes.{TOKENS, NODES, TABLE}
-use Rattle.language.specs.Tokens.{Token, Row, _is_, entry, At, NAME, NUMBER, LET, WHILE, IF, SEMI, LPAR, LBRACE}
-use Rattle.language.specs.Trees.{Exp, Exps, last, more, Param, Def, Program}
+use Rattle.language.specs.Sizes.{TOKENS, NODES}
+use Rattle.language.specs.Tokens.{Token, Row, _is_, entry, NAME, NUMBER, LET, WHILE, IF, SEMI, LPAR, LBRACE}
+use Rattle.language.specs.Trees.{Exp, Exps, more, Param, Def, Program}
 use Rattle.layout.specs.Table.{ROWS-AT, FUNCTIONS-AT, VARIABLES-AT, row-word, kind-of, without-variables}
 use Rattle.layout.specs.Names.{Stand}
 use Rattle.layout.proofs.VariablesWords.{length-without, without-before}
 use Rattle.layout.specs.Rows.{CALL, literal-kind, unary-kind, binary-kind}
-use Rattle.layout.specs.Decode.{Shape, a-name, a-number, a-follow, a-group, a-block, a-call, a-let, an-if, a-while, a-constant, a-unary, a-binary, shapes, shape-of, children, build, build-if, tree-at, args-at, Part, Node, Argument, Right, RightArgs, ParamsAt, params-none, params-more, FunctionAt, FunctionsAt, functions-none, functions-more, Holds}
+use Rattle.layout.specs.Decode.{Shape, a-name, a-number, a-follow, a-group, a-block, a-call, a-let, an-if, a-while, a-constant, a-unary, a-binary, shapes, shape-of, children, build, build-if, tree-at, args-at, Right, RightArgs, ParamsAt, params-none, params-more, FunctionAt, FunctionsAt, functions-none, functions-more, Holds}
 
 -- ---- the kind of row that a shape has
 
+-- the kind of its rows
 unfoldable pub shape-kind : Shape → ℕ
 shape-kind a-name = NAME
 shape-kind a-number = NUMBER
@@ -50,7 +51,61 @@ entry-kind ((c is t) ∷ rows) k s h e = go (eqb k c) refl e λ d. entry-kind ro
 
 fitting : Fitting shapes
 unfolding shape-kind literal-kind unary-kind binary-kind
-fitting = (refl, (refl, (refl, (refl, (refl, (refl, (refl, (refl, (refl, (refl, (refl, (refl, (refl, (refl, (refl, (refl, (refl, (refl, (refl, (refl, (refl, (refl, (refl, (refl, (refl, tt)))))))))))))))))))))))))
+fitting = (
+  refl,
+  (
+    refl,
+    (
+      refl,
+      (
+        refl,
+        (
+          refl,
+          (
+            refl,
+            (
+              refl,
+              (
+                refl,
+                (
+                  refl,
+                  (
+                    refl,
+                    (
+                      refl,
+                      (
+                        refl,
+                        (
+                          refl,
+                          (
+                            refl,
+                            (
+                              refl,
+                              (
+                                refl,
+                                (
+                                  refl,
+                                  (
+                                    refl,
+                                    (refl, (refl, (refl, (refl, (refl, (refl, (refl, tt))))))),
+                                  ),
+                                ),
+                              ),
+                            ),
+                          ),
+                        ),
+                      ),
+                    ),
+                  ),
+                ),
+              ),
+            ),
+          ),
+        ),
+      ),
+    ),
+  ),
+)
 
 -- a row that has a shape is of the shape's kind
 pub kind-of-shape : (k : ℕ) (s : Shape) → shape-of k ≡ some s → k ≡ shape-kind s
@@ -59,6 +114,7 @@ kind-of-shape k s e = entry-kind shapes k s fitting e
 
 -- ---- nodes over equal parts are equal
 
+-- by the parts that a shape has
 pub build-same : (ts : List Token) (s : Shape) (i : ℕ) (a b c : Exp) (es : Exps) (a′ b′ c′ : Exp) (es′ : Exps)
     → (1 ≤ children s → a ≡ a′) → (2 ≤ children s → b ≡ b′) → (3 ≤ children s → c ≡ c′) → (s ≡ a-call → es ≡ es′)
     → build ts s i a b c es ≡ build ts s i a′ b′ c′ es′
@@ -122,6 +178,7 @@ module _ (v w : List ℕ) (alike : (j : ℕ) → j < VARIABLES-AT → getD v j 0
           args = λ k. let p = r .args (sym e₀ ∙ k) in rw e₂ (p .0, right-args-alike f ts _ (p .1));
         }
 
+    -- and so are its arguments
     pub right-args-alike : (f : ℕ) (ts : List Token) (i : ℕ) → RightArgs f ts w i → RightArgs f ts v i
     right-args-alike zero ts i r = r
     right-args-alike (suc f) ts i r = λ h.
@@ -149,10 +206,12 @@ module _ (v w : List ℕ) (alike : (j : ℕ) → j < VARIABLES-AT → getD v j 0
           row-alike i 4 (r .inside) (omega arith),
           r .known,
         )
-        (build-same ts (r .shape) (row-word w i 1) _ _ _ _ _ _ _ _ (λ k. tree-alike f ts _ (r .first k .1)) (λ k. tree-alike f ts _ (r .second k .1))
+        (build-same ts (r .shape) (row-word w i 1) _ _ _ _ _ _ _ _ (λ k. tree-alike f ts _ (r .first k .1)) (λ k. tree-alike f ts _
+        (r .second k .1))
         (λ k. tree-alike f ts _ (r .third k .1))
         (λ k. args-alike f ts _ (r .args (kind-of-shape _ _ (r .known) ∙ ap shape-kind k) .1)))
 
+    -- and its arguments for the same
     pub args-alike : (f : ℕ) (ts : List Token) (i : ℕ) → RightArgs f ts w i → args-at f ts v i ≡ args-at f ts w i
     args-alike zero ts i r = refl
     args-alike (suc f) ts i r = argument-alike v w f ts i (ℕ-discrete i 0) λ h.
@@ -169,6 +228,7 @@ module _ (v w : List ℕ) (alike : (j : ℕ) → j < VARIABLES-AT → getD v j 0
       go true e = let l = ltb-true i count e in alike (4 * i) (omega arith)
       go false e = refl
 
+  -- and stand for the same list
   pub stand-alike : {count : ℕ} {ts : List Token} → Stand w count ts → Stand v count ts
   stand-alike {count} st = record {
     long = st .long;
@@ -185,6 +245,7 @@ module _ (v w : List ℕ) (alike : (j : ℕ) → j < VARIABLES-AT → getD v j 0
       params-more (row-alike r 1 (omega arith) (omega arith) ∙ a) n c (row-alike r 2 (omega arith) (omega arith) ∙ t)
       (params-alike (omega arith) q)
 
+  -- each one
   pub function-alike : {f : ℕ} {ts : List Token} {r : ℕ} {d : Def} → FunctionAt f ts w r d → FunctionAt f ts v r d
   function-alike {f} {ts} {r} {d} a =
       let e₁ = row-alike r 1 (a .inside) (omega arith) in
@@ -208,6 +269,7 @@ module _ (v w : List ℕ) (alike : (j : ℕ) → j < VARIABLES-AT → getD v j 0
         room = a .room;
       }
 
+  -- all of them
   pub functions-alike : {f : ℕ} {ts : List Token} {k : ℕ} {ds : List Def} → k + length ds ≤ TOKENS
       → FunctionsAt f ts w k ds → FunctionsAt f ts v k ds
   functions-alike h functions-none = functions-none

@@ -1,6 +1,6 @@
 -- The variables' words: what it is to write one, and that tokens, rows and functions do not see it.
 use mathlib.Core.List.{List}
-use mathlib.Core.Path.{_≡_, refl, sym, _∙_}
+use mathlib.Core.Path.{_≡_, refl, _∙_}
 use Prim.Native.Nat.{ℕ, zero, suc, _+_, _*_, _≤_, _<_}
 use native.Mathlib.Omega.{arith}
 use lib.ListN.{length, getD, set, length-set}
@@ -35,14 +35,17 @@ without-before w j h = zeros-before (2 * TOKENS) w VARIABLES-AT j h
 pub row-without : (w : List ℕ) (i k : ℕ) → i < NODES → k < 5 → row-word (without-variables w) i k ≡ row-word w i k
 row-without w i k h l = without-before w _ (omega arith)
 
+-- its functions
 pub function-without : (w : List ℕ) (k : ℕ) → k < TOKENS → function-row (without-variables w) k ≡ function-row w k
 function-without w k h = without-before w _ (omega arith)
 
+-- and its tokens
 pub token-without : (w : List ℕ) (i k : ℕ) → i < TOKENS → k < 4 → token-word (without-variables w) i k ≡ token-word w i k
 token-without w i k h l = without-before w _ (omega arith)
 
 -- ---- a variable that is written
 
+-- leaves the table as long
 pub length-put-variable : (w : List ℕ) (i x t : ℕ) → length (put-variable w i x t) ≡ length w
 unfolding put-variable
 length-put-variable w i x t = simp length-set
@@ -61,6 +64,7 @@ put-variable-name w i x t l h =
     getD-set-other (set w (VARIABLES-AT + 2 * i) x) (VARIABLES-AT + 2 * i + 1) (VARIABLES-AT + 2 * i) t 0 (λ e. omega arith)
     ∙ getD-set-same w (VARIABLES-AT + 2 * i) x 0 (omega arith)
 
+-- and its type's number
 pub put-variable-kind : (w : List ℕ) (i x t : ℕ) → TABLE ≤ length w → i < TOKENS → variable-kind (put-variable w i x t) i ≡ t
 unfolding put-variable
 put-variable-kind w i x t l h =
@@ -71,4 +75,5 @@ put-variable-kind w i x t l h =
 pub put-variable-before : (w : List ℕ) (i x t j : ℕ) → j < VARIABLES-AT + 2 * i → getD (put-variable w i x t) j 0 ≡ getD w j 0
 unfolding put-variable
 put-variable-before w i x t j h =
-    getD-set-other (set w (VARIABLES-AT + 2 * i) x) (VARIABLES-AT + 2 * i + 1) j t 0 (λ e. omega arith) ∙ getD-set-other w (VARIABLES-AT + 2 * i) j x 0 (λ e. omega arith)
+    getD-set-other (set w (VARIABLES-AT + 2 * i) x) (VARIABLES-AT + 2 * i + 1) j t 0 (λ e. omega arith)
+    ∙ getD-set-other w (VARIABLES-AT + 2 * i) j x 0 (λ e. omega arith)

@@ -94,14 +94,16 @@ single kind own build h x o i = rw (x .answer) (record {
 })
 
 -- A node whose last part is laid from row k of the table v on: what it is, how its row is put, and what is told of it.
-pub record Grows (T U : Result Exp → Type 0) (put : List ℕ → ℕ → ℕ → List ℕ) (behind : ℕ → ℕ) (w : List ℕ) (f : ℕ) (v : List ℕ) (k : ℕ) : Type 0 where
+pub record Grows (T U : Result Exp → Type 0) (put : List ℕ → ℕ → ℕ → List ℕ) (behind : ℕ
+    → ℕ) (w : List ℕ) (f : ℕ) (v : List ℕ) (k : ℕ) : Type 0 where
   pub build : Exp → Exp
   pub rows : (x : Exp) → f + below (build x) ≡ k + below x + 1
   pub laid : (x : Exp) → lay w f (build x) ≡ put (lay v k x) (k + below x + 1) (k + below x)
   pub told : (x : Exp) (m : ℕ) → U (got x m) → T (got (build x) (behind m))
   pub lost : (e : ℕ) → U (failed e) → T (failed e)
 
-module _ {T U : Told Exp} {count n f lo hi n₂ k l₂ h₂ : ℕ} {w v w₂ w₃ : List ℕ} {h : Part} (put : List ℕ → ℕ → ℕ → List ℕ) (behind : ℕ → ℕ) where
+module _ {T U : Told Exp} {count n f lo hi n₂ k l₂ h₂ : ℕ} {w v w₂ w₃ : List ℕ} {h : Part} (put : List ℕ → ℕ → ℕ → List ℕ) (behind : ℕ
+    → ℕ) where
   -- the last part, and the row that is written behind it; nothing where it failed
   pub tops : (g : Part) → ((ts : List Token) → Stand w count ts → Stand v count ts × Grows (T ts) (U ts) put behind w f v k)
       → without-rows v ≡ without-rows w → Answer U count v n₂ k l₂ h₂ g w₂ → Topped put behind g w₂ h w₃
@@ -127,9 +129,11 @@ module _ {T U : Told Exp} {count n f lo hi n₂ k l₂ h₂ : ℕ} {w v w₂ w�
   })
 
 -- a node over one part
-pub over-one : {T U : Told Exp} {count n f lo hi n₂ l₂ h₂ : ℕ} {w w₂ w₃ : List ℕ} {g h : Part} (kind own : ℕ) (behind : ℕ → ℕ) (build : Exp → Exp)
+pub over-one : {T U : Told Exp} {count n f lo hi n₂ l₂ h₂ : ℕ} {w w₂ w₃ : List ℕ} {g h : Part} (kind own : ℕ) (behind : ℕ
+    → ℕ) (build : Exp → Exp)
     → ((x : Exp) → (below (build x) ≡ below x + 1) × (lay w f (build x) ≡ put-row (lay w f x) (f + below x + 1) kind own (f + below x) 0 0))
-    → ((ts : List Token) → Stand w count ts → ((x : Exp) (m : ℕ) → U ts (got x m) → T ts (got (build x) (behind m))) × ((e : ℕ) → U ts (failed e) → T ts (failed e)))
+    → ((ts : List Token) → Stand w count ts → ((x : Exp) (m : ℕ) → U ts (got x m) → T ts (got (build x) (behind m))) × ((e : ℕ)
+    → U ts (failed e) → T ts (failed e)))
     → Answer U count w n₂ f l₂ h₂ g w₂ → Topped (λ z k r. put-row z k kind own r 0 0) behind g w₂ h w₃
     → ((r m k₂ : ℕ) → On n₂ f l₂ h₂ r m k₂ → On n f lo hi k₂ (behind m) (k₂ + 1)) → Answer T count w n f lo hi h w₃
 over-one {f = f} {g = g} kind own behind build q t a x o =

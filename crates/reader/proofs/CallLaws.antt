@@ -44,7 +44,8 @@ module _ {count n f : ℕ} {w w₁ : List ℕ} (h : kind-of w count n ≡ NAME) 
         x (omega arith) (omega arith)
 
     -- `(`, and Args with `)` or none
-    pub call-some : {w₂ : List ℕ} {z : Part} (g : Part) → (kind-of w count (n + 2) ≡ RPAR → ⊥) → YieldsAll (Closed (n + 2)) n count w (n + 2) f g w₁
+    pub call-some : {w₂ : List ℕ} {z : Part} (g : Part) → (kind-of w count (n + 2) ≡ RPAR → ⊥)
+        → YieldsAll (Closed (n + 2)) n count w (n + 2) f g w₁
         → Topped (λ u x y. put-row u x CALL n y 0 0) (λ l. l) g w₁ z w₂ → Yields (Atom n) count w n f z w₂
     unfolding lay below
     call-some (Part.Tree r m k) j a x = rw (x .answer) (record {
@@ -72,7 +73,8 @@ module _ {count n f : ℕ} {w w₁ : List ℕ} (h : kind-of w count n ≡ NAME) 
 -- ---- the arguments of the call at token i
 
 -- an answer that is known
-pub known-all : {T : Told Exps} {i count n f : ℕ} {w w′ : List ℕ} {g h : Part} → YieldsAll T i count w n f g w′ → g ≡ h → YieldsAll T i count w n f h w′
+pub known-all : {T : Told Exps} {i count n f : ℕ} {w w′ : List ℕ} {g h : Part} → YieldsAll T i count w n f g w′ → g ≡ h
+    → YieldsAll T i count w n f h w′
 known-all {T} {i} {count} {n} {f} {w} {w′} a e = subst (λ (x : Part). YieldsAll T i count w n f x w′) e a
 
 module _ {count n f i : ℕ} {w w₁ : List ℕ} where

@@ -29,7 +29,9 @@ pub known-params : {T : Told (List Param)} {count n f : ℕ} {w w′ : List ℕ}
     → ParamsAnswer T count w n f h w′
 known-params {T} {count} {n} {f} {w} {w′} a e = subst (λ (x : Rows). ParamsAnswer T count w n f x w′) e a
 
-pub known-def : {T : Told Def} {count n f : ℕ} {w w′ : List ℕ} {g h : Rows} → DefAnswer T count w n f g w′ → g ≡ h → DefAnswer T count w n f h w′
+-- the same of a function
+pub known-def : {T : Told Def} {count n f : ℕ} {w w′ : List ℕ} {g h : Rows} → DefAnswer T count w n f g w′ → g ≡ h
+    → DefAnswer T count w n f h w′
 known-def {T} {count} {n} {f} {w} {w′} a e = subst (λ (x : Rows). DefAnswer T count w n f x w′) e a
 
 -- where parameters were laid the table stands for the same tokens
@@ -96,7 +98,9 @@ module _ {count n f : ℕ} {w : List ℕ} where
           clear = b .clear ∙ ap without-rows q ∙ without-put-row _ _ _ _ _ _ _ l;
         }
         params-more (Rows.None e) j b = record {
-          told = λ ts s. S.params-more (at n s h) (at (n + 1) s i) (a .told ts s .told) (at m (stand-row f PARAMETER n x 0 0 q s) j) (b .told ts (stand-row f PARAMETER n x 0 0 q s));
+          told = λ ts s.
+              let v = stand-row f PARAMETER n x 0 0 q s in
+              S.params-more (at n s h) (at (n + 1) s i) (a .told ts s .told) (at m v j) (b .told ts v);
           ahead = tt;
           rows = tt;
           clear = b .clear ∙ ap without-rows q ∙ without-put-row _ _ _ _ _ _ _ l;
@@ -105,7 +109,8 @@ module _ {count n f : ℕ} {w : List ℕ} where
 -- ---- formals
 
 -- `)` at once
-pub formals-none : {count n f : ℕ} {w : List ℕ} → kind-of w count n ≡ RPAR → n < count → ParamsAnswer (Formals n) count w n f (Rows.Laid (n + 1) f) w
+pub formals-none : {count n f : ℕ} {w : List ℕ} → kind-of w count n ≡ RPAR → n < count
+    → ParamsAnswer (Formals n) count w n f (Rows.Laid (n + 1) f) w
 unfolding lay-params
 formals-none {n = n} h i = record {
   told = λ ts s. record { params = []; told = S.formals-none (at n s h); past = omega arith; laid = refl };
@@ -172,7 +177,8 @@ module _ {count n f : ℕ} {w : List ℕ} (h : kind-of w count n ≡ DEF) where
 
       module _ {m k : ℕ} (a : ParamsAnswer (Formals (n + 3)) count w (n + 3) (f + 1) (Rows.Laid m k) w₁) where
         -- no result, or no `{` behind it
-        pub function-result : {e : ℕ} → TypeAnswer (Resulting m) count w₁ (m + 2) count (Typing.None e) → DefAnswer (Function n) count w n f (Rows.None e) w₁
+        pub function-result : {e : ℕ} → TypeAnswer (Resulting m) count w₁ (m + 2) count (Typing.None e)
+            → DefAnswer (Function n) count w n f (Rows.None e) w₁
         function-result b = record {
           told = λ ts s. S.def-result (at n s h) (at (n + 1) s i) (at (n + 2) s j) (a .told ts s .told) (b .told ts (after-params a ts s));
           ahead = tt;
@@ -205,11 +211,17 @@ module _ {count n f : ℕ} {w : List ℕ} (h : kind-of w count n ≡ DEF) where
                   past = omega arith;
                   laid = cc;
                 };
-            ahead = let p = a .ahead in let g = b .ahead in let e = d .ahead in record { least = omega arith; most = omega arith; owned = omega arith };
+            ahead =
+                let p = a .ahead in
+                let g = b .ahead in
+                let e = d .ahead in
+                record { least = omega arith; most = omega arith; owned = omega arith };
             clear = ap without-rows (t .1) ∙ without-put-row _ _ _ _ _ _ _ u ∙ d .clear ∙ a .clear;
           })
           function-all (Part.None e) d t = rw (t .0, t .1) (record {
-            told = λ ts s. let s₁ = after-params a ts s in head-lost (at n s h) (at (n + 1) s i) (at (n + 2) s j) (a .told ts s .told) (b .told ts s₁ .told) (d .told ts s₁);
+            told = λ ts s.
+                let s₁ = after-params a ts s in
+                head-lost (at n s h) (at (n + 1) s i) (at (n + 2) s j) (a .told ts s .told) (b .told ts s₁ .told) (d .told ts s₁);
             ahead = tt;
             clear = d .clear ∙ a .clear;
           })

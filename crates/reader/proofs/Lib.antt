@@ -1,3 +1,4 @@
+-- What is true of the reader: laws of numbers, of tokens and of rows, then a file for the ways through each group of readers.
 pub mod Topping
 pub mod Standing
 pub mod Moving

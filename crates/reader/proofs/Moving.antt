@@ -23,12 +23,13 @@ module _ {count n f : ℕ} {w : List ℕ} (room : Room count w n f) where
   pub node-fits : {ℓ k i : ℕ} → ℓ ≡ length w → i < count → k < count → (TABLE ≤ ℓ) × (i < TOKENS) × (k < NODES)
   node-fits e a b = omega arith
 
-  -- behind what was read from token n₂ and row f₂ on
+  -- a row behind what was read from token n₂ and row f₂ on
   placed : (n₂ f₂ lo hi : ℕ) {ℓ i : ℕ} (g : Part) → Ahead n₂ f₂ lo hi g → hi ≤ count + 1 → f₂ + hi ≤ n₂ + count → ℓ ≡ length w → i < count
       → (TABLE ≤ ℓ) × (i < TOKENS) × Placed g
   placed n₂ f₂ lo hi (Part.Tree r m k) a b c e i = (omega arith, omega arith, (omega arith, omega arith))
   placed n₂ f₂ lo hi (Part.None x) a b c e i = (omega arith, omega arith, tt)
 
+  -- behind a tree
   pub top-fits : {T : Told Exp} {n₂ f₂ lo hi ℓ i : ℕ} {v v′ : List ℕ} (g : Part) → Answer T count v n₂ f₂ lo hi g v′ → hi ≤ count + 1
       → f₂ + hi ≤ n₂ + count → ℓ ≡ length w → i < count → (TABLE ≤ ℓ) × (i < TOKENS) × Placed g
   top-fits {n₂ = n₂} {f₂ = f₂} {lo = lo} {hi = hi} g a b c e i = placed n₂ f₂ lo hi g (a .ahead) b c e i
@@ -41,17 +42,19 @@ module _ {count n f : ℕ} {w : List ℕ} (room : Room count w n f) where
   -- ---- the measure: twelve for each token that is left, and the rule's rank
 
   module _ {t : ℕ} (a b : ℕ) (e : 12 * (count - n) + a ≡ t) where
-    -- the same token, a lower rule, and what else is asked
+    -- the same token, and a lower rule
     pub lower : b < a → (12 * (count - n) + b < t) × Room count w n f
     lower h = (omega arith, room)
 
+    -- and what else is asked
     pub lower-with : {E : Type 0} → b < a → E → (12 * (count - n) + b < t) × (Room count w n f × E)
     lower-with h x = (omega arith, (room, x))
 
-    -- a later token
     module _ {n₂ f₂ : ℕ} {v : List ℕ} (l : length v ≡ length w) (c : b < 12) (p : n < n₂) (i : n₂ ≤ count) (o : f₂ ≤ n₂) where
+      -- a later token
       pub later : (12 * (count - n₂) + b < t) × Room count v n₂ f₂
       later = (omega arith, record { wide = omega arith; few = room .few; inside = i; owned = o })
 
+      -- and what else is asked
       pub later-with : {E : Type 0} → E → (12 * (count - n₂) + b < t) × (Room count v n₂ f₂ × E)
       later-with x = (omega arith, (record { wide = omega arith; few = room .few; inside = i; owned = o }, x))

@@ -70,7 +70,8 @@ module _ {count n f k : ℕ} {w w₁ : List ℕ} (h : k ≡ kind-of w count n) w
       x (omega arith) (omega arith)
 
   -- a number
-  pub atom-number : {g : Part} → k ≡ NUMBER → n < count → Written f (n + 1) (put-row w f NUMBER n 0 0 0) w g w₁ → Yields (Atom n) count w n f g w₁
+  pub atom-number : {g : Part} → k ≡ NUMBER → n < count → Written f (n + 1) (put-row w f NUMBER n 0 0 0) w g w₁
+      → Yields (Atom n) count w n f g w₁
   unfolding lay below literal-kind
   atom-number i l x =
       single NUMBER n (λ ts. literal n (whole (value-at ts n))) (λ ts s. (refl, refl, S.atom-number (at n s (sym h) ∙ i))) x (omega arith) (omega arith)

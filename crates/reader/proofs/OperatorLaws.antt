@@ -80,7 +80,8 @@ module _ (count n f v u left : ℕ) (w : List ℕ) (k p : ℕ) (low : 1 ≤ v) (
   binds ts s = ap tightness (s .kinds n ∙ sym hk) ∙ sym hp
 
   -- no operator that may follow
-  pub rest-end : Room count w n f → f ≡ left + 1 → v ≤ u → (v ≡ 4 → ⊥) → (v ≤ p → p ≤ u → ⊥) → Continues v u count w n left f (Part.Tree left n f) w
+  pub rest-end : Room count w n f → f ≡ left + 1 → v ≤ u → (v ≡ 4 → ⊥) → (v ≤ p → p ≤ u → ⊥)
+      → Continues v u count w n left f (Part.Tree left n f) w
   rest-end room o a b h = record {
     told = λ ts s x w₀ f₀ t l.
         let e = binds ts s in
@@ -97,14 +98,16 @@ module _ (count n f v u left : ℕ) (w : List ℕ) (k p : ℕ) (low : 1 ≤ v) (
         (j .0, subst (Joins (kind-at ts n) (j .0)) e (j .1))
 
     -- an operator, and no right operand
-    pub rest-none : {e : ℕ} {w₁ : List ℕ} → Yields (Tier (p + 1) (n + 1)) count w (n + 1) f (Part.None e) w₁ → Continues v u count w n left f (Part.None e) w₁
+    pub rest-none : {e : ℕ} {w₁ : List ℕ} → Yields (Tier (p + 1) (n + 1)) count w (n + 1) f (Part.None e) w₁
+        → Continues v u count w n left f (Part.None e) w₁
     rest-none d = record {
       told = λ ts s x w₀ f₀ t l. climb-short (operator ts s .1) low a b (d .told ts s);
       ahead = tt;
       clear = d .clear;
     }
 
-    module _ {r m k₂ : ℕ} {w₁ w₂ : List ℕ} (h : f ≡ left + 1) (i : k₂ < NODES) (d : Yields (Tier (p + 1) (n + 1)) count w (n + 1) f (Part.Tree r m k₂) w₁)
+    module _ {r m k₂ : ℕ} {w₁ w₂ : List ℕ} (h : f ≡ left + 1) (i : k₂ < NODES) (d : Yields (Tier (p + 1) (n + 1)) count w (n + 1) f
+        (Part.Tree r m k₂) w₁)
         (q : w₂ ≡ put-row w₁ k₂ k n left r 0) where
       -- the operator's node over its two operands
       both : (ts : List Token) → Stand w count ts → Exp → Exp
@@ -123,7 +126,8 @@ module _ (count n f v u left : ℕ) (w : List ℕ) (k p : ℕ) (low : 1 ≤ v) (
           let l₁ : w₁ ≡ lay w f (y .tree) = y .laid in
           (omega arith, cc)
 
-      goes-on : (ts : List Token) (s : Stand w count ts) (x : Exp) {g : Result Exp} → More ts v (following p) (both ts s x) m g → More ts v u x n g
+      goes-on : (ts : List Token) (s : Stand w count ts) (x : Exp) {g : Result Exp} → More ts v (following p) (both ts s x) m g
+          → More ts v u x n g
       unfolding both
       goes-on ts s x y = climb-on (operator ts s .1) low a b (d .told ts s .told) y
 
@@ -131,7 +135,8 @@ module _ (count n f v u left : ℕ) (w : List ℕ) (k p : ℕ) (low : 1 ≤ v) (
       cleared = ap without-rows q ∙ without-put-row _ _ _ _ _ _ _ i ∙ d .clear
 
       -- an operator, its right operand, and what the operators behind them come to
-      pub rest-more : {c : ℕ} {w₃ : List ℕ} (g : Part) → c ≡ following p → Continues v c count w₂ m k₂ (k₂ + 1) g w₃ → Continues v u count w n left f g w₃
+      pub rest-more : {c : ℕ} {w₃ : List ℕ} (g : Part) → c ≡ following p → Continues v c count w₂ m k₂ (k₂ + 1) g w₃
+          → Continues v u count w n left f g w₃
       rest-more {c} (Part.Tree r₂ m₂ k₃) z y = record {
         told = λ ts s x w₀ f₀ t l.
             let e = laid-both ts s x w₀ f₀ t l in

@@ -46,6 +46,7 @@ module _ {count n f c : ℕ} {w w₁ : List ℕ} where
     stand : (ts : List Token) → Stand w count ts → Stand w₂ count ts
     stand ts s = let x = a .told ts s in let l = x .laid in stand-def (x .def) f c f (cc) s
 
+    -- whatever comes behind it
     pub program-more : {w₃ : List ℕ} (g : Sheet) → ProgramAnswer (Sequel m) count w₂ k (c + 1) g w₃ → ProgramAnswer (Sequel n) count w f c g w₃
     unfolding lay-defs defs-rows
     program-more {w₃} (Sheet.Program d r j) b = record {
@@ -78,7 +79,8 @@ module _ {count n f c : ℕ} {w w₁ : List ℕ} where
     program-none a = record { told = λ ts s. S.program-seq (not-at n s h) (a .told ts s); clear = a .clear }
 
     -- a Seq
-    pub program-seq : {r m k : ℕ} → Yields (Seq n) count w n f (Part.Tree r m k) w₁ → ProgramAnswer (Sequel n) count w f c (Sheet.Program c r m) w₁
+    pub program-seq : {r m k : ℕ} → Yields (Seq n) count w n f (Part.Tree r m k) w₁
+        → ProgramAnswer (Sequel n) count w f c (Sheet.Program c r m) w₁
     unfolding lay-defs defs-rows
     program-seq a = record {
       told = λ ts s.
@@ -105,7 +107,8 @@ module _ {count : ℕ} {w w₁ : List ℕ} where
 
   module _ {d r m : ℕ} (a : ProgramAnswer (Sequel 0) count w 0 0 (Sheet.Program d r m) w₁) where
     -- a program that ends too early
-    pub found-short : {w₂ : List ℕ} → (m ≡ count → ⊥) → w₂ ≡ without-rows w₁ → (ts : List Token) → Stand w count ts → Finds ts w (Found.None m) w₂
+    pub found-short : {w₂ : List ℕ} → (m ≡ count → ⊥) → w₂ ≡ without-rows w₁ → (ts : List Token) → Stand w count ts
+        → Finds ts w (Found.None m) w₂
     found-short h q ts s =
         let x = S.entire-short (a .told ts s .told) (λ e. h (e ∙ s .long)) in
         record { unreadable = settled-none x; at = x; clear = q ∙ a .clear }

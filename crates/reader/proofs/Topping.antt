@@ -14,7 +14,8 @@ placed-tree p e = subst Placed e p
 
 module _ (put : List ℕ → ℕ → ℕ → List ℕ) (behind : ℕ → ℕ) {g : Part} (w : List ℕ) where
   -- a row behind a tree
-  pub topped-tree : {r m k : ℕ} {h : Part} {w′ : List ℕ} → g ≡ Part.Tree r m k → Written k (behind m) (put w k r) w h w′ → Topped put behind g w h w′
+  pub topped-tree : {r m k : ℕ} {h : Part} {w′ : List ℕ} → g ≡ Part.Tree r m k → Written k (behind m) (put w k r) w h w′
+      → Topped put behind g w h w′
   topped-tree {h = h} {w′ = w′} e x = subst (λ (z : Part). Topped put behind z w h w′) (sym e) x
 
   -- nothing, handed on

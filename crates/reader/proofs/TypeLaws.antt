@@ -19,7 +19,8 @@ use Rattle.reader.specs.declared.types.Typing.{Typing}
 use Rattle.reader.proofs.Standing.{at, not-at, within}
 
 -- an answer that is known
-pub known-type : {T : Told Ty} {count lo hi : ℕ} {w : List ℕ} {g h : Typing} → TypeAnswer T count w lo hi g → g ≡ h → TypeAnswer T count w lo hi h
+pub known-type : {T : Told Ty} {count lo hi : ℕ} {w : List ℕ} {g h : Typing} → TypeAnswer T count w lo hi g → g ≡ h
+    → TypeAnswer T count w lo hi h
 known-type {T} {count} {lo} {hi} {w} a e = subst (TypeAnswer T count w lo hi) e a
 
 -- ---- refs

@@ -1,5 +1,4 @@
 -- What the readers of types, parameters, functions and the program require and ensure, in the words of `Parts`.
-use mathlib.Core.Bool.{cond}
 use mathlib.Core.List.{List}
 use mathlib.Core.Option.{Option, none, some}
 use mathlib.Core.Path.{_≡_}
@@ -12,7 +11,7 @@ use Rattle.language.specs.Meaning.{type-number}
 use Rattle.language.proofs.Grammar.Parses.{Result, failed, got}
 use Rattle.language.proofs.Grammar.Parser.{read, refs, result}
 use Rattle.language.proofs.Grammar.Settles.{Settles}
-use Rattle.layout.specs.Table.{without-rows, put-row}
+use Rattle.layout.specs.Table.{without-rows}
 use Rattle.layout.specs.Names.{Stand}
 use Rattle.layout.specs.Rows.{below, lay, lay-params, lay-def, def-rows, defs-rows, lay-defs}
 use Rattle.reader.specs.Parts.{Told}

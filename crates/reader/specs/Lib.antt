@@ -1,3 +1,4 @@
+-- What the reader's functions require and ensure.
 pub mod Parts
 pub mod Definitions
 pub mod Findings

@@ -1,7 +1,7 @@
 // Seq, Let and Item. These readers, those of `operands` and those of `names` call each other. Each call
 // goes to a later token, or to a lower rule at the same one.
 ghost use mathlib.Core.Path.{_≡_};
-ghost use Prim.Native.Nat.{ℕ, _+_, _≤_, _<_};
+ghost use Prim.Native.Nat.{_≤_};
 ghost use Rattle.language.specs.Tokens.{LET, IF, WHILE};
 ghost use Rattle.layout.specs.Table.{kind-of};
 ghost use Rattle.reader.specs.Parts.{Room, Yields, Halts, Seq, Let, Item, Until};

@@ -13,8 +13,7 @@ mod parts;
 mod types;
 
 ghost use mathlib.Core.List.{List};
-ghost use mathlib.Core.Path.{_≡_};
-ghost use Prim.Native.Nat.{ℕ, _≤_};
+ghost use Prim.Native.Nat.{_≤_};
 ghost use lib.ListN.{length};
 ghost use Rattle.language.specs.Sizes.{TOKENS, TABLE};
 ghost use Rattle.language.specs.Tokens.{Token};

@@ -1,12 +1,11 @@
 // Names and calls.
 ghost use mathlib.Core.Path.{_≡_};
-ghost use Prim.Native.Nat.{ℕ, _+_, _≤_, _<_};
+ghost use Prim.Native.Nat.{_<_};
 ghost use Rattle.language.specs.Tokens.{NAME};
 ghost use Rattle.layout.specs.Table.{kind-of};
 ghost use Rattle.reader.specs.Parts.{Room, Yields, YieldsAll, Atom, Closed};
 use crate::items::seq;
 use crate::parts::Part;
-use crate::parts::around;
 use crate::parts::node;
 use crate::parts::over;
 use crate::parts::pair;

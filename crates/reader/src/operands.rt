@@ -1,6 +1,6 @@
 // Assign, the levels of operators, Un and Atom.
 ghost use mathlib.Core.Path.{_≡_};
-ghost use Prim.Native.Nat.{ℕ, _+_, _≤_, _<_};
+ghost use Prim.Native.Nat.{_+_, _≤_};
 ghost use Rattle.reader.specs.Parts.{Room, Yields, Continues, Assign, Tier, Un, Atom};
 use crate::items::until;
 use crate::names::name_or_call;

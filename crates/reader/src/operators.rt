@@ -1,6 +1,5 @@
 // What single tokens mean to the readers of operators and atoms.
 ghost use mathlib.Core.Path.{_≡_};
-ghost use Prim.Native.Nat.{ℕ};
 ghost use Rattle.language.specs.Grammar.{prefixes, constants};
 ghost use Rattle.reader.specs.Parts.{in-table};
 ghost use Rattle.language.proofs.Grammar.Climbing.{tightness as TIGHTNESS, after as AFTER};

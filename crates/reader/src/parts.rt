@@ -1,6 +1,5 @@
 // A part of an expression that was read, and the rows of nodes.
-ghost use mathlib.Core.Path.{_≡_};
-ghost use Prim.Native.Nat.{ℕ, _+_, _≤_, _<_};
+ghost use Prim.Native.Nat.{_+_, _≤_, _<_};
 ghost use lib.ListN.{length};
 ghost use Rattle.language.specs.Sizes.{TOKENS, NODES, TABLE};
 ghost use Rattle.language.specs.Tokens.{IF};

@@ -1,6 +1,6 @@
 // Types, which a row holds as their numbers.
 ghost use mathlib.Core.Path.{_≡_};
-ghost use Prim.Native.Nat.{ℕ, _+_, _*_, _≤_, _<_};
+ghost use Prim.Native.Nat.{_+_, _*_, _≤_};
 ghost use lib.ListN.{length};
 ghost use Rattle.language.specs.Sizes.{TOKENS, TABLE};
 ghost use Rattle.reader.specs.Definitions.{TypeAnswer, RefsAnswer, Typeful, Resulting, basic-number};

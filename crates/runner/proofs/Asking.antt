@@ -18,7 +18,7 @@ use Rattle.layout.specs.Decode.{Shape, shape-of, children, Right}
 use Rattle.layout.specs.Slots.{put-slot}
 use Rattle.layout.specs.Values.{meant, Survives}
 use Rattle.layout.specs.declared.values.Value.{Value}
-use Rattle.runner.specs.Rows.{carried, IsUnary, IsBinary, LiteralRow}
+use Rattle.runner.specs.Rows.{carried, Named, IsUnary, IsBinary, LiteralRow}
 use Rattle.runner.specs.Outcomes.{Room, Kept}
 use Rattle.runner.specs.Contract.{Stands, slack, top, Ready}
 use Rattle.runner.specs.declared.state.Frame.{Frame}
@@ -74,8 +74,8 @@ module _ {table w o : List ℕ} {node depth : ℕ} {f : Frame} {s : Tally} (r : 
   ready-self = kept-self 0 w o (top f) s (r .room) (r .printed)
 
   -- a name's token is one of the tokens
-  pub ready-name : row-word table node 0 ≡ NAME → row-word table node 1 + 0 < TOKENS
-  ready-name tag = name-inside-of table node tag (r .stands)
+  pub ready-name : row-word table node 0 ≡ NAME → Named table node
+  ready-name tag = record { long = ready-long; inside = ready-inside; token = name-inside-of table node tag (r .stands) }
 
   -- a literal's row
   pub ready-literal : LiteralRow table node

@@ -195,9 +195,9 @@ module _ (table : List ℕ) (node : ℕ) (tag : row-word table node 0 ≡ NAME) 
   name-shape rec ts h fs env σ = ap (λ (e : Exp). step fs (rec fs) e env σ) (tree-is ts table node h (known-name tag))
 
   -- it has the value to which it is bound nearest
-  pub ran-name : (rec : Sem) {w o : List ℕ} {f : Frame} {s : Tally} → Room w s → s .printed ≤ length o → {key : ℕ} → key ≡ carried table node 0
-      → (r : Outcome) → Looked w key (f .base) (f .size) s r → Ran (stepped rec) 1 table w o w o node f s r
-  ran-name rec {w} {o} {f} {s} room p {key} ek r lk =
+  pub ran-name : (rec : Sem) {w o : List ℕ} {f : Frame} {s : Tally} → Room w s → s .printed ≤ length o → (r : Outcome)
+      → Looked w (carried table node 0) (f .base) (f .size) s r → Ran (stepped rec) 1 table w o w o node f s r
+  ran-name rec {w} {o} {f} {s} room p r lk =
       record {
         kept = kept-as (sym (lk .same)) (kept-self 1 w o (top f) s room p);
         right = every (stepped rec) table w o w o node f s r
@@ -206,5 +206,5 @@ module _ (table : List ℕ) (node : ℕ) (tag : row-word table node 0 ≡ NAME) 
             let n = nearest-is (st .scene .stand .few) (named-at (st .scene .stand) _ a) w (4 * f .base) (st .scene .bindings) in
             tells-by (name-shape rec ts h fs env (memory w o s))
             (tells-by (ap (λ (x : Option M.Value). when-some x (λ v. value v (memory w o s)) λ _. M.stuck)
-            (n ∙ ap (λ (k : ℕ). find k (slots w (4 * f .base) (f .size))) (sym (ek ∙ carried-own table node)))) (lk .right o)));
+            (n ∙ ap (λ (k : ℕ). find k (slots w (4 * f .base) (f .size))) (sym (carried-own table node)))) (lk .right o)));
       }

@@ -85,26 +85,29 @@ function-none w x (suc i) h = absurd (omega arith)
 
 -- ---- bindings
 
-module _ (w : List ℕ) (key base size : ℕ) (s : Tally) (f : Found) (e : found f ≡ find key (slots w (4 * base) size)) where
+module _ (w : List ℕ) (key base size : ℕ) (s : Tally) (f : Found) (e : found f ≡ find key (slots w (4 * base) size)) {k : ℕ} (ek : key ≡ k) where
   -- what is told of what was found
-  by-found : {y : Option M.Value} → found f ≡ y → (o : List ℕ) (q : M.Outcome) → Tells q (when-some y (λ v. value v (memory w o s)) λ _. M.stuck)
-      → Tells q (when-some (find key (slots w (4 * base) size)) (λ v. value v (memory w o s)) λ _. M.stuck)
-  by-found d o q h = tells-by (ap (λ (x : Option M.Value). when-some x (λ v. value v (memory w o s)) λ _. M.stuck) (sym e ∙ d)) h
+  by-found : {y : Option M.Value} → found f ≡ y → (o : List ℕ) (q : M.Outcome)
+      → Tells q (when-some y (λ v. value v (memory w o s)) λ _. M.stuck)
+      → Tells q (when-some (find k (slots w (4 * base) size)) (λ v. value v (memory w o s)) λ _. M.stuck)
+  by-found d o q h =
+      tells-by (ap (λ (x : Option M.Value). when-some x (λ v. value v (memory w o s)) λ _. M.stuck)
+      (ap (λ (x : ℕ). find x (slots w (4 * base) size)) (sym ek) ∙ sym e ∙ d)) h
 
   some-right : {v : Value} → f ≡ Found.Is v → (o : List ℕ)
-      → Tells (outcome w o (Gives v s)) (when-some (find key (slots w (4 * base) size)) (λ x. value x (memory w o s)) λ _. M.stuck)
+      → Tells (outcome w o (Gives v s)) (when-some (find k (slots w (4 * base) size)) (λ x. value x (memory w o s)) λ _. M.stuck)
   unfolding when-some
   some-right d o = by-found (ap found d) o _ tells
 
   none-right : f ≡ Found.No → (o : List ℕ) (q : M.Outcome)
-      → Tells q (when-some (find key (slots w (4 * base) size)) (λ x. value x (memory w o s)) λ _. M.stuck)
+      → Tells q (when-some (find k (slots w (4 * base) size)) (λ x. value x (memory w o s)) λ _. M.stuck)
   unfolding when-some
   none-right d o q = by-found (ap found d) o q anything
 
   -- a binding was found
-  pub looked : {v : Value} → f ≡ Found.Is v → Looked w key base size s (Gives v s)
+  pub looked : {v : Value} → f ≡ Found.Is v → Looked w k base size s (Gives v s)
   looked d = record { same = refl; right = some-right d }
 
   -- none was
-  pub unlooked : f ≡ Found.No → (r : Outcome) → tally r ≡ s → Looked w key base size s r
+  pub unlooked : f ≡ Found.No → (r : Outcome) → tally r ≡ s → Looked w k base size s r
   unlooked d r h = record { same = h; right = λ o. none-right d o (outcome w o r) }

@@ -19,6 +19,12 @@ use Rattle.runner.specs.declared.callees.Callee.the-variants.{Putchar, D
 abbrev pub carried : List ℕ → ℕ → ℕ → ℕ
 carried w row behind = token-word w (row-word w row 1 + behind) 3
 
+-- a row whose own token carries something
+pub record Named (w : List ℕ) (row : ℕ) : Type 0 where
+  pub long : TABLE ≤ length w
+  pub inside : row < NODES
+  pub token : row-word w row 1 + 0 < TOKENS
+
 -- ---- operators, by the kind of their row
 
 unfoldable pub unary-of : ℕ → Unary

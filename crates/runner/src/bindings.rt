@@ -4,10 +4,14 @@ ghost use Prim.Native.Nat.{ℕ, _+_, _*_, _≤_, _<_};
 ghost use lib.ListN.{length};
 ghost use Rattle.language.specs.Sizes.{WORK};
 ghost use Rattle.runner.specs.Slots.{find, found, slots};
+ghost use Rattle.runner.specs.Rows.{carried, Named};
 ghost use Rattle.runner.specs.Outcomes.{Looked};
+use crate::leaves;
 use crate::state;
+use crate::state::Frame;
 use crate::state::Outcome;
 use crate::state::Tally;
+use layout::rows;
 use layout::slots;
 use layout::values::Value;
 
@@ -31,13 +35,15 @@ pub fn find(work: &[u32], at: usize, n: usize, key: u32) -> Found
     Found::No
 }
 
-// The value to which a name is bound nearest.
-pub fn look(work: &[u32], place: u32, key: u32, base: usize, size: usize, s: Tally) -> Outcome
-    requires { ⌜ (4 * base + 4 * size ≤ WORK) × (WORK ≤ length (now work)) ⌝ }
-    ensures { λ r. ⌜ Looked (now (work .entry)) key base size s r ⌝ }
+// The value to which the name at a node is bound nearest.
+pub fn look(table: &[u32], work: &[u32], node: usize, frame: Frame, s: Tally) -> Outcome
+    requires { ⌜ Named (now table) node × (4 * frame .base + 4 * frame .size ≤ WORK) × (WORK ≤ length (now work)) ⌝ }
+    ensures { λ r. ⌜ Looked (now (work .entry)) (carried (now (table .entry)) node 0) (frame .base) (frame .size) s r ⌝ }
 {
-    let at = 4 * base;
-    let found = find(work, at, size, key);
+    let place = rows::word(table, node, 1);
+    let key = leaves::carried(table, node, 0);
+    let at = 4 * frame.base;
+    let found = find(work, at, frame.size, key);
     match found {
         Found::Is(v) => Outcome::Gives(v, s),
         Found::No => state::stuck(place, s),

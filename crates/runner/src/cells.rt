@@ -54,17 +54,15 @@ pub fn create(place: u32, work: &mut [u32], v: Value, s: Tally) -> Outcome
     requires { ⌜ Room (now work) s ⌝ }
     ensures { λ r. ⌜ Applied 1 (apply-unary place new (meant v)) (now (work .entry)) (now (work .exit)) s r ⌝ }
 {
-    let units = s.units;
     let births = s.births;
     let cells = s.cells;
-    let printed = s.printed;
     if cells < CELLS {
         slots::put(work, CELLS_AT, cells, births + 1, v);
         let t = Tally {
-            units,
+            units: s.units,
             births: births + 1,
             cells: cells + 1,
-            printed,
+            printed: s.printed,
         };
         return Outcome::Gives(Value::Cell(births + 1), t);
     }

@@ -4,7 +4,6 @@ ghost use Prim.Native.Nat.{ℕ, _+_};
 ghost use Rattle.language.specs.Tokens.{LBRACE, SEMI, LET, IF, WHILE};
 ghost use Rattle.language.specs.Meaning.{eval, step};
 ghost use Rattle.layout.specs.Table.{row-word};
-ghost use Rattle.runner.specs.Rows.{IsUnary, IsBinary};
 ghost use Rattle.runner.specs.Contract.{Ready, Ran, Spends};
 use crate::Stop;
 use crate::bindings;
@@ -33,18 +32,14 @@ pub fn eval(
     ensures { λ r. ⌜ Ran (λ fs. eval fs depth) 0 (now (table .entry)) (now (work .entry)) (now (out .entry)) (now (work .exit)) (now (out .exit)) node frame s r × Spends r (s .units) ⌝ }
 {
     let place = rows::word(table, node, 1);
-    let units = s.units;
-    let births = s.births;
-    let cells = s.cells;
-    let printed = s.printed;
-    if units == 0 {
+    if s.units == 0 {
         return Outcome::Halts(Stop::NoUnit, place, s);
     }
     let t = Tally {
-        units: units - 1,
-        births,
-        cells,
-        printed,
+        units: s.units - 1,
+        births: s.births,
+        cells: s.cells,
+        printed: s.printed,
     };
     if depth == 0 {
         return Outcome::Halts(Stop::TooDeep, place, t);
@@ -66,9 +61,7 @@ fn step(
 {
     let kind = rows::word(table, node, 0);
     if kind == kinds::NAME {
-        let place = rows::word(table, node, 1);
-        let key = leaves::carried(table, node, 0);
-        return bindings::look(work, place, key, frame.base, frame.size, s);
+        return bindings::look(table, work, node, frame, s);
     }
     if kind == kinds::LPAR {
         let inner = rows::link(table, node, 2);
@@ -93,67 +86,13 @@ fn step(
         return calls::call(table, work, out, node, depth, frame, s);
     }
     if rows::PREFIX <= kind {
-        return unary(table, work, out, node, depth, frame, s);
+        return operators::unary(table, work, out, node, depth, frame, s);
     }
     if kinds::PLUS <= kind {
-        return binary(table, work, out, node, depth, frame, s);
+        return operators::binary(table, work, out, node, depth, frame, s);
     }
     let v = leaves::literal(table, node);
     Outcome::Gives(v, s)
-}
-
-fn unary(
-    table: &[u32],
-    work: &mut [u32],
-    out: &mut [u8],
-    node: usize,
-    depth: usize,
-    frame: Frame,
-    s: Tally,
-) -> Outcome
-    requires { ⌜ Ready (now table) (now work) (now out) node (depth + 1) frame s × IsUnary (now table) node ⌝ }
-    ensures { λ r. ⌜ Ran (λ fs. step fs (eval fs depth)) 1 (now (table .entry)) (now (work .entry)) (now (out .entry)) (now (work .exit)) (now (out .exit)) node frame s r ⌝ }
-{
-    let op = rows::word(table, node, 0);
-    let place = rows::word(table, node, 1);
-    let operand = rows::link(table, node, 2);
-    let first = eval(table, work, out, operand, depth, frame, s);
-    match first {
-        Outcome::Halts(why, p, t) => Outcome::Halts(why, p, t),
-        Outcome::Gives(v, t) => operators::apply_unary(op, place, work, v, t),
-    }
-}
-
-fn binary(
-    table: &[u32],
-    work: &mut [u32],
-    out: &mut [u8],
-    node: usize,
-    depth: usize,
-    frame: Frame,
-    s: Tally,
-) -> Outcome
-    requires { ⌜ Ready (now table) (now work) (now out) node (depth + 1) frame s × IsBinary (now table) node ⌝ }
-    ensures { λ r. ⌜ Ran (λ fs. step fs (eval fs depth)) 1 (now (table .entry)) (now (work .entry)) (now (out .entry)) (now (work .exit)) (now (out .exit)) node frame s r ⌝ }
-{
-    let op = rows::word(table, node, 0);
-    let place = rows::word(table, node, 1);
-    let left = rows::link(table, node, 2);
-    let right = rows::link(table, node, 3);
-    let first = eval(table, work, out, left, depth, frame, s);
-    match first {
-        Outcome::Halts(why, p, t) => Outcome::Halts(why, p, t),
-        Outcome::Gives(a, t) => {
-            if operators::settles(op, a) {
-                return Outcome::Gives(a, t);
-            }
-            let second = eval(table, work, out, right, depth, frame, t);
-            match second {
-                Outcome::Halts(why, p, u) => Outcome::Halts(why, p, u),
-                Outcome::Gives(b, u) => operators::apply_binary(op, place, work, a, b, u),
-            }
-        }
-    }
 }
 
 // `;`
@@ -197,14 +136,11 @@ fn block(
     match first {
         Outcome::Halts(why, p, t) => Outcome::Halts(why, p, t),
         Outcome::Gives(v, t) => {
-            let units = t.units;
-            let births = t.births;
-            let printed = t.printed;
             let u = Tally {
-                units,
-                births,
+                units: t.units,
+                births: t.births,
                 cells,
-                printed,
+                printed: t.printed,
             };
             Outcome::Gives(v, u)
         }

@@ -1,21 +1,26 @@
-// What an operator does once its operands are known. It goes by the kind of its row.
+// Operators, by the kind of their row: their operands are worked out, then they are applied.
 ghost use mathlib.Core.Path.{_≡_};
+ghost use Prim.Native.Nat.{ℕ, _+_};
 ghost use Rattle.language.specs.State.{number};
-ghost use Rattle.language.specs.Meaning.{apply-unary, apply-binary, settles};
+ghost use Rattle.language.specs.Meaning.{apply-unary, apply-binary, settles, eval, step};
 ghost use Rattle.layout.specs.Values.{meant};
-ghost use Rattle.runner.specs.Rows.{unary-of, binary-of, OnNumbers};
+ghost use Rattle.runner.specs.Rows.{unary-of, binary-of, OnNumbers, IsUnary, IsBinary};
 ghost use Rattle.runner.specs.Outcomes.{Room, Applied, Reckoned};
+ghost use Rattle.runner.specs.Contract.{Ready, Ran};
 use crate::Stop;
 use crate::cells;
+use crate::nodes;
 use crate::numbers;
 use crate::operands;
 use crate::operands::Cell;
 use crate::operands::Number;
 use crate::operands::Truth;
 use crate::state;
+use crate::state::Frame;
 use crate::state::Outcome;
 use crate::state::Tally;
 use language::kinds;
+use layout::rows;
 use layout::rows::PREFIX;
 use layout::values::Value;
 
@@ -25,7 +30,7 @@ const NOT: u32 = PREFIX + kinds::NOT;
 
 const FETCH: u32 = PREFIX + kinds::BANG;
 
-pub fn apply_unary(op: u32, place: u32, work: &mut [u32], v: Value, s: Tally) -> Outcome
+fn apply_unary(op: u32, place: u32, work: &mut [u32], v: Value, s: Tally) -> Outcome
     requires { ⌜ Room (now work) s ⌝ }
     ensures { λ r. ⌜ Applied 1 (apply-unary place (unary-of op) (meant v)) (now (work .entry)) (now (work .exit)) s r ⌝ }
 {
@@ -54,7 +59,7 @@ pub fn apply_unary(op: u32, place: u32, work: &mut [u32], v: Value, s: Tally) ->
 }
 
 // Whether the left side alone settles it, so that the right side is not begun.
-pub fn settles(op: u32, v: Value) -> bool
+fn settles(op: u32, v: Value) -> bool
     ensures { λ r. ⌜ r ≡ settles (binary-of op) (meant v) ⌝ }
 {
     let t = operands::flag_of(v);
@@ -104,7 +109,7 @@ fn reckon(op: u32, place: u32, a: i32, b: i32, s: Tally) -> Outcome
     Outcome::Gives(Value::Flag(a == b), s)
 }
 
-pub fn apply_binary(op: u32, place: u32, work: &mut [u32], a: Value, b: Value, s: Tally) -> Outcome
+fn apply_binary(op: u32, place: u32, work: &mut [u32], a: Value, b: Value, s: Tally) -> Outcome
     requires { ⌜ Room (now work) s ⌝ }
     ensures { λ r. ⌜ Applied 0 (apply-binary place (binary-of op) (meant a) (meant b)) (now (work .entry)) (now (work .exit)) s r ⌝ }
 {
@@ -129,5 +134,61 @@ pub fn apply_binary(op: u32, place: u32, work: &mut [u32], a: Value, b: Value, s
             Number::Other => state::stuck(place, s),
         },
         Number::Other => state::stuck(place, s),
+    }
+}
+
+// Its operand, then what it does.
+pub fn unary(
+    table: &[u32],
+    work: &mut [u32],
+    out: &mut [u8],
+    node: usize,
+    depth: usize,
+    frame: Frame,
+    s: Tally,
+) -> Outcome
+    requires { ⌜ Ready (now table) (now work) (now out) node (depth + 1) frame s × IsUnary (now table) node ⌝ }
+    ensures { λ r. ⌜ Ran (λ fs. step fs (eval fs depth)) 1 (now (table .entry)) (now (work .entry)) (now (out .entry)) (now (work .exit)) (now (out .exit)) node frame s r ⌝ }
+{
+    let op = rows::word(table, node, 0);
+    let place = rows::word(table, node, 1);
+    let operand = rows::link(table, node, 2);
+    let first = nodes::eval(table, work, out, operand, depth, frame, s);
+    match first {
+        Outcome::Halts(why, p, t) => Outcome::Halts(why, p, t),
+        Outcome::Gives(v, t) => apply_unary(op, place, work, v, t),
+    }
+}
+
+// Its left side, then its right side unless the left settles it, then what it does.
+pub fn binary(
+    table: &[u32],
+    work: &mut [u32],
+    out: &mut [u8],
+    node: usize,
+    depth: usize,
+    frame: Frame,
+    s: Tally,
+) -> Outcome
+    requires { ⌜ Ready (now table) (now work) (now out) node (depth + 1) frame s × IsBinary (now table) node ⌝ }
+    ensures { λ r. ⌜ Ran (λ fs. step fs (eval fs depth)) 1 (now (table .entry)) (now (work .entry)) (now (out .entry)) (now (work .exit)) (now (out .exit)) node frame s r ⌝ }
+{
+    let op = rows::word(table, node, 0);
+    let place = rows::word(table, node, 1);
+    let left = rows::link(table, node, 2);
+    let right = rows::link(table, node, 3);
+    let first = nodes::eval(table, work, out, left, depth, frame, s);
+    match first {
+        Outcome::Halts(why, p, t) => Outcome::Halts(why, p, t),
+        Outcome::Gives(a, t) => {
+            if settles(op, a) {
+                return Outcome::Gives(a, t);
+            }
+            let second = nodes::eval(table, work, out, right, depth, frame, t);
+            match second {
+                Outcome::Halts(why, p, u) => Outcome::Halts(why, p, u),
+                Outcome::Gives(b, u) => apply_binary(op, place, work, a, b, u),
+            }
+        }
     }
 }

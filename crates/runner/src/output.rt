@@ -23,9 +23,6 @@ pub fn put(place: u32, out: &mut [u8], v: Value, s: Tally) -> Outcome
     requires { ⌜ s .printed ≤ length (now out) ⌝ }
     ensures { λ r. ⌜ Printed (λ m. want-int (meant v) λ z. put place z m) (now (out .entry)) (now (out .exit)) s r ⌝ }
 {
-    let units = s.units;
-    let births = s.births;
-    let cells = s.cells;
     let printed = s.printed;
     let n = operands::int_of(v);
     match n {
@@ -39,9 +36,9 @@ pub fn put(place: u32, out: &mut [u8], v: Value, s: Tally) -> Outcome
             if printed < out.len() {
                 out[printed] = z as u8;
                 let t = Tally {
-                    units,
-                    births,
-                    cells,
+                    units: s.units,
+                    births: s.births,
+                    cells: s.cells,
                     printed: printed + 1,
                 };
                 return Outcome::Gives(Value::Int(z), t);

@@ -4,8 +4,8 @@ use Rattle.checker.proofs.ProgramLaws.{answers}
 use Rattle.checker.proofs.type_of.Statement.{statement}
 use Rattle.checker.proofs.type_of.Tie as tie
 
-conclude-requires : tie.Need-conclude-requires
-conclude-requires c κs = search needs
+program-requires : tie.Need-program-requires
+program-requires c κs = search needs
 
 clear-requires : tie.Need-clear-requires
 clear-requires c κs = search needs
@@ -14,7 +14,7 @@ same-length : tie.Need-same-length
 same-length c = search needs
 
 returns : tie.Need-returns
-returns c = record { right = λ ts p h. answers p (c .before .before .before .before .before .before .conclude .ensures .right ts p h); table = c .before .before .clear .ensures ∙ c .before .before .before .before .before .before .conclude .ensures .kept .rest }
+returns c = record { right = λ ts p h. answers p (c .before .before .before .before .before .before .program .ensures .right ts p h); table = c .before .before .clear .ensures ∙ c .before .before .before .before .before .before .program .ensures .kept .rest }
 
 pub type-of-spec : {M : Type 1} → statement M
-type-of-spec = tie.close (tie.spec conclude-requires clear-requires same-length returns)
+type-of-spec = tie.close (tie.spec program-requires clear-requires same-length returns)

@@ -1,5 +1,4 @@
 use Rattle.checker.proofs.SightLaws.{name-found, name-nowhere}
-use native.Mathlib.Omega.{arith}
 use borrow.Author.Needs.{needs}
 use Rattle.checker.proofs.expressions.name.Statement.{statement}
 use Rattle.checker.proofs.expressions.name.Tie as tie

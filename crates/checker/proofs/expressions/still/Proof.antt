@@ -1,5 +1,4 @@
 use mathlib.Core.Path.{refl}
-use native.Mathlib.Omega.{arith}
 use borrow.Author.Needs.{needs}
 use Rattle.checker.proofs.expressions.still.Statement.{statement}
 use Rattle.checker.proofs.expressions.still.Tie as tie

@@ -2,8 +2,6 @@ use Rattle.checker.proofs.TellLaws.{type-is, fault-is}
 use Rattle.checker.proofs.OperatorLaws.{is-type, isnt-type, if-is, if-not}
 use Rattle.language.specs.Trees.{Ty-discrete}
 use Rattle.language.proofs.Types.Verdict.{told-some, told-none}
-use borrow.Author.Needs.{needs}
-use native.Mathlib.Omega.{arith}
 use Rattle.checker.proofs.operators.alike.Statement.{statement}
 use Rattle.checker.proofs.operators.alike.Tie as tie
 

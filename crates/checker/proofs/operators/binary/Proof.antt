@@ -1,5 +1,4 @@
 use Rattle.checker.proofs.OperatorLaws.{between-assign, between-fine, between-other}
-use native.Mathlib.Omega.{arith}
 use borrow.Author.Needs.{needs}
 use Rattle.checker.proofs.operators.binary.Statement.{statement}
 use Rattle.checker.proofs.operators.binary.Tie as tie

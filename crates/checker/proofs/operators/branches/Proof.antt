@@ -5,8 +5,6 @@ use Rattle.language.specs.Trees.{bool}
 use Rattle.language.specs.Meaning.{type-number}
 use Rattle.language.proofs.Types.Verdict.{after-ok, need-yes, need-no}
 use Rattle.language.proofs.Types.Checker.{infer}
-use borrow.Author.Needs.{needs}
-use native.Mathlib.Omega.{arith}
 use Rattle.checker.proofs.operators.branches.Statement.{statement}
 use Rattle.checker.proofs.operators.branches.Tie as tie
 

@@ -1,8 +1,6 @@
 use mathlib.Core.Path.{refl}
 use borrow.Author.Tests.{le-leb, lt-leb, eq-eqb, ne-eqb, lt-ltb, le-ltb}
 use Rattle.checker.proofs.ShapeLaws.{children-are}
-use borrow.Author.Needs.{needs}
-use native.Mathlib.Omega.{arith}
 use Rattle.checker.proofs.operators.children.Statement.{statement}
 use Rattle.checker.proofs.operators.children.Tie as tie
 

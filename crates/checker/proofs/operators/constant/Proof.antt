@@ -1,7 +1,6 @@
 use mathlib.Core.Path.{refl}
 use Rattle.language.specs.Meaning.{type-number}
 use Rattle.checker.proofs.ShapeLaws.{constant-is}
-use borrow.Author.Needs.{needs}
 use native.Mathlib.Omega.{arith}
 use Rattle.checker.proofs.operators.constant.Statement.{statement}
 use Rattle.checker.proofs.operators.constant.Tie as tie

@@ -1,8 +1,6 @@
 use mathlib.Core.Path.{refl, sym, _∙_}
 use Rattle.language.proofs.Types.Verdict.{need-yes, need-no}
 use Rattle.checker.proofs.TellLaws.{type-is, fault-is}
-use borrow.Author.Needs.{needs}
-use native.Mathlib.Omega.{arith}
 use Rattle.checker.proofs.operators.matched.Statement.{statement}
 use Rattle.checker.proofs.operators.matched.Tie as tie
 

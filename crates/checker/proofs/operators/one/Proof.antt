@@ -1,5 +1,4 @@
 use Rattle.checker.proofs.ShapeLaws.{one-inside, one-prefixed}
-use native.Mathlib.Omega.{arith}
 use borrow.Author.Needs.{needs}
 use Rattle.checker.proofs.operators.one.Statement.{statement}
 use Rattle.checker.proofs.operators.one.Tie as tie

@@ -4,8 +4,6 @@ use Rattle.checker.proofs.OperatorLaws.{is-type, isnt-type}
 use Rattle.language.specs.Trees.{bool, unit}
 use Rattle.language.specs.Meaning.{type-number}
 use Rattle.language.proofs.Types.Verdict.{need-yes, need-no}
-use borrow.Author.Needs.{needs}
-use native.Mathlib.Omega.{arith}
 use Rattle.checker.proofs.operators.repeat.Statement.{statement}
 use Rattle.checker.proofs.operators.repeat.Tie as tie
 

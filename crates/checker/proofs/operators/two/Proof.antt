@@ -1,5 +1,4 @@
 use Rattle.checker.proofs.ShapeLaws.{two-follow, two-while, two-between}
-use native.Mathlib.Omega.{arith}
 use borrow.Author.Needs.{needs}
 use Rattle.checker.proofs.operators.two.Statement.{statement}
 use Rattle.checker.proofs.operators.two.Tie as tie

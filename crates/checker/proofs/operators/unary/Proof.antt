@@ -6,7 +6,6 @@ use Rattle.language.specs.Faults.{unsuited}
 use Rattle.language.specs.Meaning.{type-number}
 use Rattle.language.proofs.Types.Operators.{unop}
 use Rattle.layout.specs.Rows.{unary-kind}
-use native.Mathlib.Omega.{arith}
 use borrow.Author.Needs.{needs}
 use Rattle.checker.proofs.operators.unary.Statement.{statement}
 use Rattle.checker.proofs.operators.unary.Tie as tie

@@ -1,5 +1,4 @@
 use Rattle.checker.proofs.BodyLaws.{body-ready, deep-fits, type-fits, fault-fits, other-fits}
-use native.Mathlib.Omega.{arith}
 use borrow.Author.Needs.{needs}
 use Rattle.checker.proofs.programs.body.Statement.{statement}
 use Rattle.checker.proofs.programs.body.Tie as tie

@@ -10,6 +10,9 @@ word-requires c κs = (c .before .pre .long, heads-inside (c .before .pre), omeg
 returns : tie.Need-returns
 returns c = many-fresh (c .before .before .before .pre) (c .before .word .ensures) (c .if1 .taken)
 
+add-named : tie.Need-add-named
+add-named c = let h = def-inside (c .before .before .before .pre) (c .before .word .ensures) in omega arith
+
 name-of-requires : tie.Need-name-of-requires
 name-of-requires c κs = (c .before .before .before .pre .long, c .before .before .before .pre .heads _ (omega arith))
 
@@ -19,14 +22,8 @@ called-requires c κs = (c .before .before .before .before .pre .long, λ j h. c
 enum-told : tie.Need-enum-told
 enum-told c = search needs
 
-add-t11 : tie.Need-add-t11
-add-t11 c = let h = def-inside (c .before .before .before .before .before .before .before .pre) (c .before .before .before .before .before .word .ensures) in omega arith
-
 enum-told-2 : tie.Need-enum-told-2
 enum-told-2 c = search needs
-
-add-t13 : tie.Need-add-t13
-add-t13 c = let h = def-inside (c .before .before .before .before .before .before .before .pre) (c .before .before .before .before .before .word .ensures) in omega arith
 
 enum-told-3 : tie.Need-enum-told-3
 enum-told-3 c = search needs
@@ -46,12 +43,11 @@ fresh-spec =
     (tie.spec
     word-requires
     returns
+    add-named
     name-of-requires
     called-requires
     enum-told
-    add-t11
     enum-told-2
-    add-t13
     enum-told-3
     returns-2
     returns-3

@@ -1,5 +1,4 @@
 use Rattle.checker.proofs.BodyLaws.{listed-heads, listed-params, listed-body, head-ruled, params-ruled, body-ruled}
-use native.Mathlib.Omega.{arith}
 use borrow.Author.Needs.{needs}
 use Rattle.checker.proofs.programs.function.Statement.{statement}
 use Rattle.checker.proofs.programs.function.Tie as tie

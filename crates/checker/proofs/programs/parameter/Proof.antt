@@ -1,5 +1,4 @@
 use Rattle.checker.proofs.ParameterLaws.{ninth-bound, twice-bound, deep-bound, fine-bound}
-use native.Mathlib.Omega.{arith}
 use borrow.Author.Needs.{needs}
 use Rattle.checker.proofs.programs.parameter.Statement.{statement}
 use Rattle.checker.proofs.programs.parameter.Tie as tie

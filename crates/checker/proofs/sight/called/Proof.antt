@@ -3,7 +3,6 @@ use Prim.Native.Nat.{_≤_, _-_}
 use Rattle.checker.specs.Sight.{callee-in}
 use Rattle.checker.specs.declared.sight.Callee.the-variants.{Function}
 use Rattle.checker.proofs.SightLaws.{callee-here, callee-past, callee-putchar, callee-nobody}
-use borrow.Author.Needs.{needs}
 use native.Mathlib.Omega.{arith}
 use Rattle.checker.proofs.sight.called.Statement.{statement}
 use Rattle.checker.proofs.sight.called.Tie as tie

@@ -1,5 +1,5 @@
 use Rattle.checker.proofs.SightLaws.{name-inside}
-use mathlib.Core.Path.{_≡_, refl, sym, ap, _∙_}
+use mathlib.Core.Path.{refl, _∙_}
 use native.Mathlib.Omega.{arith}
 use borrow.Author.Needs.{needs}
 use Rattle.checker.proofs.sight.name_of.Statement.{statement}

@@ -3,7 +3,6 @@ use mathlib.Core.Option.{some}
 use Prim.Native.Nat.{_≤_}
 use Rattle.checker.specs.Sight.{find-variable}
 use Rattle.checker.proofs.SightLaws.{variable-here, variable-past, variable-none}
-use borrow.Author.Needs.{needs}
 use native.Mathlib.Omega.{arith}
 use Rattle.checker.proofs.sight.variable.Statement.{statement}
 use Rattle.checker.proofs.sight.variable.Tie as tie

@@ -1,5 +1,5 @@
 use Rattle.language.specs.Meaning.{type-number}
-use mathlib.Core.Path.{_≡_, refl, sym, ap, _∙_}
+use mathlib.Core.Path.{sym, _∙_}
 use Rattle.checker.proofs.SightLaws.{rowed-function, wanted-inside, wanted-outside, wanted-first, wanted-later}
 use native.Mathlib.Omega.{arith}
 use borrow.Author.Needs.{needs}

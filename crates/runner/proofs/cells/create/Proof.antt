@@ -7,31 +7,31 @@ use Rattle.runner.proofs.cells.create.Reads as reads
 use Rattle.runner.proofs.cells.create.Lts as lts
 use Rattle.layout.proofs.slots.put.Reads as put-reads
 
--- src/cells.rt:62:43
+-- src/cells.rt:60:43
 add-put : tie.Need-add-put
 add-put c = omega (arith, (c .before .before .before .pre .births))
 
--- src/cells.rt:62:9
+-- src/cells.rt:60:9
 put-requires : tie.Need-put-requires
 put-requires c κs = (omega arith, omega (arith, (c .before .before .before .pre .few)), omega (arith, (c .before .if1 .taken), (c .before .before .before .pre .long)))
 
--- src/cells.rt:63:40
-add-t14 : tie.Need-add-t14
-add-t14 c = omega (arith, (c .before .before .before .before .before .before .pre .births))
+-- src/cells.rt:63:21
+add-t12 : tie.Need-add-t12
+add-t12 c = omega (arith, (c .before .before .before .before .before .before .pre .births))
 
--- src/cells.rt:63:59
-add-t15 : tie.Need-add-t15
-add-t15 c = search needs
+-- src/cells.rt:64:20
+add-t13 : tie.Need-add-t13
+add-t13 c = search needs
 
--- src/cells.rt:64:43
-add-t14-2 : tie.Need-add-t14-2
-add-t14-2 c = omega (arith, (c .before .before .before .before .before .before .pre .births))
+-- src/cells.rt:67:43
+add-t12-2 : tie.Need-add-t12-2
+add-t12-2 c = omega (arith, (c .before .before .before .before .before .before .pre .births))
 
--- src/cells.rt:64:9
+-- src/cells.rt:67:9
 same-length : tie.Need-same-length
 same-length c = search needs
 
--- src/cells.rt:64:9
+-- src/cells.rt:67:9
 returns : tie.Need-returns
 returns c = create-made _ (c .before .before .before .before .before .before .args .v) (c .before .before .before .before .before .before .pre) (c .before .before .before .before .if1 .taken) (c .before .before .put .ensures .1) _ (c .before .before .put .ensures .0)
 
@@ -42,4 +42,4 @@ returns-2 c = create-full _ (c .before .before .args .v) (c .before .before .pre
 pub create-spec : {M : Type 1} → statement M
 create-spec =
     tie.close
-    (tie.spec add-put put-requires add-t14 add-t15 add-t14-2 same-length returns returns-2)
+    (tie.spec add-put put-requires add-t12 add-t13 add-t12-2 same-length returns returns-2)

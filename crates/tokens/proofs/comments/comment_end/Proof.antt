@@ -22,7 +22,8 @@ add-i c = omega (arith, open-inside (c .before .args .source .now) (c .before .a
 loop-holds : tie.Need-loop-holds Inv-loop μ-loop
 loop-holds c =
     let a = c .before .args in
-    (omega arith, open-inside (a .source .now) (a .at) (c .before .pre), depth-start (a .source .now) (a .at) (c .before .pre))
+    let inside = open-inside (a .source .now) (a .at) (c .before .pre) in
+    (omega arith, omega arith, depth-start (a .source .now) (a .at) (c .before .pre))
 
 returns : tie.Need-returns Inv-loop μ-loop
 returns c =

@@ -1,7 +1,7 @@
+-- What the borrow checker leaves of `arguments`.
 use mathlib.Core.Path.{_∙_}
 use Rattle.checker.proofs.ReadyLaws.{args-inside, args-rowed, args-first, args-next}
 use Rattle.checker.proofs.JudgeLaws.{end-judged, stop-judged, more-judged}
--- What the borrow checker leaves of `arguments`.
 use Prim.Native.Nat.{ℕ}
 use borrow.Author.Needs.{needs}
 use native.Mathlib.Omega.{arith}

@@ -1,9 +1,9 @@
+-- What the borrow checker leaves of `bind`.
 use mathlib.Core.Path.{_∙_}
 use Rattle.checker.proofs.KeptLaws.{kept-self}
 use Rattle.checker.proofs.BindLaws.{let-children}
 use Rattle.checker.proofs.ReadyLaws.{bound-number, ready-inside, ready-binds, ready-bound, ready-first, ready-body}
 use Rattle.checker.proofs.JudgeLaws.{first-judged, first-told, let-judged}
--- What the borrow checker leaves of `bind`.
 use Prim.Native.Nat.{ℕ}
 use borrow.Author.Needs.{needs}
 use native.Mathlib.Omega.{arith}

@@ -1,8 +1,8 @@
+-- What the borrow checker leaves of `branch`.
 use mathlib.Core.Path.{_∙_}
 use Rattle.checker.proofs.KeptLaws.{kept-self, kept-then}
 use Rattle.checker.proofs.ReadyLaws.{ready-inside, ready-first, ready-second, ready-third}
 use Rattle.checker.proofs.JudgeLaws.{first-judged, then-judged, else-judged, if-judged}
--- What the borrow checker leaves of `branch`.
 use Prim.Native.Nat.{ℕ}
 use borrow.Author.Needs.{needs}
 use native.Mathlib.Omega.{arith}

@@ -1,6 +1,6 @@
+-- What the borrow checker leaves of `call`.
 use Rattle.checker.proofs.ReadyLaws.{called-number, ready-inside, ready-called, ready-headed, ready-args}
 use Rattle.checker.proofs.JudgeLaws.{arguments-judged, callee-ready, call-judged}
--- What the borrow checker leaves of `call`.
 use Prim.Native.Nat.{ℕ}
 use borrow.Author.Needs.{needs}
 use native.Mathlib.Omega.{arith}

@@ -1,7 +1,7 @@
+-- What the borrow checker leaves of `over-one`.
 use Rattle.checker.proofs.KeptLaws.{kept-self}
 use Rattle.checker.proofs.ReadyLaws.{ready-inside, ready-first}
 use Rattle.checker.proofs.JudgeLaws.{first-judged, one-judged}
--- What the borrow checker leaves of `over-one`.
 use Prim.Native.Nat.{ℕ}
 use borrow.Author.Needs.{needs}
 use native.Mathlib.Omega.{arith}

@@ -1,8 +1,8 @@
+-- What the borrow checker leaves of `over-two`.
 use mathlib.Core.Path.{_∙_}
 use Rattle.checker.proofs.KeptLaws.{kept-self}
 use Rattle.checker.proofs.ReadyLaws.{ready-inside, ready-first, ready-second}
 use Rattle.checker.proofs.JudgeLaws.{first-judged, second-judged, two-judged}
--- What the borrow checker leaves of `over-two`.
 use Prim.Native.Nat.{ℕ}
 use borrow.Author.Needs.{needs}
 use native.Mathlib.Omega.{arith}

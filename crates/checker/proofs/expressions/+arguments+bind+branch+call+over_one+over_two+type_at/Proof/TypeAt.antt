@@ -1,10 +1,9 @@
+-- What the borrow checker leaves of `type-at`.
 use mathlib.Core.Path.{refl, sym, _∙_}
 use Rattle.checker.proofs.ShapeLaws.{children-as, children-rest}
 use Rattle.checker.proofs.ReadyLaws.{ready-inside, ready-name, ready-binds}
 use Rattle.checker.proofs.JudgeLaws.{name-judged, constant-judged}
--- What the borrow checker leaves of `type-at`.
 use Prim.Native.Nat.{ℕ}
-use borrow.Author.Needs.{needs}
 use native.Mathlib.Omega.{arith}
 use Rattle.checker.proofs.expressions.type_at.Reads as type-at
 use Rattle.checker.proofs.expressions.+arguments+bind+branch+call+over_one+over_two+type_at.Lts-type_at as lts

@@ -1,0 +1,4 @@
+pub mod Digits
+pub mod Feeds
+pub mod Negative
+pub mod Parts

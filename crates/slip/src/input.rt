@@ -1,0 +1,63 @@
+// Reading what the arguments name.
+ghost use Rattle.io.specs.Counts.{Counts};
+
+// The bytes of a sheet, or nothing, when the reason was told.
+pub enum Sheet {
+    Bytes(usize),
+    Nothing,
+}
+
+// How many bytes at the start of these, and never more than there are.
+pub fn within(n: usize, bytes: &[u8]) -> usize
+    ensures { λ r. ⌜ Counts r (now (bytes .entry)) ⌝ }
+{
+    if n < bytes.len() { n } else { bytes.len() }
+}
+
+// Reads until the bytes are full or the input ends. Only the first read tells that it failed.
+fn read(fd: i32, name: &[u8], bytes: &mut [u8]) -> Sheet {
+    let got = libc::read(fd, bytes);
+    if got < 0 {
+        os::fail(name);
+        return Sheet::Nothing;
+    }
+    if got == 0 {
+        return Sheet::Bytes(0);
+    }
+    let first = io::count(got, bytes);
+    let more = io::read_full(fd, &mut bytes[first..]);
+    Sheet::Bytes(first + more)
+}
+
+// Reads the sheet that this argument names.
+pub fn load(argument: usize, bytes: &mut [u8]) -> Sheet {
+    let mut name = io::buffer();
+    let length = os::arg(argument, &mut name);
+    if os::errno() != 0 {
+        os::fail(b"slip: the sheet's name");
+        return Sheet::Nothing;
+    }
+    if check::same(&name[..length], b"-") {
+        return read(libc::STDIN_FILENO, &name[..length], bytes);
+    }
+    let fd = os::open_read(&name[..length]);
+    if fd < 0 {
+        os::fail(&name[..length]);
+        return Sheet::Nothing;
+    }
+    let found = read(fd, &name[..length], bytes);
+    libc::close(fd);
+    found
+}
+
+// Reads an argument that has to be a number; 0 bytes where it is none.
+pub fn number(argument: usize, word: &mut [u8]) -> usize
+    ensures { λ r. ⌜ Counts r (now (word .exit)) ⌝ }
+{
+    let length = os::arg(argument, word);
+    if page::is_number(&word[..length]) {
+        length
+    } else {
+        0
+    }
+}
