@@ -1,33 +1,27 @@
 -- Operators: by the kind of its row each does what the meaning does with its operands.
-use mathlib.Core.Path.{_≡_, refl, sym, ap, subst, _∙_}
-use mathlib.Core.Bool.{Bool, true, false, not}
+use mathlib.Core.Path.{_≡_, refl, sym, subst}
+use mathlib.Core.Bool.{Bool, false, not}
 use mathlib.Core.List.{List}
-use mathlib.Core.Option.{Option, none, some}
-use Prim.Native.Nat.{ℕ, suc, _+_, _-_, _≤_}
-use native.Mathlib.Omega.{arith}
+use mathlib.Core.Option.{none, some}
+use Prim.Native.Nat.{ℕ, _+_, _-_}
 use lib.Dec.{eqb}
-use lib.IntN.{ℤ, pos, negsuc, negℤ, _+ℤ_, _-ℤ_, _*ℤ_}
-use lib.Signed.{ltZ, quotZ}
-use borrow.Author.Tests.{eq-eqb, ne-eqb, eqb-true, eqb-false}
-use mir.Syntax.{w32}
-use mir.Val.{ofZ, SFits}
+use lib.IntN.{ℤ, negℤ}
+use borrow.Author.Tests.{ne-eqb}
 use Rattle.language.specs.Tokens.{PLUS, MINUS, STAR, SLASH, AND, OR, LESS, BECOMES, NOT, BANG}
 use Rattle.language.specs.Trees.{Unary, minus, fetch, new, Binary, assign}
 use Rattle.language.specs.State as M
-use Rattle.language.specs.State.{number, flag, nothing, cell, value, choose, want-int, want-bool, want-cell}
-use Rattle.language.specs.Meaning.{apply-unary, apply-binary, is-zero, same-int, settles}
+use Rattle.language.specs.State.{number, flag, nothing, cell, value, want-cell}
+use Rattle.language.specs.Meaning.{apply-unary, settles}
 use Rattle.language.proofs.Meaning.CellTypes.{cond-all, none-some, some-one}
 use Rattle.layout.specs.Rows.{PREFIX}
-use Rattle.layout.specs.Values.{meant}
 use Rattle.layout.specs.declared.values.Value.{Value}
 use Rattle.layout.specs.declared.values.Value.the-variants.{Flag}
 use Rattle.runner.specs.Operands.{as-int, as-flag, as-cell}
-use Rattle.runner.specs.Rows.{unary-of, binary-of, OnNumbers}
-use Rattle.runner.specs.Outcomes.{Tells, tells, anything, memory, outcome, tally, Room, Reckoned, Fitted, Answered, Applied}
-use Rattle.runner.specs.declared.Stop.{Stop}
+use Rattle.runner.specs.Rows.{unary-of, binary-of}
+use Rattle.runner.specs.Outcomes.{Tells, tells, memory, outcome, tally, Room, Fitted, Answered, Applied}
 use Rattle.runner.specs.declared.state.Tally.{Tally}
 use Rattle.runner.specs.declared.state.Outcome.{Outcome}
-use Rattle.runner.specs.declared.state.Outcome.the-variants.{Gives, Halts}
+use Rattle.runner.specs.declared.state.Outcome.the-variants.{Gives}
 use Rattle.runner.proofs.Telling.{tells-same, int-some, int-none, bool-some, bool-none, cell-some, cell-none}
 use Rattle.runner.proofs.CellLaws.{applied-still}
 

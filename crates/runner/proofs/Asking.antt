@@ -19,7 +19,7 @@ use Rattle.layout.specs.Slots.{put-slot}
 use Rattle.layout.specs.Values.{meant, Survives}
 use Rattle.layout.specs.declared.values.Value.{Value}
 use Rattle.runner.specs.Rows.{carried, Named, IsUnary, IsBinary, LiteralRow}
-use Rattle.runner.specs.Outcomes.{Room, Kept}
+use Rattle.runner.specs.Outcomes.{Kept}
 use Rattle.runner.specs.Contract.{Stands, slack, top, Ready}
 use Rattle.runner.specs.declared.state.Frame.{Frame}
 use Rattle.runner.specs.declared.state.Tally.{Tally}

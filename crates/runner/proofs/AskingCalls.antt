@@ -1,21 +1,16 @@
 -- What a call, its arguments and the body that it does ask.
-use mathlib.Core.Path.{_≡_, refl, sym, ap, subst, _∙_}
+use mathlib.Core.Path.{_≡_, refl, sym, subst}
 use mathlib.Core.List.{List}
 use mathlib.Core.Option.{some}
 use Prim.Native.Nat.{ℕ, zero, suc, _+_, _*_, _≤_, _<_}
 use native.Mathlib.Omega.{arith}
-use lib.ListN.{length}
-use borrow.Author.Tests.{eq-eqb}
-use Rattle.language.specs.Sizes.{NODES, ACTIVE, TABLE, TOKENS, PARAMETERS, WORK}
-use Rattle.language.specs.Tokens.{Token, LBRACE}
-use Rattle.language.specs.Trees.{Scope}
-use Rattle.language.specs.Meaning.{Fun, Env}
+use Rattle.language.specs.Sizes.{NODES, ACTIVE, TOKENS, PARAMETERS}
 use Rattle.layout.specs.Table.{row-word}
 use Rattle.layout.specs.Rows.{CALL}
 use Rattle.layout.specs.Decode.{Right, RightArgs}
 use Rattle.layout.specs.Slots.{BINDINGS}
 use Rattle.runner.specs.Rows.{carried, Headed, Callable, find-function, callee, takes}
-use Rattle.runner.specs.Outcomes.{Room, Kept}
+use Rattle.runner.specs.Outcomes.{Kept}
 use Rattle.runner.specs.Contract.{Stands, Lined, slack, top, Sem, Ready, Queued, Passing}
 use Rattle.runner.specs.declared.callees.Callee.{Callee}
 use Rattle.runner.specs.declared.callees.Callee.the-variants.{Putchar, Defined}

@@ -1,27 +1,24 @@
 -- A node begins: it has a unit or none, it is too deep or not. And the nodes that have no parts, a literal and a name.
-use mathlib.Core.Path.{_≡_, refl, sym, ap, subst, _∙_}
+use mathlib.Core.Path.{_≡_, refl, sym, ap, _∙_}
 use mathlib.Core.List.{List}
-use mathlib.Core.Option.{Option, some}
+use mathlib.Core.Option.{Option}
 use Prim.Native.Nat.{ℕ, zero, suc, _+_, _-_, _*_, _≤_, _<_}
-use native.Mathlib.Decide.{decLt}
 use native.Mathlib.Omega.{arith}
-use lib.ListN.{length, getD, List·getD-eq-default}
+use lib.ListN.{length}
 use Rattle.language.specs.Sizes.{TOKENS}
 use Rattle.language.specs.Tokens.{Token, At, spelling-at, NAME}
-use Rattle.language.specs.Trees.{Exp, literal, whole, truth, trivial, Scope, own, nearest}
+use Rattle.language.specs.Trees.{Exp, Scope, own, nearest}
 use Rattle.language.specs.State as M
 use Rattle.language.specs.State.{value, stop, no-unit, too-deep, when-some, with-units}
-use Rattle.language.specs.Meaning.{Fun, Env, charge, begin, step, eval, literal-value}
+use Rattle.language.specs.Meaning.{Fun, Env, charge, begin, step, eval}
 use Rattle.language.proofs.Meaning.Spending.{at-end}
-use Rattle.layout.specs.Table.{token-word, row-word}
-use Rattle.layout.specs.Names.{payload, Stand}
+use Rattle.layout.specs.Table.{row-word}
 use Rattle.layout.specs.Decode.{build, tree-at, Right}
-use Rattle.layout.specs.Values.{meant}
 use Rattle.layout.specs.declared.values.Value.{Value}
 use Rattle.layout.proofs.NameLaws.{name-inside, named-at}
 use Rattle.runner.specs.Slots.{slots, find}
-use Rattle.runner.specs.Rows.{carried, literal-of}
-use Rattle.runner.specs.Outcomes.{Tells, memory, outcome, tally, Room, Kept, Looked}
+use Rattle.runner.specs.Rows.{carried}
+use Rattle.runner.specs.Outcomes.{memory, tally, Room, Looked}
 use Rattle.runner.specs.Contract.{Stands, Ready, top, Sem, Ran, Spends}
 use Rattle.runner.specs.declared.Stop.{Stop}
 use Rattle.runner.specs.declared.state.Frame.{Frame}
@@ -29,16 +26,12 @@ use Rattle.runner.specs.declared.state.Tally.{Tally}
 use Rattle.runner.specs.declared.state.Outcome.{Outcome}
 use Rattle.runner.specs.declared.state.Outcome.the-variants.{Gives, Halts}
 use Rattle.runner.proofs.Telling.{tells-same, tells-by}
-use Rattle.runner.proofs.Keeping.{kept-self, kept-as}
+use Rattle.runner.proofs.Keeping.{tick, kept-spent, room-ticked, kept-self, kept-as}
 use Rattle.runner.proofs.Shapes.{tree-is, own-is, known-name}
 use Rattle.runner.proofs.Standing.{nearest-is, carried-own}
 use Rattle.runner.proofs.Steps.{stepped, every}
 
 -- ---- a unit
-
--- one unit less
-abbrev pub tick : Tally → Tally
-tick s = record { units = s .units - 1; births = s .births; cells = s .cells; printed = s .printed }
 
 charged : (u : ℕ) → (u ≡ 0 → ⊥) → (i : ℕ) (σ : M.State) (k : M.State → M.Outcome) → charge u i σ k ≡ k (with-units (u - 1) σ)
 unfolding charge
@@ -86,12 +79,7 @@ module _ {table w o : List ℕ} {node depth : ℕ} {f : Frame} {s : Tally} (read
         stands = ready .stands;
         written = ready .written;
         deep = omega (arith, ready .deep);
-        room = record {
-          long = ready .room .long;
-          few = ready .room .few;
-          births = omega (arith, ready .room .births);
-          low = ready .room .low;
-        };
+        room = room-ticked (ready .room);
         printed = ready .printed;
       }
 
@@ -112,32 +100,12 @@ module _ {table w o : List ℕ} {node depth : ℕ} {f : Frame} {s : Tally} (read
     tt,
   )
 
-  ticked : Kept 0 w o w o (top f) s (tick s)
-  ticked =
-      let self = kept-self 0 w o (top f) s (ready .room) (ready .printed) in
-      record {
-        env = self .env;
-        beyond = self .beyond;
-        long = refl;
-        wide = refl;
-        rest = self .rest;
-        used = omega arith;
-        above = self .above;
-        few = self .few;
-        births = omega arith;
-        older = self .older;
-        keys = self .keys;
-        newer = self .newer;
-        onward = self .onward;
-        printed = self .printed;
-      }
-
   -- too many are active
   pub ran-deep : (p : ℕ) → p ≡ row-word table node 1 → depth ≡ 0 → (s .units ≡ 0 → ⊥)
       → Ran (evals depth) 0 table w o w o node f s (Halts Stop.TooDeep p (tick s)) × Spends (Halts Stop.TooDeep p (tick s)) (s .units)
   ran-deep p ep e k = (
     record {
-      kept = ticked;
+      kept = kept-spent k (kept-self 1 w o (top f) (tick s) (room-ticked (ready .room)) (ready .printed));
       right = λ d h ts fs env st.
           tells-same (ap (λ (x : ℕ). stop too-deep x (memory w o (tick s))) (place-is p ep d h ts fs env st)
           ∙ sym (begun-deep fs depth (tree-at h ts table node) env (memory w o s) k e));
@@ -148,30 +116,14 @@ module _ {table w o : List ℕ} {node depth : ℕ} {f : Frame} {s : Tally} (read
   -- it begins, and does what it does
   pub ran-begun : {w1 o1 : List ℕ} (r : Outcome) → (depth ≡ 0 → ⊥) → (s .units ≡ 0 → ⊥)
       → Ran (stepped (evals (depth - 1))) 1 table w o w1 o1 node f (tick s) r → Ran (evals depth) 0 table w o w1 o1 node f s r × Spends r (s .units)
-  ran-begun {w1} {o1} r h k ran =
-      let a = ran .kept in (
-        record {
-          kept = record {
-            env = a .env;
-            beyond = a .beyond;
-            long = a .long;
-            wide = a .wide;
-            rest = a .rest;
-            used = omega (arith, a .used);
-            above = a .above;
-            few = a .few;
-            births = omega (arith, a .births);
-            older = a .older;
-            keys = a .keys;
-            newer = a .newer;
-            onward = a .onward;
-            printed = a .printed;
-          };
-          right = λ d g ts fs env st.
-              tells-by (begun fs depth (tree-at g ts table node) env (memory w o s) k h) (ran .right d g ts fs env st);
-        },
-        spends-of r (s .units) (omega (arith, a .used)),
-      )
+  ran-begun {w1} {o1} r h k ran = (
+    record {
+      kept = kept-spent k (ran .kept);
+      right = λ d g ts fs env st.
+          tells-by (begun fs depth (tree-at g ts table node) env (memory w o s) k h) (ran .right d g ts fs env st);
+    },
+    spends-of r (s .units) (omega (arith, ran .kept .used)),
+  )
 
 -- ---- a name
 

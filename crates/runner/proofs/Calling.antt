@@ -3,24 +3,24 @@ use mathlib.Core.Path.{_≡_, refl, sym, ap, subst, _∙_}
 use mathlib.Core.Bool.{Bool, true, false, cond}
 use mathlib.Core.List.{List, [], _∷_}
 use mathlib.Core.Option.{Option, none, some}
-use Prim.Native.Nat.{ℕ, zero, suc, _+_, _*_, _≤_, _<_}
+use Prim.Native.Nat.{ℕ, suc, _+_, _*_, _≤_, _<_}
 use native.Mathlib.Omega.{arith}
 use lib.ListN.{length}
 use Rattle.language.specs.Sizes.{TOKENS}
 use Rattle.language.specs.Tokens.{Token, At, NAME, same, spelling-at}
-use Rattle.language.specs.Trees.{Name, Exp, Def, Scope, empty, push, nearest, PUTCHAR}
+use Rattle.language.specs.Trees.{Exp, Def, Scope, empty, push, nearest, PUTCHAR}
 use Rattle.language.specs.State as M
-use Rattle.language.specs.State.{stop, stuck, when-some, want-one, want-int}
+use Rattle.language.specs.State.{stuck, when-some, want-one, want-int}
 use Rattle.language.specs.Meaning.{Fun, putchar, defined, Env, put, enter, arguments, invoke, step}
 use Rattle.layout.specs.Table.{row-word}
 use Rattle.layout.specs.Rows.{CALL}
-use Rattle.layout.specs.Decode.{build, tree-at, args-at, Right, FunctionAt}
+use Rattle.layout.specs.Decode.{build, tree-at, args-at, Right}
 use Rattle.layout.specs.Slots.{BINDINGS, value-at}
 use Rattle.layout.proofs.NameLaws.{Named, name-inside, named-at}
 use Rattle.runner.specs.Slots.{values-from}
 use Rattle.runner.specs.Rows.{carried, find-function, callee, takes, parameter}
-use Rattle.runner.specs.Outcomes.{Tells, anything, why, memory, outcome, tally, Room, Kept, Printed}
-use Rattle.runner.specs.Contract.{Binds, binds-none, Scene, Stands, Lined, top, Sem, Ran, Worked, Passing}
+use Rattle.runner.specs.Outcomes.{Tells, anything, memory, outcome, tally, Room, Printed}
+use Rattle.runner.specs.Contract.{Binds, binds-none, Stands, Lined, top, Sem, Ran, Worked, Passing}
 use Rattle.runner.specs.declared.Stop.{Stop}
 use Rattle.runner.specs.declared.callees.Callee.{Callee}
 use Rattle.runner.specs.declared.callees.Callee.the-variants.{Putchar, Defined}
@@ -28,11 +28,11 @@ use Rattle.runner.specs.declared.calls.Passed.{Passed}
 use Rattle.runner.specs.declared.state.Frame.{Frame}
 use Rattle.runner.specs.declared.state.Tally.{Tally}
 use Rattle.runner.specs.declared.state.Outcome.{Outcome}
-use Rattle.runner.specs.declared.state.Outcome.the-variants.{Gives, Halts}
+use Rattle.runner.specs.declared.state.Outcome.the-variants.{Halts}
 use Rattle.runner.proofs.Telling.{tells-by, when-is}
 use Rattle.runner.proofs.Keeping.{kept-then, kept-more, kept-low, kept-as, room-after}
 use Rattle.runner.proofs.Shapes.{tree-is, known-call}
-use Rattle.runner.proofs.Standing.{carried-own, scene-after}
+use Rattle.runner.proofs.Standing.{carried-own}
 use Rattle.runner.proofs.Steps.{stepped, every}
 use Rattle.runner.proofs.Finding.{Finds, finds-none, finds-some}
 use Rattle.runner.proofs.Queues.{passing-is}

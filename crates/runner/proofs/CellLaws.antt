@@ -1,15 +1,15 @@
 -- Cells read, born and written: the words do what the meaning does.
 use mathlib.Core.Path.{_≡_, refl, sym, ap, subst, _∙_}
 use mathlib.Core.Bool.{Bool, true, false, cond}
-use mathlib.Core.List.{List, [], _∷_}
+use mathlib.Core.List.{List, _∷_}
 use mathlib.Core.Option.{Option, none, some}
-use Prim.Native.Nat.{ℕ, zero, suc, _+_, _*_, _<_, _≤_}
+use Prim.Native.Nat.{ℕ, suc, _+_, _*_, _<_, _≤_}
 use native.Mathlib.Omega.{arith}
 use native.Mathlib.Numerals.{add-one}
 use lib.ListN.{length, getD}
 use lib.Dec.{T, eqb}
 use borrow.Author.Tests.{lt-ltb, le-ltb}
-use Rattle.language.specs.Sizes.{CELLS, WORK}
+use Rattle.language.specs.Sizes.{CELLS}
 use Rattle.language.specs.Trees.{new, fetch, assign}
 use Rattle.language.specs.State as M
 use Rattle.language.specs.State.{nothing, cell, Cells, no-cell, live, held, store, value, stop, cell-freed, cells-full, choose, when-some, want-cell, with-cells}
@@ -19,7 +19,7 @@ use Rattle.layout.specs.Values.{meant, Survives}
 use Rattle.layout.specs.declared.values.Value.{Value}
 use Rattle.layout.specs.declared.values.Value.the-variants.{Nothing, Cell}
 use Rattle.runner.specs.Slots.{slots, find, found, cells-of, hit, Stored}
-use Rattle.runner.specs.Outcomes.{Tells, tells, memory, outcome, tally, Room, Kept, Means, Ended, Applied}
+use Rattle.runner.specs.Outcomes.{Tells, memory, outcome, tally, Room, Kept, Means, Ended, Applied}
 use Rattle.runner.specs.declared.Stop.{Stop}
 use Rattle.runner.specs.declared.bindings.Found.{Found}
 use Rattle.runner.specs.declared.state.Tally.{Tally}

@@ -1,8 +1,7 @@
 -- A literal's row is the literal that its kind and its token say.
-use mathlib.Core.Path.{_≡_, refl, sym, ap, subst, _∙_}
+use mathlib.Core.Path.{_≡_, refl, sym, ap, _∙_}
 use mathlib.Core.Bool.{true, false}
 use mathlib.Core.List.{List}
-use mathlib.Core.Option.{some}
 use Prim.Native.Nat.{ℕ, zero, suc, _+_, _≤_, _<_}
 use native.Mathlib.Decide.{decLt}
 use native.Mathlib.Omega.{arith}
@@ -19,7 +18,7 @@ use Rattle.layout.specs.Decode.{a-number, a-constant, shape-of, build, tree-at,
 use Rattle.layout.specs.Values.{meant}
 use Rattle.layout.specs.declared.values.Value.{Value}
 use Rattle.runner.specs.Rows.{carried, literal-of}
-use Rattle.runner.specs.Outcomes.{Tells, memory, outcome, Room}
+use Rattle.runner.specs.Outcomes.{memory, Room}
 use Rattle.runner.specs.Contract.{Stands, Written, top, Sem, Ran}
 use Rattle.runner.specs.declared.state.Frame.{Frame}
 use Rattle.runner.specs.declared.state.Tally.{Tally}

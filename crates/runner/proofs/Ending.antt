@@ -9,9 +9,7 @@ use lib.ListN.{length, getD, set, take, drop, length-set, length-drop, length-re
 use lib.Seq.{getD-set-other, getD-drop, take-suc, ext-getD}
 use borrow.Author.Tests.{eqb-true, eqb-false, ltb-true, ltb-false}
 use Rattle.language.specs.Sizes.{WORK}
-use Rattle.language.specs.State as M
 use Rattle.layout.specs.Table.{zeros}
-use Rattle.layout.specs.declared.values.Value.{Value}
 use Rattle.runner.specs.Outcomes.{bytes, memory, outcome, tally, Kept}
 use Rattle.runner.specs.Contract.{spent, reported, Counts, Tells-of, printed-by}
 use Rattle.runner.specs.declared.state.Tally.{Tally}

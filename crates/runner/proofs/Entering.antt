@@ -1,12 +1,12 @@
 -- A function is entered with the arguments that were bound: its body sees them under its parameters' names.
 use mathlib.Core.Path.{_≡_, refl, sym, ap, subst, _∙_}
 use mathlib.Core.List.{List, [], _∷_}
-use Prim.Native.Nat.{ℕ, zero, suc, _+_, _*_, _≤_, _<_}
+use Prim.Native.Nat.{ℕ, suc, _+_, _≤_, _<_}
 use native.Mathlib.Omega.{arith}
 use native.Mathlib.Numerals.{add-one}
 use lib.ListN.{length}
-use Rattle.language.specs.Tokens.{Token, spelling-at}
-use Rattle.language.specs.Trees.{Name, Param, push}
+use Rattle.language.specs.Tokens.{Token}
+use Rattle.language.specs.Trees.{Param, push}
 use Rattle.language.specs.State as M
 use Rattle.language.specs.State.{want-one}
 use Rattle.language.specs.Meaning.{Env, enter}
@@ -17,7 +17,7 @@ use Rattle.layout.specs.Slots.{key-at, value-at}
 use Rattle.layout.proofs.NameLaws.{named-at}
 use Rattle.runner.specs.Slots.{values-from}
 use Rattle.runner.specs.Rows.{carried}
-use Rattle.runner.specs.Contract.{Binds, binds-none, binds-more}
+use Rattle.runner.specs.Contract.{Binds, binds-more}
 use Rattle.runner.proofs.Standing.{carried-own}
 
 -- ---- a wrong number of arguments

@@ -1,7 +1,7 @@
 -- Functions by name: the row that is found is that of the function which the meaning finds.
 use mathlib.Core.Path.{_≡_, refl, sym, ap, subst, _∙_}
 use mathlib.Core.Bool.{Bool, true, false, cond}
-use mathlib.Core.List.{List, [], _∷_}
+use mathlib.Core.List.{List}
 use mathlib.Core.Option.{Option, none, some}
 use Prim.Native.Nat.{ℕ, zero, suc, _+_, _≤_, _<_}
 use native.Mathlib.Omega.{arith}
@@ -9,7 +9,7 @@ use lib.Dec.{eqb}
 use borrow.Author.Tests.{eqb-true, eqb-false}
 use lib.ListN.{length}
 use Rattle.language.specs.Sizes.{TOKENS, NODES, PARAMETERS, TABLE}
-use Rattle.language.specs.Tokens.{Token, At, NAME, same, spelling-at}
+use Rattle.language.specs.Tokens.{Token, At, NAME, same}
 use Rattle.language.specs.Trees.{Name, Param, Def, Scope, empty, push, nearest, PUTCHAR}
 use Rattle.language.specs.Meaning.{Fun, putchar, defined}
 use Rattle.language.proofs.Meaning.CellTypes.{none-some, some-one}

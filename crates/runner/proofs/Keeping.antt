@@ -1,13 +1,12 @@
 -- What a step keeps: one step after another, and a weaker account of one.
-use mathlib.Core.Path.{_≡_, refl, sym, ap, subst, _∙_}
+use mathlib.Core.Path.{_≡_, refl, ap, subst, _∙_}
 use mathlib.Core.Bool.{Bool, true, false}
 use mathlib.Core.List.{List}
-use Prim.Native.Nat.{ℕ, suc, _+_, _-_, _*_, _<_, _≤_}
+use Prim.Native.Nat.{ℕ, _+_, _-_, _*_, _<_, _≤_}
 use native.Mathlib.Omega.{arith}
-use lib.ListN.{length, getD}
+use lib.ListN.{length}
 use lib.Dec.{ltb}
 use borrow.Author.Tests.{ltb-true, ltb-false}
-use Rattle.language.specs.Sizes.{WORK}
 use Rattle.layout.specs.Slots.{BINDINGS, CELLS-AT, key-at, put-slot}
 use Rattle.layout.specs.declared.values.Value.{Value}
 use Rattle.runner.specs.Slots.{Slot, slots, cells-of}
@@ -104,6 +103,36 @@ kept-self m w o top s r p =
 -- the numbers are the same
 pub kept-as : {m : ℕ} {w o w1 o1 : List ℕ} {top : ℕ} {s t u : Tally} → t ≡ u → Kept m w o w1 o1 top s t → Kept m w o w1 o1 top s u
 kept-as {m} {w} {o} {w1} {o1} {top} {s} e k = subst (λ (x : Tally). Kept m w o w1 o1 top s x) e k
+
+-- ---- a unit
+
+-- one unit less
+abbrev pub tick : Tally → Tally
+tick s = record { units = s .units - 1; births = s .births; cells = s .cells; printed = s .printed }
+
+-- the unit that a node uses pays for one birth
+pub kept-spent : {w o w1 o1 : List ℕ} {top : ℕ} {s t : Tally} → (s .units ≡ 0 → ⊥) → Kept 1 w o w1 o1 top (tick s) t → Kept 0 w o w1 o1 top s t
+kept-spent some a =
+    record {
+      env = a .env;
+      beyond = a .beyond;
+      long = a .long;
+      wide = a .wide;
+      rest = a .rest;
+      used = omega (arith, a .used);
+      above = a .above;
+      few = a .few;
+      births = omega (arith, a .births);
+      older = a .older;
+      keys = a .keys;
+      newer = a .newer;
+      onward = a .onward;
+      printed = a .printed;
+    }
+
+-- there is room with a unit less
+pub room-ticked : {w : List ℕ} {s : Tally} → Room w s → Room w (tick s)
+room-ticked r = record { long = r .long; few = r .few; births = omega (arith, r .births); low = r .low }
 
 -- ---- room
 

@@ -1,8 +1,7 @@
 -- `let`: its value is bound above the bindings in sight, and its second part sees one binding more.
 use mathlib.Core.Path.{_≡_, refl, sym, ap, subst, _∙_}
 use mathlib.Core.List.{List}
-use mathlib.Core.Option.{some}
-use Prim.Native.Nat.{ℕ, zero, suc, _+_, _*_, _≤_, _<_}
+use Prim.Native.Nat.{ℕ, suc, _+_, _*_, _≤_, _<_}
 use native.Mathlib.Omega.{arith}
 use native.Mathlib.Numerals.{add-one}
 use lib.ListN.{length}
@@ -15,19 +14,19 @@ use Rattle.language.specs.Meaning.{Fun, Env, step}
 use Rattle.layout.specs.Table.{row-word}
 use Rattle.layout.specs.Names.{name-number}
 use Rattle.layout.specs.Decode.{build, tree-at, Right}
-use Rattle.layout.specs.Slots.{BINDINGS, put-slot, value-at}
+use Rattle.layout.specs.Slots.{BINDINGS, put-slot}
 use Rattle.layout.specs.Values.{meant, Survives}
 use Rattle.layout.specs.declared.values.Value.{Value}
 use Rattle.layout.proofs.NameLaws.{name-inside, named-at}
 use Rattle.runner.specs.Rows.{carried}
-use Rattle.runner.specs.Outcomes.{Tells, memory, outcome, tally, Room, Kept}
-use Rattle.runner.specs.Contract.{Binds, binds-more, Scene, Stands, top, Sem, Ran}
+use Rattle.runner.specs.Outcomes.{Tells, outcome, Room, Kept}
+use Rattle.runner.specs.Contract.{Binds, binds-more, Stands, top, Sem, Ran}
 use Rattle.runner.specs.declared.state.Frame.{Frame}
 use Rattle.runner.specs.declared.state.Tally.{Tally}
 use Rattle.runner.specs.declared.state.Outcome.{Outcome}
 use Rattle.runner.specs.declared.state.Outcome.the-variants.{Gives}
 use Rattle.runner.proofs.Slotted.{put-other, put-key, put-value}
-use Rattle.runner.proofs.Keeping.{kept-then, kept-more, kept-low, kept-put, memory-put, room-after, printed-after}
+use Rattle.runner.proofs.Keeping.{kept-then, kept-more, kept-low, kept-put, memory-put, printed-after}
 use Rattle.runner.proofs.Shapes.{tree-is, known-let}
 use Rattle.runner.proofs.Standing.{binds-same, scene-after, stands-first, stands-second}
 use Rattle.runner.proofs.Steps.{stepped, Next, Begins, goes, kept-of}

@@ -1,30 +1,28 @@
 -- Nodes of operators: their operands are worked out, then they are applied.
-use mathlib.Core.Path.{_≡_, refl, sym, ap, subst, _∙_}
+use mathlib.Core.Path.{_≡_, sym, ap, subst, _∙_}
 use mathlib.Core.Bool.{true, false}
 use mathlib.Core.List.{List}
-use mathlib.Core.Option.{some}
-use Prim.Native.Nat.{ℕ, zero, suc, _+_, _≤_, _<_}
+use Prim.Native.Nat.{ℕ, suc, _≤_}
 use native.Mathlib.Omega.{arith}
-use lib.ListN.{length}
 use Rattle.language.specs.Tokens.{Token}
 use Rattle.language.specs.Trees.{Exp, Scope}
 use Rattle.language.specs.State as M
 use Rattle.language.specs.State.{value, then, choose}
 use Rattle.language.specs.Meaning.{Fun, Env, step, settles, apply-unary, apply-binary}
 use Rattle.layout.specs.Table.{row-word}
-use Rattle.layout.specs.Decode.{Shape, a-unary, a-binary, shape-of, build, tree-at}
+use Rattle.layout.specs.Decode.{build, tree-at}
 use Rattle.layout.specs.Slots.{BINDINGS}
 use Rattle.layout.specs.Values.{meant}
 use Rattle.layout.specs.declared.values.Value.{Value}
 use Rattle.runner.specs.Rows.{unary-of, binary-of, IsUnary, IsBinary}
-use Rattle.runner.specs.Outcomes.{Tells, tells, memory, outcome, tally, Room, Kept, Applied}
-use Rattle.runner.specs.Contract.{Stands, top, Sem, Ran}
+use Rattle.runner.specs.Outcomes.{Tells, tells, memory, outcome, Room, Applied}
+use Rattle.runner.specs.Contract.{top, Sem, Ran}
 use Rattle.runner.specs.declared.Stop.{Stop}
 use Rattle.runner.specs.declared.state.Frame.{Frame}
 use Rattle.runner.specs.declared.state.Tally.{Tally}
 use Rattle.runner.specs.declared.state.Outcome.{Outcome}
 use Rattle.runner.specs.declared.state.Outcome.the-variants.{Gives, Halts}
-use Rattle.runner.proofs.Telling.{tells-by, then-stop, then-value, choose-true, choose-false}
+use Rattle.runner.proofs.Telling.{then-stop, then-value, choose-true, choose-false}
 use Rattle.runner.proofs.Keeping.{kept-then, kept-more, kept-low, kept-self, printed-after}
 use Rattle.runner.proofs.Shapes.{tree-is}
 use Rattle.runner.proofs.Standing.{right-after, stands-first, stands-second}

@@ -1,7 +1,7 @@
 -- `putchar`: a byte is printed, or it is no byte, or there is no room.
 use mathlib.Core.Path.{_≡_, refl, sym, ap, subst, _∙_}
-use mathlib.Core.Bool.{Bool, true, false}
-use mathlib.Core.List.{List, [], _∷_}
+use mathlib.Core.Bool.{true, false}
+use mathlib.Core.List.{List, _∷_}
 use mathlib.Core.Option.{none, some}
 use Prim.Native.Nat.{ℕ, zero, suc, _+_, _-_, _≤_, _<_}
 use native.Mathlib.Omega.{arith}
@@ -18,7 +18,7 @@ use Rattle.language.specs.State.{number, value, stop, not-a-byte, output-full, 
 use Rattle.language.specs.Meaning.{emit, put}
 use Rattle.layout.specs.declared.values.Value.the-variants.{Int}
 use Rattle.runner.specs.Operands.{as-int}
-use Rattle.runner.specs.Outcomes.{Tells, tells, bytes, memory, outcome, tally, Room, Means, Printed}
+use Rattle.runner.specs.Outcomes.{Tells, bytes, memory, outcome, tally, Means, Printed}
 use Rattle.runner.specs.declared.Stop.{Stop}
 use Rattle.runner.specs.declared.state.Tally.{Tally}
 use Rattle.runner.specs.declared.state.Outcome.{Outcome}

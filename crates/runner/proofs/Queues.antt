@@ -6,7 +6,7 @@ use Prim.Native.Nat.{ℕ, zero, suc, _+_, _*_, _≤_, _<_}
 use native.Mathlib.Omega.{arith}
 use lib.Dec.{ltb}
 use lib.ListN.{length}
-use borrow.Author.Tests.{ltb-true, ltb-false, eq-eqb, ne-eqb}
+use borrow.Author.Tests.{ltb-true, ltb-false, ne-eqb}
 use Rattle.language.specs.Sizes.{NODES}
 use Rattle.language.specs.Tokens.{Token}
 use Rattle.language.specs.Trees.{Exps, last, more, Scope}
@@ -15,13 +15,13 @@ use Rattle.language.specs.State.{stop}
 use Rattle.language.specs.Meaning.{Fun, Env, arguments}
 use Rattle.layout.specs.Table.{row-word}
 use Rattle.layout.specs.Decode.{tree-at, args-at, RightArgs}
-use Rattle.layout.specs.Slots.{BINDINGS, key-at, value-at, put-slot}
+use Rattle.layout.specs.Slots.{BINDINGS, key-at, put-slot}
 use Rattle.layout.specs.Values.{meant, Survives}
 use Rattle.layout.specs.declared.values.Value.{Value}
 use Rattle.runner.specs.Slots.{values-from}
 use Rattle.runner.specs.Rows.{takes, parameter}
-use Rattle.runner.specs.Outcomes.{Tells, why, memory, outcome, tally, Room, Kept}
-use Rattle.runner.specs.Contract.{Stands, Lined, top, Sem, Ran, Worked, PassedOn, Passing, passed-tally}
+use Rattle.runner.specs.Outcomes.{Tells, why, memory, Room, Kept}
+use Rattle.runner.specs.Contract.{Stands, Lined, top, Sem, Ran, Worked, Passing, passed-tally}
 use Rattle.runner.specs.declared.Stop.{Stop}
 use Rattle.runner.specs.declared.callees.Callee.{Callee}
 use Rattle.runner.specs.declared.calls.Passed.{Passed}

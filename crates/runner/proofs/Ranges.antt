@@ -6,7 +6,7 @@ use native.Mathlib.Omega.{arith}
 use native.Mathlib.Nat.{zero-add, mul-le-mul, div-le-self}
 use lib.IntN.{ℤ, pos, negsuc, negℤ, subℕ, _+ℤ_, _-ℤ_, _*ℤ_}
 use lib.Signed.{mag, ltZ, quotZ}
-use lib.Dec.{T, ltb, leb}
+use lib.Dec.{T, ltb}
 use borrow.Author.Tests.{lt-ltb, le-leb, lt-leb, leb-true, ltb-true, ltb-false}
 use mir.Syntax.{w32, w64}
 use mir.Val.{toZ, ofZ, SFits}

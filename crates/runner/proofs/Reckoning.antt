@@ -14,7 +14,7 @@ use mir.Val.{ofZ, SFits}
 use Rattle.language.specs.Tokens.{PLUS, MINUS, STAR, SLASH, AND, OR, LESS, BECOMES}
 use Rattle.language.specs.Trees.{Binary, assign}
 use Rattle.language.specs.State as M
-use Rattle.language.specs.State.{number, flag, nothing, cell, value, choose, want-int, want-bool, want-cell}
+use Rattle.language.specs.State.{number, flag, nothing, cell, value, choose, want-int, want-bool}
 use Rattle.language.specs.Meaning.{apply-binary, is-zero, same-int}
 use Rattle.language.proofs.Meaning.CellTypes.{cond-all, none-some, some-one}
 use Rattle.layout.specs.Values.{meant}

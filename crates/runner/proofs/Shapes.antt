@@ -8,7 +8,7 @@ use native.Mathlib.Omega.{arith}
 use lib.Dec.{eqb}
 use borrow.Author.Tests.{eqb-true}
 use Rattle.language.specs.Tokens.{Token, Row, _is_, entry, NAME, NUMBER, LET, WHILE, IF, REF, NOT, TRUE, FALSE, TT, PLUS, MINUS, STAR, SLASH, AND, OR, LESS, EQUAL, BECOMES, BANG, SEMI, LPAR, LBRACE}
-use Rattle.language.specs.Trees.{Exp, Exps, Literal, whole, truth, trivial, Unary, minus, fetch, new, Binary, own}
+use Rattle.language.specs.Trees.{Exp, Exps, whole, truth, trivial, Unary, minus, fetch, new, Binary, own}
 use Rattle.language.proofs.Meaning.CellTypes.{none-some, some-one}
 use Rattle.layout.specs.Table.{row-word}
 use Rattle.layout.specs.Rows.{PREFIX, CALL}

@@ -13,7 +13,7 @@ use Rattle.language.specs.State.{Value, live, count, held, keep}
 use Rattle.layout.specs.Slots.{key-at, value-at, put-slot}
 use Rattle.layout.specs.Values.{meant, tag-of, word-of, Survives}
 use Rattle.layout.specs.declared.values.Value as Code
-use Rattle.runner.specs.Slots.{Slot, slot-at, slots, values-from, find, cells-of, Same}
+use Rattle.runner.specs.Slots.{Slot, slots, values-from, find, cells-of, Same}
 
 -- ---- looked through, from the newest on
 

@@ -1,27 +1,25 @@
 -- The words stand for a tree, functions and bindings: so do they for its parts, and after a step that keeps the bindings.
 use mathlib.Core.Path.{_≡_, refl, sym, ap, subst, _∙_}
-use mathlib.Core.Bool.{cond}
 use mathlib.Core.List.{List}
-use mathlib.Core.Option.{Option, some}
-use Prim.Native.Nat.{ℕ, zero, suc, _+_, _*_, _≤_, _<_}
+use mathlib.Core.Option.{some}
+use Prim.Native.Nat.{ℕ, suc, _+_, _*_, _≤_}
 use native.Mathlib.Nat.{add-zero}
 use native.Mathlib.Omega.{arith}
 use lib.ListN.{length, getD}
-use lib.Dec.{eqb}
 use Rattle.language.specs.Sizes.{TOKENS}
-use Rattle.language.specs.Tokens.{Spelling, Token, At, NAME, spelling-at}
+use Rattle.language.specs.Tokens.{Token, At, NAME, spelling-at}
 use Rattle.language.specs.Trees.{Name, Scope, push, nearest}
 use Rattle.language.specs.State as M
 use Rattle.language.specs.Meaning.{Fun, Env}
 use Rattle.layout.specs.Table.{token-word, row-word}
 use Rattle.layout.specs.Names.{name-number}
-use Rattle.layout.specs.Decode.{Shape, shape-of, children, Right, tree-at}
-use Rattle.layout.specs.Slots.{key-at, value-at}
+use Rattle.layout.specs.Decode.{Shape, shape-of, children, tree-at}
+use Rattle.layout.specs.Slots.{value-at}
 use Rattle.layout.proofs.NameLaws.{Named, name-inside, named-same}
 use Rattle.runner.specs.Slots.{slots, find, Same}
 use Rattle.runner.specs.Rows.{carried}
-use Rattle.runner.specs.Outcomes.{Tells, outcome, memory, tally, Kept}
-use Rattle.runner.specs.Contract.{Binds, binds-none, binds-more, Scene, Stands, Lined, top, Sem, Ran}
+use Rattle.runner.specs.Outcomes.{Tells, outcome, memory, Kept}
+use Rattle.runner.specs.Contract.{Binds, binds-none, binds-more, Scene, Stands, top, Sem, Ran}
 use Rattle.runner.specs.declared.state.Frame.{Frame}
 use Rattle.runner.specs.declared.state.Tally.{Tally}
 use Rattle.runner.specs.declared.state.Outcome.{Outcome}

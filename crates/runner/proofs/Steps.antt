@@ -1,15 +1,13 @@
 -- A node that works out one part first: by a stop it stops, by a value it goes on. Groups, Blocks, `;` and `if`.
-use mathlib.Core.Path.{_≡_, refl, sym, ap, subst, _∙_}
-use mathlib.Core.Bool.{Bool, true, false}
+use mathlib.Core.Path.{_≡_, sym, ap, subst}
+use mathlib.Core.Bool.{true, false}
 use mathlib.Core.List.{List}
-use mathlib.Core.Option.{some}
-use Prim.Native.Nat.{ℕ, zero, suc, _+_, _*_, _≤_, _<_}
+use Prim.Native.Nat.{ℕ, zero, suc}
 use native.Mathlib.Omega.{arith}
-use lib.ListN.{length}
 use Rattle.language.specs.Tokens.{Token, LPAR, LBRACE, SEMI, IF}
 use Rattle.language.specs.Trees.{Exp, Scope}
 use Rattle.language.specs.State as M
-use Rattle.language.specs.State.{value, stop, then, want-bool, want-unit, choose, keep, with-cells}
+use Rattle.language.specs.State.{value, then, want-bool, want-unit, choose, keep, with-cells}
 use Rattle.language.specs.Meaning.{Fun, Env, step}
 use Rattle.layout.specs.Table.{row-word}
 use Rattle.layout.specs.Decode.{build, tree-at, Right}
@@ -17,7 +15,7 @@ use Rattle.layout.specs.Slots.{CELLS-AT}
 use Rattle.layout.specs.Values.{meant}
 use Rattle.layout.specs.declared.values.Value.{Value}
 use Rattle.runner.specs.Operands.{is-true}
-use Rattle.runner.specs.Outcomes.{Tells, tells, why, memory, outcome, tally, Room, Kept}
+use Rattle.runner.specs.Outcomes.{Tells, memory, outcome, tally, Room, Kept}
 use Rattle.runner.specs.Contract.{Stands, top, Sem, Ran}
 use Rattle.runner.specs.declared.Stop.{Stop}
 use Rattle.runner.specs.declared.state.Frame.{Frame}

@@ -1,15 +1,14 @@
 -- `while`: the passes from its begin come to those from here, as long as tests are true.
-use mathlib.Core.Path.{_≡_, refl, sym, ap, subst, _∙_}
-use mathlib.Core.Bool.{Bool, true, false}
+use mathlib.Core.Path.{_≡_, ap}
+use mathlib.Core.Bool.{true, false}
 use mathlib.Core.List.{List}
-use mathlib.Core.Option.{some}
-use Prim.Native.Nat.{ℕ, zero, suc, _+_, _≤_, _<_}
+use Prim.Native.Nat.{ℕ, suc, _≤_}
 use native.Mathlib.Omega.{arith}
 use lib.ListN.{length}
 use Rattle.language.specs.Tokens.{Token, WHILE}
 use Rattle.language.specs.Trees.{Exp, Scope}
 use Rattle.language.specs.State as M
-use Rattle.language.specs.Meaning.{Fun, Env, step, eval, passes}
+use Rattle.language.specs.Meaning.{Fun, Env, step, eval}
 use Rattle.language.proofs.Meaning.Spending.{while, while-is}
 use Rattle.layout.specs.Table.{row-word}
 use Rattle.layout.specs.Decode.{build, tree-at}
@@ -17,8 +16,8 @@ use Rattle.layout.specs.Values.{meant}
 use Rattle.layout.specs.declared.values.Value.{Value}
 use Rattle.layout.specs.declared.values.Value.the-variants.{Nothing}
 use Rattle.runner.specs.Operands.{is-true}
-use Rattle.runner.specs.Outcomes.{Tells, tells, memory, outcome, tally, Room, Kept}
-use Rattle.runner.specs.Contract.{Stands, top, Sem, Ran}
+use Rattle.runner.specs.Outcomes.{Tells, tells, memory, outcome, Room, Kept}
+use Rattle.runner.specs.Contract.{Stands, top, Ran}
 use Rattle.runner.specs.declared.Stop.{Stop}
 use Rattle.runner.specs.declared.state.Frame.{Frame}
 use Rattle.runner.specs.declared.state.Tally.{Tally}

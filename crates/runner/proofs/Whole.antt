@@ -1,7 +1,7 @@
 -- The whole run: the table stands for the program, whose meaning is never stuck, so what is told is what is meant.
-use mathlib.Core.Path.{_≡_, refl, sym, ap, subst, _∙_}
-use mathlib.Core.List.{List, [], _∷_, _++_, reverse}
-use Prim.Native.Nat.{ℕ, zero, suc, _+_, _-_, _*_, _≤_, _<_}
+use mathlib.Core.Path.{_≡_, refl, sym, subst, _∙_}
+use mathlib.Core.List.{List, _∷_, _++_}
+use Prim.Native.Nat.{ℕ, suc, _+_, _-_, _≤_}
 use native.Mathlib.Omega.{arith}
 use native.Mathlib.Numerals.{add-one}
 use lib.ListN.{length, drop}
@@ -13,9 +13,9 @@ use Rattle.language.specs.State as M
 use Rattle.language.specs.State.{stuck}
 use Rattle.language.specs.Meaning.{Fun, putchar, defined, eval, functions, start, run}
 use Rattle.language.proofs.Meaning.NeverStuck.{never-stuck}
-use Rattle.layout.specs.Table.{function-row, zeros}
+use Rattle.layout.specs.Table.{zeros}
 use Rattle.layout.specs.Names.{Stand}
-use Rattle.layout.specs.Decode.{tree-at, FunctionAt, FunctionsAt, functions-none, functions-more, Holds}
+use Rattle.layout.specs.Decode.{tree-at, FunctionsAt, functions-none, functions-more, Holds}
 use Rattle.runner.specs.Slots.{slots, cells-of}
 use Rattle.runner.specs.Outcomes.{Tells, tells, anything, bytes, memory, outcome, tally}
 use Rattle.runner.specs.Contract.{Defines, defines-none, defines-more, binds-none, Stands, Ready, Ran, Sheet, reported, Tells-of, printed-by, RunsTo}

@@ -1,8 +1,8 @@
 -- What the functions of the nodes ask and promise, and the contract of `run`.
 use mathlib.Core.Bool.{cond}
-use mathlib.Core.List.{List, [], _∷_, _++_, reverse}
+use mathlib.Core.List.{List, [], _++_, reverse}
 use mathlib.Core.Path.{_≡_}
-use Prim.Native.Nat.{ℕ, zero, suc, _+_, _*_, _≤_, _<_}
+use Prim.Native.Nat.{ℕ, suc, _+_, _*_, _≤_, _<_}
 use lib.Dec.{eqb}
 use lib.ListN.{length, drop}
 use Rattle.language.specs.Sizes.{TOKENS, NODES, ALLOWANCE, ACTIVE, PARAMETERS, TABLE, WORK, LARGEST}

@@ -1,5 +1,5 @@
 -- What the runner reads in the rows of the table: operators, literals, and the functions that a call can mean.
-use mathlib.Core.Bool.{Bool, true, false, cond}
+use mathlib.Core.Bool.{true, false, cond}
 use mathlib.Core.List.{List}
 use mathlib.Core.Option.{Option, none, some}
 use mathlib.Core.Path.{_≡_}

@@ -10,6 +10,7 @@ use crate::leaves;
 use crate::state;
 use crate::state::Frame;
 use crate::state::Outcome;
+use crate::state::SLOT;
 use crate::state::Tally;
 use layout::rows;
 use layout::slots;
@@ -40,9 +41,9 @@ pub fn look(table: &[u32], work: &[u32], node: usize, frame: Frame, s: Tally) ->
     requires { ⌜ Named (now table) node × (4 * frame .base + 4 * frame .size ≤ WORK) × (WORK ≤ length (now work)) ⌝ }
     ensures { λ r. ⌜ Looked (now (work .entry)) (carried (now (table .entry)) node 0) (frame .base) (frame .size) s r ⌝ }
 {
-    let place = rows::word(table, node, 1);
-    let key = leaves::carried(table, node, 0);
-    let at = 4 * frame.base;
+    let place = rows::word(table, node, leaves::OWN);
+    let key = leaves::carried(table, node, leaves::HERE);
+    let at = SLOT * frame.base;
     let found = find(work, at, frame.size, key);
     match found {
         Found::Is(v) => Outcome::Gives(v, s),

@@ -7,6 +7,7 @@ ghost use Rattle.layout.specs.Slots.{put-slot};
 ghost use Rattle.layout.specs.Values.{Survives};
 ghost use Rattle.runner.specs.Rows.{Headed, find-function, callee, takes, parameter, Callable};
 use crate::leaves;
+use crate::state::SLOT;
 use layout::PUTCHAR;
 use layout::functions;
 use layout::rows;
@@ -28,7 +29,7 @@ pub fn find(table: &[u32], name: u32, defs: usize) -> Callee
     while 0 < i {
         i = i - 1;
         let row = functions::row(table, i);
-        if leaves::carried(table, row, 1) == name {
+        if leaves::carried(table, row, leaves::NEXT) == name {
             return Callee::Defined(row);
         }
     }
@@ -42,7 +43,7 @@ pub fn takes(table: &[u32], c: Callee) -> usize
 {
     match c {
         Callee::Putchar => 1,
-        Callee::Defined(row) => rows::link(table, row, 2),
+        Callee::Defined(row) => rows::link(table, row, leaves::FIRST),
     }
 }
 
@@ -53,7 +54,7 @@ fn parameter(table: &[u32], c: Callee, k: usize) -> u32
 {
     match c {
         Callee::Putchar => PUTCHAR,
-        Callee::Defined(row) => leaves::carried(table, row + 1 + k, 0),
+        Callee::Defined(row) => leaves::carried(table, row + 1 + k, leaves::HERE),
     }
 }
 
@@ -63,6 +64,6 @@ pub fn bind(table: &[u32], work: &mut [u32], c: Callee, top: usize, k: usize, v:
     ensures { λ _. ⌜ (now (work .exit) ≡ put-slot (now (work .entry)) (4 * top) k (parameter (now (table .entry)) c k) v) × Survives v ⌝ }
 {
     let key = parameter(table, c, k);
-    let at = 4 * top;
+    let at = SLOT * top;
     slots::put(work, at, k, key, v);
 }

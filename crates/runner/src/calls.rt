@@ -36,9 +36,9 @@ pub fn call(
     requires { ⌜ Ready (now table) (now work) (now out) node (depth + 1) frame s × (row-word (now table) node 0 ≡ CALL) ⌝ }
     ensures { λ r. ⌜ Ran (λ fs. step fs (eval fs depth)) 1 (now (table .entry)) (now (work .entry)) (now (out .entry)) (now (work .exit)) (now (out .exit)) node frame s r ⌝ }
 {
-    let place = rows::word(table, node, 1);
-    let name = leaves::carried(table, node, 0);
-    let row = rows::link(table, node, 2);
+    let place = rows::word(table, node, leaves::OWN);
+    let name = leaves::carried(table, node, leaves::HERE);
+    let row = rows::link(table, node, leaves::FIRST);
     let defs = frame.defs;
     let top = frame.base + frame.size;
     let callee = callees::find(table, name, defs);
@@ -50,7 +50,7 @@ pub fn call(
                 return match callee {
                     Callee::Putchar => output::put_bound(place, work, out, top, t),
                     Callee::Defined(head) => {
-                        let body = rows::link(table, head, 4);
+                        let body = rows::link(table, head, leaves::THIRD);
                         let inner = Frame {
                             defs,
                             base: top,
@@ -84,8 +84,8 @@ fn arguments(
     if row == 0 {
         return Passed::All(k, s);
     }
-    let argument = rows::link(table, row, 2);
-    let next = rows::link(table, row, 3);
+    let argument = rows::link(table, row, leaves::FIRST);
+    let next = rows::link(table, row, leaves::SECOND);
     let top = frame.base + frame.size;
     let first = nodes::eval(table, work, out, argument, depth, frame, s);
     match first {

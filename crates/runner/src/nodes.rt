@@ -13,6 +13,7 @@ use crate::operands;
 use crate::operators;
 use crate::state::Frame;
 use crate::state::Outcome;
+use crate::state::SLOT;
 use crate::state::Tally;
 use language::kinds;
 use layout::rows;
@@ -31,7 +32,7 @@ pub fn eval(
     requires { ⌜ Ready (now table) (now work) (now out) node depth frame s ⌝ }
     ensures { λ r. ⌜ Ran (λ fs. eval fs depth) 0 (now (table .entry)) (now (work .entry)) (now (out .entry)) (now (work .exit)) (now (out .exit)) node frame s r × Spends r (s .units) ⌝ }
 {
-    let place = rows::word(table, node, 1);
+    let place = rows::word(table, node, leaves::OWN);
     if s.units == 0 {
         return Outcome::Halts(Stop::NoUnit, place, s);
     }
@@ -59,12 +60,12 @@ fn step(
     requires { ⌜ Ready (now table) (now work) (now out) node (depth + 1) frame s ⌝ }
     ensures { λ r. ⌜ Ran (λ fs. step fs (eval fs depth)) 1 (now (table .entry)) (now (work .entry)) (now (out .entry)) (now (work .exit)) (now (out .exit)) node frame s r ⌝ }
 {
-    let kind = rows::word(table, node, 0);
+    let kind = rows::word(table, node, leaves::KIND);
     if kind == kinds::NAME {
         return bindings::look(table, work, node, frame, s);
     }
     if kind == kinds::LPAR {
-        let inner = rows::link(table, node, 2);
+        let inner = rows::link(table, node, leaves::FIRST);
         return eval(table, work, out, inner, depth, frame, s);
     }
     if kind == kinds::LBRACE {
@@ -108,8 +109,8 @@ fn follow(
     requires { ⌜ Ready (now table) (now work) (now out) node (depth + 1) frame s × (row-word (now table) node 0 ≡ SEMI) ⌝ }
     ensures { λ r. ⌜ Ran (λ fs. step fs (eval fs depth)) 1 (now (table .entry)) (now (work .entry)) (now (out .entry)) (now (work .exit)) (now (out .exit)) node frame s r ⌝ }
 {
-    let one = rows::link(table, node, 2);
-    let two = rows::link(table, node, 3);
+    let one = rows::link(table, node, leaves::FIRST);
+    let two = rows::link(table, node, leaves::SECOND);
     let first = eval(table, work, out, one, depth, frame, s);
     match first {
         Outcome::Halts(why, p, t) => Outcome::Halts(why, p, t),
@@ -130,7 +131,7 @@ fn block(
     requires { ⌜ Ready (now table) (now work) (now out) node (depth + 1) frame s × (row-word (now table) node 0 ≡ LBRACE) ⌝ }
     ensures { λ r. ⌜ Ran (λ fs. step fs (eval fs depth)) 1 (now (table .entry)) (now (work .entry)) (now (out .entry)) (now (work .exit)) (now (out .exit)) node frame s r ⌝ }
 {
-    let inner = rows::link(table, node, 2);
+    let inner = rows::link(table, node, leaves::FIRST);
     let cells = s.cells;
     let first = eval(table, work, out, inner, depth, frame, s);
     match first {
@@ -160,13 +161,13 @@ fn bind(
     requires { ⌜ Ready (now table) (now work) (now out) node (depth + 1) frame s × (row-word (now table) node 0 ≡ LET) ⌝ }
     ensures { λ r. ⌜ Ran (λ fs. step fs (eval fs depth)) 1 (now (table .entry)) (now (work .entry)) (now (out .entry)) (now (work .exit)) (now (out .exit)) node frame s r ⌝ }
 {
-    let key = leaves::carried(table, node, 1);
-    let one = rows::link(table, node, 2);
-    let two = rows::link(table, node, 3);
+    let key = leaves::carried(table, node, leaves::NEXT);
+    let one = rows::link(table, node, leaves::FIRST);
+    let two = rows::link(table, node, leaves::SECOND);
     let defs = frame.defs;
     let base = frame.base;
     let size = frame.size;
-    let at = 4 * base;
+    let at = SLOT * base;
     let inner = Frame {
         defs,
         base,
@@ -195,9 +196,9 @@ fn branch(
     requires { ⌜ Ready (now table) (now work) (now out) node (depth + 1) frame s × (row-word (now table) node 0 ≡ IF) ⌝ }
     ensures { λ r. ⌜ Ran (λ fs. step fs (eval fs depth)) 1 (now (table .entry)) (now (work .entry)) (now (out .entry)) (now (work .exit)) (now (out .exit)) node frame s r ⌝ }
 {
-    let test = rows::link(table, node, 2);
-    let one = rows::link(table, node, 3);
-    let two = rows::link(table, node, 4);
+    let test = rows::link(table, node, leaves::FIRST);
+    let one = rows::link(table, node, leaves::SECOND);
+    let two = rows::link(table, node, leaves::THIRD);
     let first = eval(table, work, out, test, depth, frame, s);
     match first {
         Outcome::Halts(why, p, t) => Outcome::Halts(why, p, t),
@@ -224,8 +225,8 @@ fn passes(
     requires { ⌜ Ready (now table) (now work) (now out) node (depth + 1) frame s × (row-word (now table) node 0 ≡ WHILE) ⌝ }
     ensures { λ r. ⌜ Ran (λ fs. step fs (eval fs depth)) 1 (now (table .entry)) (now (work .entry)) (now (out .entry)) (now (work .exit)) (now (out .exit)) node frame s r ⌝ }
 {
-    let test = rows::link(table, node, 2);
-    let body = rows::link(table, node, 3);
+    let test = rows::link(table, node, leaves::FIRST);
+    let body = rows::link(table, node, leaves::SECOND);
     let mut t = s;
     loop {
         let first = eval(table, work, out, test, depth, frame, t);

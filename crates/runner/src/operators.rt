@@ -9,6 +9,7 @@ ghost use Rattle.runner.specs.Outcomes.{Room, Applied, Reckoned};
 ghost use Rattle.runner.specs.Contract.{Ready, Ran};
 use crate::Stop;
 use crate::cells;
+use crate::leaves;
 use crate::nodes;
 use crate::numbers;
 use crate::operands;
@@ -150,9 +151,9 @@ pub fn unary(
     requires { ⌜ Ready (now table) (now work) (now out) node (depth + 1) frame s × IsUnary (now table) node ⌝ }
     ensures { λ r. ⌜ Ran (λ fs. step fs (eval fs depth)) 1 (now (table .entry)) (now (work .entry)) (now (out .entry)) (now (work .exit)) (now (out .exit)) node frame s r ⌝ }
 {
-    let op = rows::word(table, node, 0);
-    let place = rows::word(table, node, 1);
-    let operand = rows::link(table, node, 2);
+    let op = rows::word(table, node, leaves::KIND);
+    let place = rows::word(table, node, leaves::OWN);
+    let operand = rows::link(table, node, leaves::FIRST);
     let first = nodes::eval(table, work, out, operand, depth, frame, s);
     match first {
         Outcome::Halts(why, p, t) => Outcome::Halts(why, p, t),
@@ -173,10 +174,10 @@ pub fn binary(
     requires { ⌜ Ready (now table) (now work) (now out) node (depth + 1) frame s × IsBinary (now table) node ⌝ }
     ensures { λ r. ⌜ Ran (λ fs. step fs (eval fs depth)) 1 (now (table .entry)) (now (work .entry)) (now (out .entry)) (now (work .exit)) (now (out .exit)) node frame s r ⌝ }
 {
-    let op = rows::word(table, node, 0);
-    let place = rows::word(table, node, 1);
-    let left = rows::link(table, node, 2);
-    let right = rows::link(table, node, 3);
+    let op = rows::word(table, node, leaves::KIND);
+    let place = rows::word(table, node, leaves::OWN);
+    let left = rows::link(table, node, leaves::FIRST);
+    let right = rows::link(table, node, leaves::SECOND);
     let first = nodes::eval(table, work, out, left, depth, frame, s);
     match first {
         Outcome::Halts(why, p, t) => Outcome::Halts(why, p, t),

@@ -13,6 +13,7 @@ use crate::operands;
 use crate::operands::Number;
 use crate::state;
 use crate::state::Outcome;
+use crate::state::SLOT;
 use crate::state::Tally;
 use language::BYTE;
 use layout::slots;
@@ -54,7 +55,7 @@ pub fn put_bound(place: u32, work: &[u32], out: &mut [u8], top: usize, s: Tally)
     requires { ⌜ (4 * top + 4 ≤ WORK) × (WORK ≤ length (now work)) × (s .printed ≤ length (now out)) ⌝ }
     ensures { λ r. ⌜ Printed (λ m. want-int (value-at (now (work .entry)) (4 * top) 0) λ z. put place z m) (now (out .entry)) (now (out .exit)) s r ⌝ }
 {
-    let at = 4 * top;
+    let at = SLOT * top;
     let v = slots::value(work, at, 0);
     put(place, out, v, s)
 }

@@ -5,6 +5,9 @@ ghost use Rattle.runner.specs.Outcomes.{tally};
 use crate::Stop;
 use layout::values::Value;
 
+// How many words of work memory a slot has.
+pub const SLOT: usize = 4;
+
 // A run in numbers: units left, cells born so far and live now, bytes printed. The cells and the bytes
 // themselves lie in lent memory.
 pub struct Tally {

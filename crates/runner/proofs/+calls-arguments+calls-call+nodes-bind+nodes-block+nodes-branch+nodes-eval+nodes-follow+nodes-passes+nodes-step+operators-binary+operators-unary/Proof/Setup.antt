@@ -1,6 +1,6 @@
+-- The measures of the cycle of calls, and for each member: what it is given at a measure, what a call of it asks below one, and
+-- what all that it calls ask and ensure.
 use Prim.Native.Nat.{_+_, _*_}
--- The measures of the cycle of calls {calls·arguments, calls·call, nodes·bind, nodes·block, nodes·branch, nodes·eval, nodes·follow, nodes·passes, nodes·step, operators·binary, operators·unary}, and for each member: what it is given at a measure,
--- what a call of it asks below one, and what all that it calls ask and ensure.
 use Prim.Native.Nat.{ℕ, _<_}
 use borrow.Fn.Kinds.{In}
 use borrow.Fn.PlainCycle.{Measures, is, falls, and}
@@ -53,6 +53,8 @@ use Rattle.runner.proofs.operators.settles.Reads as settles-reads
 use Rattle.runner.proofs.output.put_bound.Reads as put-bound-reads
 use Rattle.runner.proofs.state.stuck.Reads as stuck-reads
 
+-- One more node that may be active is worth more than all rows of a call's arguments; a node that has begun is worth more
+-- than these, too, and `step`, which hands it on, most.
 abbrev pub μ-calls·arguments : Measures 3 calls·arguments-kinds.ps ℕ
 μ-calls·arguments κs a = a .1 .1 .1 .1 .1 .1 .0 * 2048 + a .1 .1 .1 .0 + 1
 

@@ -1,19 +1,13 @@
-use mathlib.Core.Path.{_≡_, refl, sym, ap, subst, _∙_}
-use mathlib.Core.List.{List}
+-- What the borrow checker leaves of `bindings::find`.
+use mathlib.Core.Path.{_≡_, refl, sym, ap, _∙_}
 use mathlib.Core.Option.{some}
-use Prim.Native.Nat.{ℕ, _≤_, _-_, _+_}
+use Prim.Native.Nat.{_≤_, _-_}
 use native.Mathlib.Nat.{le-refl}
-use lib.ListN.{length}
 use Rattle.runner.specs.Slots.{find, slots}
 use Rattle.runner.proofs.Slotted.{find-here, find-past, find-none}
-use borrow.Author.Needs.{needs}
 use native.Mathlib.Omega.{arith}
 use Rattle.runner.proofs.bindings.find.Statement.{statement}
 use Rattle.runner.proofs.bindings.find.Tie as tie
-use Rattle.runner.proofs.bindings.find.Reads as reads
-use Rattle.runner.proofs.bindings.find.Lts as lts
-use Rattle.layout.proofs.slots.key.Reads as key-reads
-use Rattle.layout.proofs.slots.value.Reads as value-reads
 
 abbrev Inv-loop : tie.InvT-loop
 Inv-loop work at n key i₀ i = (i ≤ n) × (find key (slots work at n) ≡ find key (slots work at i))
@@ -21,35 +15,27 @@ Inv-loop work at n key i₀ i = (i ≤ n) × (find key (slots work at n) ≡ fin
 abbrev μ-loop : tie.MeasureT-loop
 μ-loop work at n key i₀ i = i
 
--- src/bindings.rt:25:5
 loop-holds : tie.Need-loop-holds Inv-loop μ-loop
 loop-holds c = (le-refl _, refl)
 
--- src/bindings.rt:26:13
 sub-i : tie.Need-sub-i Inv-loop μ-loop
 sub-i c = omega (arith, (c .loop-test .taken))
 
--- src/bindings.rt:27:12
 key-requires : tie.Need-key-requires Inv-loop μ-loop
 key-requires c κs = ((c .before .before .before .pre .0), omega (arith, (c .before .loop .inv .0), (c .before .before .before .pre .1)), omega (arith, (c .before .loop .inv .0), (c .loop-test .taken), (c .before .before .before .pre .2)))
 
--- src/bindings.rt:28:30
 value-requires : tie.Need-value-requires Inv-loop μ-loop
 value-requires c κs = ((c .before .before .before .before .before .pre .0), omega (arith, (c .before .before .before .loop .inv .0), (c .before .before .before .before .before .pre .1)), omega (arith, (c .before .before .before .loop .inv .0), (c .before .before .loop-test .taken), (c .before .before .before .before .before .pre .2)))
 
--- src/bindings.rt:28:13
 returns : tie.Need-returns Inv-loop μ-loop
 returns c = ap some (c .value .ensures) ∙ sym ((c .before .before .before .before .loop .inv .1) ∙ find-here (c .before .before .before .before .before .before .args .work .now) (c .before .before .before .before .before .before .args .at) (c .before .before .before .before .loop .i) ((c .before .before .before .before .loop .i) - 1) (c .before .before .before .before .before .before .args .key) (omega (arith, (c .before .before .before .loop-test .taken))) (sym (c .before .before .key .ensures) ∙ (c .before .if1 .taken)))
 
--- src/bindings.rt:25:5
 loop-less : tie.Need-loop-less Inv-loop μ-loop
 loop-less c = omega (arith, (c .before .before .loop-test .taken))
 
--- src/bindings.rt:25:5
 loop-again : tie.Need-loop-again Inv-loop μ-loop
 loop-again c = (omega (arith, (c .before .before .before .loop .inv .0)), (c .before .before .before .loop .inv .1) ∙ find-past (c .before .before .before .before .before .args .work .now) (c .before .before .before .before .before .args .at) (c .before .before .before .loop .i) ((c .before .before .before .loop .i) - 1) (c .before .before .before .before .before .args .key) (omega (arith, (c .before .before .loop-test .taken))) (λ q. (c .if1 .left) ((c .before .key .ensures) ∙ q)))
 
--- src/bindings.rt:20:1
 returns-2 : tie.Need-returns-2 Inv-loop μ-loop
 returns-2 c = sym ((c .before .loop .inv .1) ∙ find-none (c .before .before .before .args .work .now) (c .before .before .before .args .at) (c .before .loop .i) (c .before .before .before .args .key) (omega (arith, (c .loop-test .left))))
 

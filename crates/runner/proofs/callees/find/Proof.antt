@@ -1,22 +1,14 @@
-use mathlib.Core.Path.{_≡_, refl, sym, ap, subst, _∙_}
-use mathlib.Core.List.{List}
-use mathlib.Core.Option.{some}
+-- What the borrow checker leaves of `callees::find`.
+use mathlib.Core.Path.{_≡_, refl, sym, subst, _∙_}
 use Prim.Native.Nat.{ℕ, _≤_, _<_, _-_, _+_}
 use native.Mathlib.Nat.{le-refl}
-use lib.ListN.{length}
 use Rattle.runner.specs.Rows.{find-function}
 use Rattle.runner.proofs.Literals.{function-here, function-past, function-none}
-use lib.Dec.{lit<}
 use Rattle.language.specs.Sizes.{TOKENS}
 use Rattle.layout.specs.Table.{row-word}
-use borrow.Author.Needs.{needs}
 use native.Mathlib.Omega.{arith}
 use Rattle.runner.proofs.callees.find.Statement.{statement}
 use Rattle.runner.proofs.callees.find.Tie as tie
-use Rattle.runner.proofs.callees.find.Reads as reads
-use Rattle.runner.proofs.callees.find.Lts as lts
-use Rattle.layout.proofs.functions.row.Reads as row-reads
-use Rattle.runner.proofs.leaves.carried.Reads as carried-reads
 
 abbrev Inv-loop : tie.InvT-loop
 Inv-loop table name defs i₀ i = (i ≤ defs) × (find-function table name defs ≡ find-function table name i)
@@ -24,35 +16,27 @@ Inv-loop table name defs i₀ i = (i ≤ defs) × (find-function table name defs
 abbrev μ-loop : tie.MeasureT-loop
 μ-loop table name defs i₀ i = i
 
--- src/callees.rt:28:5
 loop-holds : tie.Need-loop-holds Inv-loop μ-loop
 loop-holds c = (le-refl _, refl)
 
--- src/callees.rt:29:13
 sub-i : tie.Need-sub-i Inv-loop μ-loop
 sub-i c = omega (arith, (c .loop-test .taken))
 
--- src/callees.rt:30:13
 row-requires : tie.Need-row-requires Inv-loop μ-loop
 row-requires c κs = ((c .before .before .before .pre .long), omega (arith, (c .before .loop .inv .0), (c .loop-test .taken), (c .before .before .before .pre .few)))
 
--- src/callees.rt:31:12
 carried-requires : tie.Need-carried-requires Inv-loop μ-loop
 carried-requires c κs = ((c .before .before .before .before .pre .long), omega (arith, (c .row .ensures), (c .before .before .before .before .pre .inside) ((c .before .before .loop .i) - 1) (omega (arith, (c .before .before .loop .inv .0), (c .before .loop-test .taken)))), subst (λ (r : ℕ). row-word (c .before .before .before .before .args .table .now) r 1 + 1 < TOKENS) (sym (c .row .ensures)) ((c .before .before .before .before .pre .named) ((c .before .before .loop .i) - 1) (omega (arith, (c .before .before .loop .inv .0), (c .before .loop-test .taken)))))
 
--- src/callees.rt:32:13
 returns : tie.Need-returns Inv-loop μ-loop
 returns c = sym ((c .before .before .before .before .loop .inv .1) ∙ function-here (c .before .before .before .before .before .before .args .table .now) (c .before .before .before .before .before .before .args .name) (c .before .before .before .before .loop .i) (c .before .before .before .loop-test .taken) (c .before .before .row .ensures) (c .before .carried .ensures) (c .if1 .taken))
 
--- src/callees.rt:28:5
 loop-less : tie.Need-loop-less Inv-loop μ-loop
 loop-less c = omega (arith, (c .before .before .before .loop-test .taken))
 
--- src/callees.rt:28:5
 loop-again : tie.Need-loop-again Inv-loop μ-loop
 loop-again c = (omega (arith, (c .before .before .before .before .loop .inv .0)), (c .before .before .before .before .loop .inv .1) ∙ function-past (c .before .before .before .before .before .before .args .table .now) (c .before .before .before .before .before .before .args .name) (c .before .before .before .before .loop .i) (c .before .before .before .loop-test .taken) (c .before .before .row .ensures) (c .before .carried .ensures) (c .if1 .left))
 
--- src/callees.rt:23:1
 returns-2 : tie.Need-returns-2 Inv-loop μ-loop
 returns-2 c = sym ((c .before .loop .inv .1) ∙ function-none (c .before .before .before .args .table .now) (c .before .before .before .args .name) (c .before .loop .i) (c .loop-test .left))
 

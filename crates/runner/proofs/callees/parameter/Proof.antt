@@ -1,4 +1,5 @@
-use mathlib.Core.Path.{_≡_, refl, sym, subst}
+-- What the borrow checker leaves of `callees::parameter`.
+use mathlib.Core.Path.{subst}
 use Prim.Native.Nat.{_<_}
 use Rattle.runner.specs.Rows.{Callable, takes}
 use Rattle.runner.specs.declared.callees.Callee.{Callee}
@@ -6,35 +7,25 @@ use native.Mathlib.Omega.{arith}
 use borrow.Author.Needs.{needs}
 use Rattle.runner.proofs.callees.parameter.Statement.{statement}
 use Rattle.runner.proofs.callees.parameter.Tie as tie
-use Rattle.runner.proofs.callees.parameter.Reads as reads
-use Rattle.runner.proofs.callees.parameter.Lts as lts
-use Rattle.runner.proofs.leaves.carried.Reads as carried-reads
 
--- src/callees.rt:55:28
 enum-told : tie.Need-enum-told
 enum-told c = search needs
 
--- src/callees.rt:56:25
 enum-known-c : tie.Need-enum-known-c
 enum-known-c c = search needs
 
--- src/callees.rt:56:56
 add-carried : tie.Need-add-carried
 add-carried c = let f = subst (λ (x : Callee). Callable (c .before .before .before .before .args .table .now) x × ((c .before .before .before .before .args .k) < takes (c .before .before .before .before .args .table .now) x)) (c .before .c .given .1) (c .before .before .before .before .pre) in omega (arith, f .0 .inside)
 
--- src/callees.rt:56:56
 add-carried-2 : tie.Need-add-carried-2
 add-carried-2 c = let f = subst (λ (x : Callee). Callable (c .before .before .before .before .args .table .now) x × ((c .before .before .before .before .args .k) < takes (c .before .before .before .before .args .table .now) x)) (c .before .c .given .1) (c .before .before .before .before .pre) in omega (arith, f .0 .last, f .1)
 
--- src/callees.rt:56:33
 carried-requires : tie.Need-carried-requires
 carried-requires c κs = let f = subst (λ (x : Callee). Callable (c .before .before .before .before .args .table .now) x × ((c .before .before .before .before .args .k) < takes (c .before .before .before .before .args .table .now) x)) (c .before .c .given .1) (c .before .before .before .before .pre) in (f .0 .long, omega (arith, f .0 .last, f .1), f .0 .named _ (f .1))
 
--- src/callees.rt:50:1
 returns : tie.Need-returns
 returns c = search needs
 
--- src/callees.rt:50:1
 returns-2 : tie.Need-returns-2
 returns-2 c = rw (c .before .before .c .given .1) (c .carried .ensures)
 

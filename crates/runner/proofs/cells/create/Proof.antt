@@ -1,41 +1,31 @@
+-- What the borrow checker leaves of `cells::create`.
 use Rattle.runner.proofs.CellLaws.{create-full, create-made}
 use native.Mathlib.Omega.{arith}
 use borrow.Author.Needs.{needs}
 use Rattle.runner.proofs.cells.create.Statement.{statement}
 use Rattle.runner.proofs.cells.create.Tie as tie
-use Rattle.runner.proofs.cells.create.Reads as reads
-use Rattle.runner.proofs.cells.create.Lts as lts
-use Rattle.layout.proofs.slots.put.Reads as put-reads
 
--- src/cells.rt:60:43
 add-put : tie.Need-add-put
 add-put c = omega (arith, (c .before .before .before .pre .births))
 
--- src/cells.rt:60:9
 put-requires : tie.Need-put-requires
 put-requires c κs = (omega arith, omega (arith, (c .before .before .before .pre .few)), omega (arith, (c .before .if1 .taken), (c .before .before .before .pre .long)))
 
--- src/cells.rt:63:21
 add-t12 : tie.Need-add-t12
 add-t12 c = omega (arith, (c .before .before .before .before .before .before .pre .births))
 
--- src/cells.rt:64:20
 add-t13 : tie.Need-add-t13
 add-t13 c = search needs
 
--- src/cells.rt:67:43
 add-t12-2 : tie.Need-add-t12-2
 add-t12-2 c = omega (arith, (c .before .before .before .before .before .before .pre .births))
 
--- src/cells.rt:67:9
 same-length : tie.Need-same-length
 same-length c = search needs
 
--- src/cells.rt:67:9
 returns : tie.Need-returns
 returns c = create-made _ (c .before .before .before .before .before .before .args .v) (c .before .before .before .before .before .before .pre) (c .before .before .before .before .if1 .taken) (c .before .before .put .ensures .1) _ (c .before .before .put .ensures .0)
 
--- src/cells.rt:53:1
 returns-2 : tie.Need-returns-2
 returns-2 c = create-full _ (c .before .before .args .v) (c .before .before .pre) (c .if1 .left)
 

@@ -1,30 +1,23 @@
+-- What the borrow checker leaves of `cells::fetch`.
 use mathlib.Core.Path.{refl}
 use Rattle.runner.proofs.CellLaws.{fetched, unfetched}
 use native.Mathlib.Omega.{arith}
 use borrow.Author.Needs.{needs}
 use Rattle.runner.proofs.cells.fetch.Statement.{statement}
 use Rattle.runner.proofs.cells.fetch.Tie as tie
-use Rattle.runner.proofs.cells.fetch.Reads as reads
-use Rattle.runner.proofs.cells.fetch.Lts as lts
-use Rattle.runner.proofs.bindings.find.Reads as find-reads
 
--- src/cells.rt:29:9
 find-requires : tie.Need-find-requires
 find-requires c κs = (omega arith, omega (arith, (c .before .pre .few)), omega (arith, (c .before .pre .few), (c .before .pre .long)))
 
--- src/cells.rt:31:19
 enum-known-found : tie.Need-enum-known-found
 enum-known-found c = search needs
 
--- src/cells.rt:32:37
 enum-told : tie.Need-enum-told
 enum-told c = search needs
 
--- src/cells.rt:25:1
 returns : tie.Need-returns
 returns c = (refl, λ o. fetched _ _ _ o _ _ (c .before .before .before .find .ensures) (c .before .found .given .1))
 
--- src/cells.rt:25:1
 returns-2 : tie.Need-returns-2
 returns-2 c = (refl, λ o. unfetched _ _ _ o _ _ (c .before .before .find .ensures) (c .enum-told .given .1))
 

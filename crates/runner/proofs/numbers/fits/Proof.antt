@@ -1,23 +1,17 @@
+-- What the borrow checker leaves of `numbers::fits`.
 use mathlib.Core.Path.{sym}
 use mir.Syntax.{w64}
 use mir.Facts.{toZ-ofZ}
 use Rattle.runner.proofs.Ranges.{too-low, too-high, within}
-use borrow.Author.Needs.{needs}
-use native.Mathlib.Omega.{arith}
 use Rattle.runner.proofs.numbers.fits.Statement.{statement}
 use Rattle.runner.proofs.numbers.fits.Tie as tie
-use Rattle.runner.proofs.numbers.fits.Reads as reads
-use Rattle.runner.proofs.numbers.fits.Lts as lts
 
--- src/numbers.rt:22:9
 returns : tie.Need-returns
 returns c = sym (too-low (c .before .args .x) (rw (toZ-ofZ {w = w64} (c .before .fits .x)) at (c .if1 .taken)))
 
--- src/numbers.rt:25:9
 returns-2 : tie.Need-returns-2
 returns-2 c = sym (too-high (c .before .before .args .x) (rw (toZ-ofZ {w = w64} (c .before .before .fits .x)) at (c .if2 .taken)))
 
--- src/numbers.rt:18:1
 returns-3 : tie.Need-returns-3
 returns-3 c = sym (within (c .before .before .args .x) (rw (toZ-ofZ {w = w64} (c .before .before .fits .x)) at (c .before .if1 .left)) (rw (toZ-ofZ {w = w64} (c .before .before .fits .x)) at (c .if2 .left)))
 

@@ -1,47 +1,31 @@
-use mathlib.Core.Path.{sym}
-use lib.IntN.{pos, _+ℤ_, _-ℤ_, _*ℤ_}
-use lib.Signed.{quotZ}
-use mir.Syntax.{w32, w64}
-use mir.Facts.{toZ-ofZ}
-use Rattle.runner.proofs.Ranges.{widened, difference-wide, bits-positive, op-64, op-32, op-is, op-over}
-use native.Mathlib.Omega.{arith}
+-- What the borrow checker leaves of `numbers::subtract`.
+use lib.IntN.{_-ℤ_}
+use Rattle.runner.proofs.Ranges.{widened, difference-wide, op-64, op-32, op-is, op-over}
 use borrow.Author.Needs.{needs}
 use Rattle.runner.proofs.numbers.subtract.Statement.{statement}
 use Rattle.runner.proofs.numbers.subtract.Tie as tie
-use Rattle.runner.proofs.numbers.subtract.Reads as reads
-use Rattle.runner.proofs.numbers.subtract.Lts as lts
-use Rattle.runner.proofs.numbers.fits.Reads as fits-reads
-use Rattle.runner.proofs.numbers.out_of_range.Reads as out-of-range-reads
 
--- src/numbers.rt:49:14
 cast-fits : tie.Need-cast-fits
 cast-fits c = widened (c .fits .a)
 
--- src/numbers.rt:49:27
 cast-fits-2 : tie.Need-cast-fits-2
 cast-fits-2 c = widened (c .fits .b)
 
--- src/numbers.rt:49:13
 sub-fits : tie.Need-sub-fits
 sub-fits c = op-64 _-ℤ_ (c .args .a) (c .args .b) (c .fits .a) (c .fits .b) (difference-wide (c .args .a) (c .args .b) (c .fits .a) (c .fits .b))
 
--- src/numbers.rt:49:8
 fits-requires : tie.Need-fits-requires
 fits-requires c κs = search needs
 
--- src/numbers.rt:50:35
 sub-t10 : tie.Need-sub-t10
 sub-t10 c = op-32 _-ℤ_ (c .before .before .args .a) (c .before .before .args .b) (c .before .before .fits .a) (c .before .before .fits .b) (difference-wide (c .before .before .args .a) (c .before .before .args .b) (c .before .before .fits .a) (c .before .before .fits .b)) _ (c .before .fits2 .ensures) (c .if1 .taken)
 
--- src/numbers.rt:52:9
 out-of-range-requires : tie.Need-out-of-range-requires
 out-of-range-requires c κs = search needs
 
--- src/numbers.rt:46:1
 returns : tie.Need-returns
 returns c = op-is _-ℤ_ (c .before .before .args .a) (c .before .before .args .b) (c .before .before .fits .a) (c .before .before .fits .b) (difference-wide (c .before .before .args .a) (c .before .before .args .b) (c .before .before .fits .a) (c .before .before .fits .b)) _ (c .before .fits2 .ensures) (c .if1 .taken) _ _
 
--- src/numbers.rt:46:1
 returns-2 : tie.Need-returns-2
 returns-2 c = op-over _-ℤ_ (c .before .before .before .args .a) (c .before .before .before .args .b) (c .before .before .before .fits .a) (c .before .before .before .fits .b) (difference-wide (c .before .before .before .args .a) (c .before .before .before .args .b) (c .before .before .before .fits .a) (c .before .before .before .fits .b)) _ (c .before .before .fits2 .ensures) (c .before .if1 .left) _ _ _ (c .out-of-range .ensures)
 

@@ -1,43 +1,33 @@
+-- What the borrow checker leaves of `operands::int_of`.
 use mathlib.Core.Path.{refl}
 use mir.Syntax.{w32}
 use mir.Val.{SFits}
 use mir.Facts.{toZ-ofZ}
-use native.Mathlib.Omega.{arith}
 use borrow.Author.Needs.{needs}
 use Rattle.runner.proofs.operands.int_of.Statement.{statement}
 use Rattle.runner.proofs.operands.int_of.Tie as tie
-use Rattle.runner.proofs.operands.int_of.Reads as reads
-use Rattle.runner.proofs.operands.int_of.Lts as lts
 
--- src/operands.rt:26:20
 enum-known-v : tie.Need-enum-known-v
 enum-known-v c = search needs
 
--- src/operands.rt:27:27
 enum-told : tie.Need-enum-told
 enum-told c = search needs
 
--- src/operands.rt:28:27
 enum-told-2 : tie.Need-enum-told-2
 enum-told-2 c = search needs
 
--- src/operands.rt:29:27
 enum-told-3 : tie.Need-enum-told-3
 enum-told-3 c = search needs
 
--- src/operands.rt:22:1
 returns : tie.Need-returns
 returns c = let z : SFits w32 (c .before .v .given .0 .0) = search needs in rw ((c .before .v .given .1), toZ-ofZ {w = w32} z) refl
 
--- src/operands.rt:22:1
 returns-2 : tie.Need-returns-2
 returns-2 c = search needs
 
--- src/operands.rt:22:1
 returns-3 : tie.Need-returns-3
 returns-3 c = search needs
 
--- src/operands.rt:22:1
 returns-4 : tie.Need-returns-4
 returns-4 c = search needs
 

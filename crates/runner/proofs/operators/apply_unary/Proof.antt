@@ -1,117 +1,84 @@
-use mathlib.Core.Path.{_≡_, refl, sym, ap, _∙_}
+-- What the borrow checker leaves of `operators::apply_unary`.
+use mathlib.Core.Path.{sym, ap, _∙_}
 use mir.Syntax.{w32}
-use mir.Val.{SFits, toZ, ofZ}
+use mir.Val.{SFits}
 use mir.Facts.{toZ-ofZ}
 use Rattle.layout.specs.Values.{meant}
 use Rattle.runner.specs.Operands.{number-in, truth-in, cell-in}
 use Rattle.runner.proofs.Applying.{applies-minus, stuck-minus, applies-not, stuck-not, applies-fetch, stuck-fetch, applies-new}
-use native.Mathlib.Omega.{arith}
 use borrow.Author.Needs.{needs}
 use Rattle.runner.proofs.operators.apply_unary.Statement.{statement}
 use Rattle.runner.proofs.operators.apply_unary.Tie as tie
-use Rattle.runner.proofs.operators.apply_unary.Reads as reads
-use Rattle.runner.proofs.operators.apply_unary.Lts as lts
-use Rattle.runner.proofs.cells.create.Reads as create-reads
-use Rattle.runner.proofs.cells.fetch.Reads as fetch-reads
-use Rattle.runner.proofs.numbers.negate.Reads as negate-reads
-use Rattle.runner.proofs.operands.cell_of.Reads as cell-of-reads
-use Rattle.runner.proofs.operands.flag_of.Reads as flag-of-reads
-use Rattle.runner.proofs.operands.int_of.Reads as int-of-reads
-use Rattle.runner.proofs.state.stuck.Reads as stuck-reads
 
--- src/operators.rt:33:13
 int-of-requires : tie.Need-int-of-requires
 int-of-requires c κs = search needs
 
--- src/operators.rt:35:24
 enum-known-n : tie.Need-enum-known-n
 enum-known-n c = search needs
 
--- src/operators.rt:35:30
 negate-requires : tie.Need-negate-requires
 negate-requires c κs = search needs
 
--- src/operators.rt:36:30
 enum-told : tie.Need-enum-told
 enum-told c = search needs
 
--- src/operators.rt:36:30
 stuck-requires : tie.Need-stuck-requires
 stuck-requires c κs = search needs
 
--- src/operators.rt:34:9
 returns : tie.Need-returns
 returns c = let z : SFits w32 (c .before .before .n .given .0 .0) = search needs in applies-minus _ _ (meant (c .before .before .before .before .before .before .before .args .v)) (c .before .before .before .before .before .before .before .pre) (c .before .before .before .before .before .if1 .taken) _ (sym (ap number-in (c .before .before .n .given .1)) ∙ (c .before .before .before .before .int-of .ensures)) (rw (toZ-ofZ {w = w32} z) at (c .negate .ensures))
 
--- src/operators.rt:34:9
 returns-2 : tie.Need-returns-2
 returns-2 c = stuck-minus _ _ (meant (c .before .before .before .before .before .before .args .v)) (c .before .before .before .before .before .before .pre) (c .before .before .before .before .if1 .taken) _ (c .stuck .ensures) (sym (ap number-in (c .before .enum-told .given .1)) ∙ (c .before .before .before .int-of .ensures))
 
--- src/operators.rt:40:13
 flag-of-requires : tie.Need-flag-of-requires
 flag-of-requires c κs = search needs
 
--- src/operators.rt:42:23
 enum-known-t : tie.Need-enum-known-t
 enum-known-t c = search needs
 
--- src/operators.rt:43:29
 enum-told-2 : tie.Need-enum-told-2
 enum-told-2 c = search needs
 
--- src/operators.rt:43:29
 stuck-requires-2 : tie.Need-stuck-requires-2
 stuck-requires-2 c κs = search needs
 
--- src/operators.rt:41:9
 returns-3 : tie.Need-returns-3
 returns-3 c = applies-not _ _ (meant (c .before .before .before .before .before .before .before .args .v)) (c .before .before .before .before .before .before .before .pre) (c .before .before .before .before .if2 .taken) _ (sym (ap truth-in (c .before .t .given .1)) ∙ (c .before .before .before .flag-of .ensures))
 
--- src/operators.rt:41:9
 returns-4 : tie.Need-returns-4
 returns-4 c = stuck-not _ _ (meant (c .before .before .before .before .before .before .before .args .v)) (c .before .before .before .before .before .before .before .pre) (c .before .before .before .before .if2 .taken) _ (c .stuck2 .ensures) (sym (ap truth-in (c .before .enum-told2 .given .1)) ∙ (c .before .before .before .flag-of .ensures))
 
--- src/operators.rt:47:13
 cell-of-requires : tie.Need-cell-of-requires
 cell-of-requires c κs = search needs
 
--- src/operators.rt:49:22
 enum-known-c : tie.Need-enum-known-c
 enum-known-c c = search needs
 
--- src/operators.rt:49:28
 fetch-requires : tie.Need-fetch-requires
 fetch-requires c κs = search needs
 
--- src/operators.rt:50:28
 enum-told-3 : tie.Need-enum-told-3
 enum-told-3 c = search needs
 
--- src/operators.rt:50:28
 stuck-requires-3 : tie.Need-stuck-requires-3
 stuck-requires-3 c κs = search needs
 
--- src/operators.rt:48:9
 same-length : tie.Need-same-length
 same-length c = search needs
 
--- src/operators.rt:48:9
 returns-5 : tie.Need-returns-5
 returns-5 c = applies-fetch _ _ (meant (c .before .before .before .before .before .before .before .before .before .before .args .v)) (c .before .before .before .before .before .before .before .before .before .before .pre) (c .before .before .before .before .before .before .if3 .taken) _ (sym (ap cell-in (c .before .before .before .c .given .1)) ∙ (c .before .before .before .before .before .cell-of .ensures)) (c .fetch .ensures)
 
--- src/operators.rt:48:9
 returns-6 : tie.Need-returns-6
 returns-6 c = stuck-fetch _ _ (meant (c .before .before .before .before .before .before .before .before .args .v)) (c .before .before .before .before .before .before .before .before .pre) (c .before .before .before .before .if3 .taken) _ (c .stuck3 .ensures) (sym (ap cell-in (c .before .enum-told3 .given .1)) ∙ (c .before .before .before .cell-of .ensures))
 
--- src/operators.rt:53:5
 create-requires : tie.Need-create-requires
 create-requires c κs = search needs
 
--- src/operators.rt:28:1
 same-length-2 : tie.Need-same-length-2
 same-length-2 c = search needs
 
--- src/operators.rt:28:1
 returns-7 : tie.Need-returns-7
 returns-7 c = applies-new _ _ (meant (c .before .before .before .before .before .before .before .before .args .v)) (c .before .before .before .before .before .before .before .before .pre) (c .before .before .before .before .before .before .if1 .left) (c .before .before .before .before .before .if2 .left) (c .before .before .before .before .if3 .left) (c .before .before .create .ensures)
 

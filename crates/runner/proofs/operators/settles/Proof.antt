@@ -1,39 +1,29 @@
-use mathlib.Core.Path.{_≡_, sym, ap, _∙_}
+-- What the borrow checker leaves of `operators::settles`.
+use mathlib.Core.Path.{sym, ap, _∙_}
 use Rattle.runner.specs.Operands.{truth-in}
 use Rattle.runner.proofs.Applying.{settles-and, settles-or, settles-no, settles-other}
-use native.Mathlib.Omega.{arith}
 use borrow.Author.Needs.{needs}
 use Rattle.runner.proofs.operators.settles.Statement.{statement}
 use Rattle.runner.proofs.operators.settles.Tie as tie
-use Rattle.runner.proofs.operators.settles.Reads as reads
-use Rattle.runner.proofs.operators.settles.Lts as lts
-use Rattle.runner.proofs.operands.flag_of.Reads as flag-of-reads
 
--- src/operators.rt:60:9
 flag-of-requires : tie.Need-flag-of-requires
 flag-of-requires c κs = search needs
 
--- src/operators.rt:62:19
 enum-known-t : tie.Need-enum-known-t
 enum-known-t c = search needs
 
--- src/operators.rt:64:17
 returns : tie.Need-returns
 returns c = settles-and _ (c .if1 .taken) _ _ (sym (ap truth-in (c .before .before .t .given .1)) ∙ (c .before .before .before .before .flag-of .ensures))
 
--- src/operators.rt:67:17
 returns-2 : tie.Need-returns-2
 returns-2 c = settles-or _ (c .if2 .taken) _ _ (sym (ap truth-in (c .before .before .before .t .given .1)) ∙ (c .before .before .before .before .before .flag-of .ensures))
 
--- src/operators.rt:71:25
 enum-told : tie.Need-enum-told
 enum-told c = search needs
 
--- src/operators.rt:57:1
 returns-3 : tie.Need-returns-3
 returns-3 c = settles-no _ (c .before .if1 .left) (c .if2 .left) _
 
--- src/operators.rt:57:1
 returns-4 : tie.Need-returns-4
 returns-4 c = settles-other _ _ (sym (ap truth-in (c .enum-told .given .1)) ∙ (c .before .before .flag-of .ensures))
 
