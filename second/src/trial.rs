@@ -108,10 +108,19 @@ fn make_loans(chance: &mut Chance, sheet: &[u8]) -> Lent {
         11 | 12 => chance.below(20_000) as u64,
         _ => MOST_UNITS,
     };
-    Lent { allowance, ..lent }
+    let lent = Lent { allowance, ..lent };
+    // Long runs are much alike, and a few of them are enough.
+    if units(sheet, lent) > LONG && !chance.one_in(40) {
+        let allowance = chance.below(5_000) as u64;
+        return Lent { allowance, ..lent };
+    }
+    lent
 }
 
-/// Exactly enough units for this sheet, or all there are if none suffice.
+/// Units of a run that is long enough to be cut short most of the time.
+const LONG: u64 = 20_000;
+
+/// The units that this sheet uses of those it is allowed.
 fn units(sheet: &[u8], lent: Lent) -> u64 {
     answer::run(sheet, &lent).units
 }

@@ -1,0 +1,22 @@
+# To be sourced. Programs of the box are for x86-64; on another machine they are built by a cross
+# compiler and run under an emulator, both Debian's, installed here where they are missing.
+#
+#   x86_gcc WORDS...        the C compiler for x86-64
+#   $EMULATOR PROGRAM ...   runs such a program; empty on x86-64
+need() { # COMMAND PACKAGE...
+  command -v "$1" >/dev/null && return
+  shift
+  apt-get install -y -q "$@" >/dev/null 2>&1 && return
+  apt-get update -q >/dev/null && apt-get install -y -q "$@" >/dev/null
+}
+
+x86_gcc() {
+  need x86_64-linux-gnu-gcc gcc-x86-64-linux-gnu libc6-dev-amd64-cross && x86_64-linux-gnu-gcc "$@"
+}
+
+EMULATOR=
+if [ "$(uname -m)" != x86_64 ]; then
+  need qemu-x86_64 qemu-user
+  [ -e /usr/x86_64-linux-gnu/lib ] || need no-such-command libc6-amd64-cross
+  EMULATOR='qemu-x86_64 -L /usr/x86_64-linux-gnu'
+fi
