@@ -1,6 +1,8 @@
 // Reading what the arguments name.
 ghost use Rattle.io.specs.Counts.{Counts};
 
+use crate::report::complain;
+
 // The bytes of a sheet, or nothing, when the reason was told.
 pub enum Sheet {
     Bytes(usize),
@@ -14,7 +16,14 @@ pub fn within(n: usize, bytes: &[u8]) -> usize
     if n < bytes.len() { n } else { bytes.len() }
 }
 
-// Reads until the bytes are full or the input ends. Only the first read tells that it failed.
+// Does a further read say that the input has ended?
+fn has_ended(fd: i32) -> bool {
+    let mut one = [0u8; 1];
+    libc::read(fd, &mut one) == 0
+}
+
+// Reads until the bytes are full or the input ends. A read that fails on the way looks like the end, so
+// one more has to say that it is: no sheet is cut short unnoticed.
 fn read(fd: i32, name: &[u8], bytes: &mut [u8]) -> Sheet {
     let got = libc::read(fd, bytes);
     if got < 0 {
@@ -26,7 +35,12 @@ fn read(fd: i32, name: &[u8], bytes: &mut [u8]) -> Sheet {
     }
     let first = io::count(got, bytes);
     let more = io::read_full(fd, &mut bytes[first..]);
-    Sheet::Bytes(first + more)
+    let length = first + more;
+    if length < bytes.len() && !has_ended(fd) {
+        complain(b"slip: the sheet cannot be read to its end");
+        return Sheet::Nothing;
+    }
+    Sheet::Bytes(length)
 }
 
 // Reads the sheet that this argument names.
