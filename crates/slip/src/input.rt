@@ -1,6 +1,5 @@
 // Reading what the arguments name.
 ghost use Rattle.io.specs.Counts.{Counts};
-
 use crate::report::complain;
 
 // The bytes of a sheet, or nothing, when the reason was told.
