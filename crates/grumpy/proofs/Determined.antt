@@ -13,8 +13,8 @@ use Rattle.tokens.specs.Answer as Tokens
 use Rattle.tokens.specs.declared.answer.Flaw as flaw
 use Rattle.checker.specs.Checked as Checker
 use Rattle.checker.specs.declared.Reason as reason
-use Rattle.runner.specs.Outcomes.{why}
-use Rattle.runner.specs.declared.Stop as halt
+use Rattle.machine.specs.Outcomes.{why}
+use Rattle.machine.specs.declared.Stop as halt
 use Rattle.grumpy.specs.Reports.{checked-row, checked-report, ran-row, ran-report}
 use Rattle.grumpy.specs.declared.answers.Refusal as refused
 use Rattle.grumpy.specs.declared.answers.Checked as checked

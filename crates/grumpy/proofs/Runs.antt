@@ -16,9 +16,9 @@ use Rattle.layout.specs.Values.{meant}
 use Rattle.layout.specs.declared.values.Value.{Value}
 use Rattle.layout.specs.Decode.{Holds}
 use Rattle.runner.specs.Contract as Runner
-use Rattle.runner.specs.Outcomes.{why}
+use Rattle.machine.specs.Outcomes.{why}
 use Rattle.runner.specs.declared.Done as done
-use Rattle.runner.specs.declared.Stop.{Stop}
+use Rattle.machine.specs.declared.Stop.{Stop}
 use Rattle.runner.specs.declared.Spent as spent
 use Rattle.grumpy.specs.Sheets.{EndsInValue, EndsInStop, Executed}
 use Rattle.grumpy.specs.declared.answers.Ran as ran

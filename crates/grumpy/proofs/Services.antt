@@ -16,7 +16,7 @@ use Rattle.layout.specs.Table.{zeros}
 use Rattle.layout.proofs.Wiped.{zeros-cleared}
 use Rattle.language.proofs.Text.SmallNumbers.{split-small}
 use Rattle.runner.specs.Contract as Runner
-use Rattle.runner.specs.Outcomes.{why}
+use Rattle.machine.specs.Outcomes.{why}
 use Rattle.grumpy.specs.Reports.{checked-row, checked-report, ran-row, ran-report}
 use Rattle.grumpy.specs.Sheets.{Passing, OfSource, Examined, Counts, OfRun, Executed, Finishable, Answered, Finished}
 use Rattle.grumpy.specs.declared.answers.Refusal as refused

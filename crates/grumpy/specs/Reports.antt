@@ -4,7 +4,7 @@ use Rattle.language.specs.Numbers.{Row, passed, short-memory, large-allowance, 
 use Rattle.language.specs.Answers.{CheckReport, check-report, RunReport, refusal}
 use Rattle.tokens.specs.Answer as Tokens
 use Rattle.checker.specs.Checked as Checker
-use Rattle.runner.specs.Outcomes.{why}
+use Rattle.machine.specs.Outcomes.{why}
 use Rattle.grumpy.specs.declared.answers.Refusal.{Refusal}
 use Rattle.grumpy.specs.declared.answers.Refusal.the-variants.{ShortMemory, LargeAllowance, LongSource, Text, NoReading, ManyNodes, Types}
 use Rattle.grumpy.specs.declared.answers.Checked as checked

@@ -17,7 +17,7 @@ use Rattle.language.specs.Answers.{Passes, Refused, Lent, Enough, Ran, left, cl
 use Rattle.layout.specs.Table.{zeros}
 use Rattle.layout.specs.Names.{Stand}
 use Rattle.layout.specs.Decode.{Holds}
-use Rattle.runner.specs.Outcomes.{why}
+use Rattle.machine.specs.Outcomes.{why}
 use Rattle.runner.specs.Contract as Runner
 use Rattle.grumpy.specs.Reports.{refusal-row, ran-row, ran-report}
 use Rattle.grumpy.specs.declared.answers.Ran as ran

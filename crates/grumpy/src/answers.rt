@@ -1,6 +1,6 @@
 // What the services answer. `specs/Reports.antt` gives the paper's numbers for each case.
 use checker::Reason;
-use runner::Stop;
+use machine::Stop;
 use tokens::answer::Flaw;
 
 // Why a sheet is not run: the rows below 50, in the order in which they are looked for.

@@ -3,11 +3,11 @@ ghost use mathlib.Core.Path.{_≡_};
 ghost use Rattle.language.specs.Numbers.{number, flaw-number, reason-number, stop-number};
 ghost use Rattle.tokens.specs.Answer.{meant as flaw-meant};
 ghost use Rattle.checker.specs.Checked.{meant as reason-meant};
-ghost use Rattle.runner.specs.Outcomes.{why as stop-meant};
+ghost use Rattle.machine.specs.Outcomes.{why as stop-meant};
 ghost use Rattle.grumpy.specs.Reports.{refusal-row};
 use crate::answers::Refusal;
 use checker::Reason;
-use runner::Stop;
+use machine::Stop;
 use tokens::answer::Flaw;
 
 fn of_flaw(flaw: Flaw) -> u32

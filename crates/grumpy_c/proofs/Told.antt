@@ -10,8 +10,8 @@ use mir.Val.{ofZ}
 use Rattle.language.specs.Numbers.{number, stop-number}
 use Rattle.language.specs.Answers.{Check, Run}
 use Rattle.language.proofs.Answers.OneAnswer.{one-check, one-run}
-use Rattle.runner.specs.Outcomes.{why}
-use Rattle.runner.specs.declared.Stop.{Stop}
+use Rattle.machine.specs.Outcomes.{why}
+use Rattle.machine.specs.declared.Stop.{Stop}
 use Rattle.grumpy.specs.Reports.{refusal-row, checked-row, checked-report, ran-row, ran-report}
 use Rattle.grumpy.specs.declared.answers.Refusal.{Refusal}
 use Rattle.grumpy.specs.declared.answers.Checked as checked

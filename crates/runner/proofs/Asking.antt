@@ -18,12 +18,13 @@ use Rattle.layout.specs.Decode.{Shape, shape-of, children, Right}
 use Rattle.layout.specs.Slots.{put-slot}
 use Rattle.layout.specs.Values.{meant, Survives}
 use Rattle.layout.specs.declared.values.Value.{Value}
-use Rattle.runner.specs.Rows.{carried, Named, IsUnary, IsBinary, LiteralRow}
-use Rattle.runner.specs.Outcomes.{Kept}
+use Rattle.machine.specs.Rows.{carried, Named, LiteralRow}
+use Rattle.runner.specs.Rows.{IsUnary, IsBinary}
+use Rattle.machine.specs.Outcomes.{Kept}
 use Rattle.runner.specs.Contract.{Stands, slack, top, Ready}
-use Rattle.runner.specs.declared.state.Frame.{Frame}
-use Rattle.runner.specs.declared.state.Tally.{Tally}
-use Rattle.runner.proofs.Keeping.{kept-self, kept-put, room-after, printed-after}
+use Rattle.machine.specs.declared.state.Frame.{Frame}
+use Rattle.machine.specs.declared.state.Tally.{Tally}
+use Rattle.machine.proofs.Keeping.{kept-self, kept-put, room-after, printed-after}
 use Rattle.runner.proofs.Shapes.{kind-is, unary-shape, Rest, binary-shape}
 use Rattle.runner.proofs.Standing.{stands-after, stands-first, stands-second, stands-third}
 use Rattle.runner.proofs.Beginnings.{name-inside-of}

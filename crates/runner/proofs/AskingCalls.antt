@@ -9,15 +9,16 @@ use Rattle.layout.specs.Table.{row-word}
 use Rattle.layout.specs.Rows.{CALL}
 use Rattle.layout.specs.Decode.{Right, RightArgs}
 use Rattle.layout.specs.Slots.{BINDINGS}
-use Rattle.runner.specs.Rows.{carried, Headed, Callable, find-function, callee, takes}
-use Rattle.runner.specs.Outcomes.{Kept}
+use Rattle.machine.specs.Rows.{carried}
+use Rattle.runner.specs.Rows.{Headed, Callable, find-function, callee, takes}
+use Rattle.machine.specs.Outcomes.{Kept}
 use Rattle.runner.specs.Contract.{Stands, Lined, slack, top, Sem, Ready, Queued, Passing}
 use Rattle.runner.specs.declared.callees.Callee.{Callee}
 use Rattle.runner.specs.declared.callees.Callee.the-variants.{Putchar, Defined}
 use Rattle.runner.specs.declared.calls.Passed.{Passed}
-use Rattle.runner.specs.declared.state.Frame.{Frame}
-use Rattle.runner.specs.declared.state.Tally.{Tally}
-use Rattle.runner.proofs.Keeping.{room-after, printed-after}
+use Rattle.machine.specs.declared.state.Frame.{Frame}
+use Rattle.machine.specs.declared.state.Tally.{Tally}
+use Rattle.machine.proofs.Keeping.{room-after, printed-after}
 use Rattle.runner.proofs.Finding.{headed, callable}
 use Rattle.runner.proofs.Queues.{lined-first, lined-later, lined-inside, passing-kept}
 use Rattle.runner.proofs.Calling.{inner, call-lined, call-before, call-inside, call-named, finds, enters, body-stands}

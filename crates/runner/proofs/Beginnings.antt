@@ -16,17 +16,17 @@ use Rattle.layout.specs.Table.{row-word}
 use Rattle.layout.specs.Decode.{build, tree-at, Right}
 use Rattle.layout.specs.declared.values.Value.{Value}
 use Rattle.layout.proofs.NameLaws.{name-inside, named-at}
-use Rattle.runner.specs.Slots.{slots, find}
-use Rattle.runner.specs.Rows.{carried}
-use Rattle.runner.specs.Outcomes.{memory, tally, Room, Looked}
+use Rattle.machine.specs.Slots.{slots, find}
+use Rattle.machine.specs.Rows.{carried}
+use Rattle.machine.specs.Outcomes.{memory, tally, Room, Looked}
 use Rattle.runner.specs.Contract.{Stands, Ready, top, Sem, Ran, Spends}
-use Rattle.runner.specs.declared.Stop.{Stop}
-use Rattle.runner.specs.declared.state.Frame.{Frame}
-use Rattle.runner.specs.declared.state.Tally.{Tally}
-use Rattle.runner.specs.declared.state.Outcome.{Outcome}
-use Rattle.runner.specs.declared.state.Outcome.the-variants.{Gives, Halts}
-use Rattle.runner.proofs.Telling.{tells-same, tells-by}
-use Rattle.runner.proofs.Keeping.{tick, kept-spent, room-ticked, kept-self, kept-as}
+use Rattle.machine.specs.declared.Stop.{Stop}
+use Rattle.machine.specs.declared.state.Frame.{Frame}
+use Rattle.machine.specs.declared.state.Tally.{Tally}
+use Rattle.machine.specs.declared.state.Outcome.{Outcome}
+use Rattle.machine.specs.declared.state.Outcome.the-variants.{Gives, Halts}
+use Rattle.machine.proofs.Telling.{tells-same, tells-by}
+use Rattle.machine.proofs.Keeping.{tick, kept-spent, room-ticked, kept-self, kept-as}
 use Rattle.runner.proofs.Shapes.{tree-is, own-is, known-name}
 use Rattle.runner.proofs.Standing.{nearest-is, carried-own}
 use Rattle.runner.proofs.Steps.{stepped, every}

@@ -17,20 +17,21 @@ use Rattle.layout.specs.Rows.{CALL}
 use Rattle.layout.specs.Decode.{build, tree-at, args-at, Right}
 use Rattle.layout.specs.Slots.{BINDINGS, value-at}
 use Rattle.layout.proofs.NameLaws.{Named, name-inside, named-at}
-use Rattle.runner.specs.Slots.{values-from}
-use Rattle.runner.specs.Rows.{carried, find-function, callee, takes, parameter}
-use Rattle.runner.specs.Outcomes.{Tells, anything, memory, outcome, tally, Room, Printed}
+use Rattle.machine.specs.Slots.{values-from}
+use Rattle.machine.specs.Rows.{carried}
+use Rattle.runner.specs.Rows.{find-function, callee, takes, parameter}
+use Rattle.machine.specs.Outcomes.{Tells, anything, memory, outcome, tally, Room, Printed}
 use Rattle.runner.specs.Contract.{Binds, binds-none, Stands, Lined, top, Sem, Ran, Worked, Passing}
-use Rattle.runner.specs.declared.Stop.{Stop}
+use Rattle.machine.specs.declared.Stop.{Stop}
 use Rattle.runner.specs.declared.callees.Callee.{Callee}
 use Rattle.runner.specs.declared.callees.Callee.the-variants.{Putchar, Defined}
 use Rattle.runner.specs.declared.calls.Passed.{Passed}
-use Rattle.runner.specs.declared.state.Frame.{Frame}
-use Rattle.runner.specs.declared.state.Tally.{Tally}
-use Rattle.runner.specs.declared.state.Outcome.{Outcome}
-use Rattle.runner.specs.declared.state.Outcome.the-variants.{Halts}
-use Rattle.runner.proofs.Telling.{tells-by, when-is}
-use Rattle.runner.proofs.Keeping.{kept-then, kept-more, kept-low, kept-as, room-after}
+use Rattle.machine.specs.declared.state.Frame.{Frame}
+use Rattle.machine.specs.declared.state.Tally.{Tally}
+use Rattle.machine.specs.declared.state.Outcome.{Outcome}
+use Rattle.machine.specs.declared.state.Outcome.the-variants.{Halts}
+use Rattle.machine.proofs.Telling.{tells-by, when-is}
+use Rattle.machine.proofs.Keeping.{kept-then, kept-more, kept-low, kept-as, room-after}
 use Rattle.runner.proofs.Shapes.{tree-is, known-call}
 use Rattle.runner.proofs.Standing.{carried-own}
 use Rattle.runner.proofs.Steps.{stepped, every}

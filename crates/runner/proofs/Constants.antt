@@ -17,14 +17,14 @@ use Rattle.layout.specs.Names.{payload, Stand}
 use Rattle.layout.specs.Decode.{a-number, a-constant, shape-of, build, tree-at, Right}
 use Rattle.layout.specs.Values.{meant}
 use Rattle.layout.specs.declared.values.Value.{Value}
-use Rattle.runner.specs.Rows.{carried, literal-of}
-use Rattle.runner.specs.Outcomes.{memory, Room}
+use Rattle.machine.specs.Rows.{carried, literal-of}
+use Rattle.machine.specs.Outcomes.{memory, Room}
 use Rattle.runner.specs.Contract.{Stands, Written, top, Sem, Ran}
-use Rattle.runner.specs.declared.state.Frame.{Frame}
-use Rattle.runner.specs.declared.state.Tally.{Tally}
-use Rattle.runner.specs.declared.state.Outcome.the-variants.{Gives}
-use Rattle.runner.proofs.Telling.{tells-same, tells-by}
-use Rattle.runner.proofs.Keeping.{kept-self}
+use Rattle.machine.specs.declared.state.Frame.{Frame}
+use Rattle.machine.specs.declared.state.Tally.{Tally}
+use Rattle.machine.specs.declared.state.Outcome.the-variants.{Gives}
+use Rattle.machine.proofs.Telling.{tells-same, tells-by}
+use Rattle.machine.proofs.Keeping.{kept-self}
 use Rattle.runner.proofs.Shapes.{tree-is, kind-is, Rest, literal-shape}
 use Rattle.runner.proofs.Standing.{carried-own}
 use Rattle.runner.proofs.Steps.{stepped, every}

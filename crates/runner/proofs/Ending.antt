@@ -10,11 +10,11 @@ use lib.Seq.{getD-set-other, getD-drop, take-suc, ext-getD}
 use borrow.Author.Tests.{eqb-true, eqb-false, ltb-true, ltb-false}
 use Rattle.language.specs.Sizes.{WORK}
 use Rattle.layout.specs.Table.{zeros}
-use Rattle.runner.specs.Outcomes.{bytes, memory, outcome, tally, Kept}
+use Rattle.machine.specs.Outcomes.{bytes, memory, outcome, tally, Kept}
 use Rattle.runner.specs.Contract.{spent, reported, Counts, Tells-of, printed-by}
-use Rattle.runner.specs.declared.state.Tally.{Tally}
-use Rattle.runner.specs.declared.state.Outcome.{Outcome}
-use Rattle.runner.specs.declared.state.Outcome.the-variants.{Gives, Halts}
+use Rattle.machine.specs.declared.state.Tally.{Tally}
+use Rattle.machine.specs.declared.state.Outcome.{Outcome}
+use Rattle.machine.specs.declared.state.Outcome.the-variants.{Gives, Halts}
 
 -- ---- cleared memory
 

@@ -15,8 +15,8 @@ use Rattle.layout.specs.Names.{name-number, Stand}
 use Rattle.layout.specs.Decode.{ParamsAt, params-none, params-more}
 use Rattle.layout.specs.Slots.{key-at, value-at}
 use Rattle.layout.proofs.NameLaws.{named-at}
-use Rattle.runner.specs.Slots.{values-from}
-use Rattle.runner.specs.Rows.{carried}
+use Rattle.machine.specs.Slots.{values-from}
+use Rattle.machine.specs.Rows.{carried}
 use Rattle.runner.specs.Contract.{Binds, binds-more}
 use Rattle.runner.proofs.Standing.{carried-own}
 

@@ -17,7 +17,8 @@ use Rattle.layout.specs.Table.{token-word, row-word, function-row}
 use Rattle.layout.specs.Names.{name-number, Stand}
 use Rattle.layout.specs.Decode.{ParamsAt, params-none, params-more, FunctionAt}
 use Rattle.layout.proofs.NameLaws.{Named, name-inside, named-at, named-same}
-use Rattle.runner.specs.Rows.{carried, find-function, callee, Headed, Function, Callable}
+use Rattle.machine.specs.Rows.{carried}
+use Rattle.runner.specs.Rows.{find-function, callee, Headed, Function, Callable}
 use Rattle.runner.specs.Contract.{Defines, defines-none, defines-more}
 use Rattle.runner.specs.declared.callees.Callee.{Callee}
 use Rattle.runner.specs.declared.callees.Callee.the-variants.{Putchar, Defined}

@@ -18,15 +18,15 @@ use Rattle.layout.specs.Slots.{BINDINGS, put-slot}
 use Rattle.layout.specs.Values.{meant, Survives}
 use Rattle.layout.specs.declared.values.Value.{Value}
 use Rattle.layout.proofs.NameLaws.{name-inside, named-at}
-use Rattle.runner.specs.Rows.{carried}
-use Rattle.runner.specs.Outcomes.{Tells, outcome, Room, Kept}
+use Rattle.machine.specs.Rows.{carried}
+use Rattle.machine.specs.Outcomes.{Tells, outcome, Room, Kept}
 use Rattle.runner.specs.Contract.{Binds, binds-more, Stands, top, Sem, Ran}
-use Rattle.runner.specs.declared.state.Frame.{Frame}
-use Rattle.runner.specs.declared.state.Tally.{Tally}
-use Rattle.runner.specs.declared.state.Outcome.{Outcome}
-use Rattle.runner.specs.declared.state.Outcome.the-variants.{Gives}
-use Rattle.runner.proofs.Slotted.{put-other, put-key, put-value}
-use Rattle.runner.proofs.Keeping.{kept-then, kept-more, kept-low, kept-put, memory-put, printed-after}
+use Rattle.machine.specs.declared.state.Frame.{Frame}
+use Rattle.machine.specs.declared.state.Tally.{Tally}
+use Rattle.machine.specs.declared.state.Outcome.{Outcome}
+use Rattle.machine.specs.declared.state.Outcome.the-variants.{Gives}
+use Rattle.machine.proofs.Slotted.{put-other, put-key, put-value}
+use Rattle.machine.proofs.Keeping.{kept-then, kept-more, kept-low, kept-put, memory-put, printed-after}
 use Rattle.runner.proofs.Shapes.{tree-is, known-let}
 use Rattle.runner.proofs.Standing.{binds-same, scene-after, stands-first, stands-second}
 use Rattle.runner.proofs.Steps.{stepped, Next, Begins, goes, kept-of}

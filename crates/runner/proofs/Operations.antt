@@ -14,16 +14,17 @@ use Rattle.layout.specs.Decode.{build, tree-at}
 use Rattle.layout.specs.Slots.{BINDINGS}
 use Rattle.layout.specs.Values.{meant}
 use Rattle.layout.specs.declared.values.Value.{Value}
-use Rattle.runner.specs.Rows.{unary-of, binary-of, IsUnary, IsBinary}
-use Rattle.runner.specs.Outcomes.{Tells, tells, memory, outcome, Room, Applied}
+use Rattle.machine.specs.Rows.{unary-of, binary-of}
+use Rattle.runner.specs.Rows.{IsUnary, IsBinary}
+use Rattle.machine.specs.Outcomes.{Tells, tells, memory, outcome, Room, Applied}
 use Rattle.runner.specs.Contract.{top, Sem, Ran}
-use Rattle.runner.specs.declared.Stop.{Stop}
-use Rattle.runner.specs.declared.state.Frame.{Frame}
-use Rattle.runner.specs.declared.state.Tally.{Tally}
-use Rattle.runner.specs.declared.state.Outcome.{Outcome}
-use Rattle.runner.specs.declared.state.Outcome.the-variants.{Gives, Halts}
-use Rattle.runner.proofs.Telling.{then-stop, then-value, choose-true, choose-false}
-use Rattle.runner.proofs.Keeping.{kept-then, kept-more, kept-low, kept-self, printed-after}
+use Rattle.machine.specs.declared.Stop.{Stop}
+use Rattle.machine.specs.declared.state.Frame.{Frame}
+use Rattle.machine.specs.declared.state.Tally.{Tally}
+use Rattle.machine.specs.declared.state.Outcome.{Outcome}
+use Rattle.machine.specs.declared.state.Outcome.the-variants.{Gives, Halts}
+use Rattle.machine.proofs.Telling.{then-stop, then-value, choose-true, choose-false}
+use Rattle.machine.proofs.Keeping.{kept-then, kept-more, kept-low, kept-self, printed-after}
 use Rattle.runner.proofs.Shapes.{tree-is}
 use Rattle.runner.proofs.Standing.{right-after, stands-first, stands-second}
 use Rattle.runner.proofs.Steps.{stepped, Next, Begins, goes, ran-is, kept-of}

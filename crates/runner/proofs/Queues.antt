@@ -18,20 +18,20 @@ use Rattle.layout.specs.Decode.{tree-at, args-at, RightArgs}
 use Rattle.layout.specs.Slots.{BINDINGS, key-at, put-slot}
 use Rattle.layout.specs.Values.{meant, Survives}
 use Rattle.layout.specs.declared.values.Value.{Value}
-use Rattle.runner.specs.Slots.{values-from}
+use Rattle.machine.specs.Slots.{values-from}
 use Rattle.runner.specs.Rows.{takes, parameter}
-use Rattle.runner.specs.Outcomes.{Tells, why, memory, Room, Kept}
+use Rattle.machine.specs.Outcomes.{Tells, why, memory, Room, Kept}
 use Rattle.runner.specs.Contract.{Stands, Lined, top, Sem, Ran, Worked, Passing, passed-tally}
-use Rattle.runner.specs.declared.Stop.{Stop}
+use Rattle.machine.specs.declared.Stop.{Stop}
 use Rattle.runner.specs.declared.callees.Callee.{Callee}
 use Rattle.runner.specs.declared.calls.Passed.{Passed}
-use Rattle.runner.specs.declared.state.Frame.{Frame}
-use Rattle.runner.specs.declared.state.Tally.{Tally}
-use Rattle.runner.specs.declared.state.Outcome.{Outcome}
-use Rattle.runner.specs.declared.state.Outcome.the-variants.{Gives, Halts}
-use Rattle.runner.proofs.Telling.{tells-by, then-stop, then-value}
-use Rattle.runner.proofs.Slotted.{values-same, put-other, put-key, put-value}
-use Rattle.runner.proofs.Keeping.{kept-then, kept-low, kept-self, kept-put, memory-put, printed-after}
+use Rattle.machine.specs.declared.state.Frame.{Frame}
+use Rattle.machine.specs.declared.state.Tally.{Tally}
+use Rattle.machine.specs.declared.state.Outcome.{Outcome}
+use Rattle.machine.specs.declared.state.Outcome.the-variants.{Gives, Halts}
+use Rattle.machine.proofs.Telling.{tells-by, then-stop, then-value}
+use Rattle.machine.proofs.Slotted.{values-same, put-other, put-key, put-value}
+use Rattle.machine.proofs.Keeping.{kept-then, kept-low, kept-self, kept-put, memory-put, printed-after}
 use Rattle.runner.proofs.Standing.{scene-after}
 use Rattle.runner.proofs.Steps.{ran-is, kept-of}
 

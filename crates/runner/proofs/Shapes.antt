@@ -13,7 +13,7 @@ use Rattle.language.proofs.Meaning.CellTypes.{none-some, some-one}
 use Rattle.layout.specs.Table.{row-word}
 use Rattle.layout.specs.Rows.{PREFIX, CALL}
 use Rattle.layout.specs.Decode.{Shape, a-name, a-number, a-follow, a-group, a-block, a-call, a-let, an-if, a-while, a-constant, a-unary, a-binary, shapes, shape-of, children, build, build-if, tree-at, args-at, Node, Right, RightArgs}
-use Rattle.runner.specs.Rows.{unary-of, binary-of}
+use Rattle.machine.specs.Rows.{unary-of, binary-of}
 
 -- ---- the tree of a row
 

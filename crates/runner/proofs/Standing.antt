@@ -16,13 +16,13 @@ use Rattle.layout.specs.Names.{name-number}
 use Rattle.layout.specs.Decode.{Shape, shape-of, children, tree-at}
 use Rattle.layout.specs.Slots.{value-at}
 use Rattle.layout.proofs.NameLaws.{Named, name-inside, named-same}
-use Rattle.runner.specs.Slots.{slots, find, Same}
-use Rattle.runner.specs.Rows.{carried}
-use Rattle.runner.specs.Outcomes.{Tells, outcome, memory, Kept}
+use Rattle.machine.specs.Slots.{slots, find, Same}
+use Rattle.machine.specs.Rows.{carried}
+use Rattle.machine.specs.Outcomes.{Tells, outcome, memory, Kept}
 use Rattle.runner.specs.Contract.{Binds, binds-none, binds-more, Scene, Stands, top, Sem, Ran}
-use Rattle.runner.specs.declared.state.Frame.{Frame}
-use Rattle.runner.specs.declared.state.Tally.{Tally}
-use Rattle.runner.specs.declared.state.Outcome.{Outcome}
+use Rattle.machine.specs.declared.state.Frame.{Frame}
+use Rattle.machine.specs.declared.state.Tally.{Tally}
+use Rattle.machine.specs.declared.state.Outcome.{Outcome}
 use Rattle.runner.proofs.Shapes.{first-part, second-part, third-part}
 
 -- ---- tokens

@@ -14,17 +14,17 @@ use Rattle.layout.specs.Decode.{build, tree-at, Right}
 use Rattle.layout.specs.Slots.{CELLS-AT}
 use Rattle.layout.specs.Values.{meant}
 use Rattle.layout.specs.declared.values.Value.{Value}
-use Rattle.runner.specs.Operands.{is-true}
-use Rattle.runner.specs.Outcomes.{Tells, memory, outcome, tally, Room, Kept}
+use Rattle.machine.specs.Operands.{is-true}
+use Rattle.machine.specs.Outcomes.{Tells, memory, outcome, tally, Room, Kept}
 use Rattle.runner.specs.Contract.{Stands, top, Sem, Ran}
-use Rattle.runner.specs.declared.Stop.{Stop}
-use Rattle.runner.specs.declared.state.Frame.{Frame}
-use Rattle.runner.specs.declared.state.Tally.{Tally}
-use Rattle.runner.specs.declared.state.Outcome.{Outcome}
-use Rattle.runner.specs.declared.state.Outcome.the-variants.{Gives, Halts}
-use Rattle.runner.proofs.Telling.{tells-same, tells-by, then-stop, then-value, bool-true, bool-false, unit-any}
-use Rattle.runner.proofs.Slotted.{keep-slots}
-use Rattle.runner.proofs.Keeping.{kept-then, kept-more}
+use Rattle.machine.specs.declared.Stop.{Stop}
+use Rattle.machine.specs.declared.state.Frame.{Frame}
+use Rattle.machine.specs.declared.state.Tally.{Tally}
+use Rattle.machine.specs.declared.state.Outcome.{Outcome}
+use Rattle.machine.specs.declared.state.Outcome.the-variants.{Gives, Halts}
+use Rattle.machine.proofs.Telling.{tells-same, tells-by, then-stop, then-value, bool-true, bool-false, unit-any}
+use Rattle.machine.proofs.Slotted.{keep-slots}
+use Rattle.machine.proofs.Keeping.{kept-then, kept-more}
 use Rattle.runner.proofs.Shapes.{tree-is, known-follow, known-if, known-group, known-block}
 use Rattle.runner.proofs.Standing.{right-after, stands-first, stands-second, stands-third}
 

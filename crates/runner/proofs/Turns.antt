@@ -15,16 +15,16 @@ use Rattle.layout.specs.Decode.{build, tree-at}
 use Rattle.layout.specs.Values.{meant}
 use Rattle.layout.specs.declared.values.Value.{Value}
 use Rattle.layout.specs.declared.values.Value.the-variants.{Nothing}
-use Rattle.runner.specs.Operands.{is-true}
-use Rattle.runner.specs.Outcomes.{Tells, tells, memory, outcome, Room, Kept}
+use Rattle.machine.specs.Operands.{is-true}
+use Rattle.machine.specs.Outcomes.{Tells, tells, memory, outcome, Room, Kept}
 use Rattle.runner.specs.Contract.{Stands, top, Ran}
-use Rattle.runner.specs.declared.Stop.{Stop}
-use Rattle.runner.specs.declared.state.Frame.{Frame}
-use Rattle.runner.specs.declared.state.Tally.{Tally}
-use Rattle.runner.specs.declared.state.Outcome.{Outcome}
-use Rattle.runner.specs.declared.state.Outcome.the-variants.{Gives, Halts}
-use Rattle.runner.proofs.Telling.{tells-by, then-stop, then-value, bool-true, bool-false, unit-any}
-use Rattle.runner.proofs.Keeping.{kept-then, kept-more, kept-self}
+use Rattle.machine.specs.declared.Stop.{Stop}
+use Rattle.machine.specs.declared.state.Frame.{Frame}
+use Rattle.machine.specs.declared.state.Tally.{Tally}
+use Rattle.machine.specs.declared.state.Outcome.{Outcome}
+use Rattle.machine.specs.declared.state.Outcome.the-variants.{Gives, Halts}
+use Rattle.machine.proofs.Telling.{tells-by, then-stop, then-value, bool-true, bool-false, unit-any}
+use Rattle.machine.proofs.Keeping.{kept-then, kept-more, kept-self}
 use Rattle.runner.proofs.Shapes.{tree-is, known-while}
 use Rattle.runner.proofs.Standing.{right-after, stands-first, stands-second}
 use Rattle.runner.proofs.Steps.{stepped, ran-is, kept-of, every}

@@ -9,9 +9,9 @@ use Rattle.language.specs.Meaning.{run}
 use Rattle.layout.specs.Values.{meant}
 use Rattle.layout.specs.declared.values.Value.{Value}
 use Rattle.layout.specs.declared.values.Value.the-variants.{Int, Flag, Nothing, Cell}
-use Rattle.runner.specs.Outcomes.{why}
+use Rattle.machine.specs.Outcomes.{why}
 use Rattle.runner.specs.Contract.{Counts, Tells-of, Sheet, RunsTo}
-use Rattle.runner.specs.declared.Stop.{Stop}
+use Rattle.machine.specs.declared.Stop.{Stop}
 use Rattle.runner.specs.declared.Spent.{Spent}
 use Rattle.runner.specs.declared.Done.{Done}
 

@@ -16,13 +16,13 @@ use Rattle.language.proofs.Meaning.NeverStuck.{never-stuck}
 use Rattle.layout.specs.Table.{zeros}
 use Rattle.layout.specs.Names.{Stand}
 use Rattle.layout.specs.Decode.{tree-at, FunctionsAt, functions-none, functions-more, Holds}
-use Rattle.runner.specs.Slots.{slots, cells-of}
-use Rattle.runner.specs.Outcomes.{Tells, tells, anything, bytes, memory, outcome, tally}
+use Rattle.machine.specs.Slots.{slots, cells-of}
+use Rattle.machine.specs.Outcomes.{Tells, tells, anything, bytes, memory, outcome, tally}
 use Rattle.runner.specs.Contract.{Defines, defines-none, defines-more, binds-none, Stands, Ready, Ran, Sheet, reported, Tells-of, printed-by, RunsTo}
 use Rattle.runner.specs.declared.Done.{Done}
-use Rattle.runner.specs.declared.state.Frame.{Frame}
-use Rattle.runner.specs.declared.state.Tally.{Tally}
-use Rattle.runner.specs.declared.state.Outcome.{Outcome}
+use Rattle.machine.specs.declared.state.Frame.{Frame}
+use Rattle.machine.specs.declared.state.Tally.{Tally}
+use Rattle.machine.specs.declared.state.Outcome.{Outcome}
 use Rattle.runner.proofs.Beginnings.{evals}
 use Rattle.runner.proofs.Ending.{cleared-same, output-is, report-is, printed-is}
 

@@ -18,17 +18,17 @@ use Rattle.layout.specs.Decode.{tree-at, args-at, Right, RightArgs, FunctionAt,
 use Rattle.layout.specs.Slots.{key-at}
 use Rattle.layout.specs.Slots as Slots
 use Rattle.layout.specs.Values.{meant}
-use Rattle.runner.specs.Slots.{values-from}
+use Rattle.machine.specs.Slots.{values-from}
 use Rattle.runner.specs.Rows.{Callable, takes, parameter}
-use Rattle.runner.specs.Outcomes.{Tells, memory, outcome, tally, why, Room, Kept}
+use Rattle.machine.specs.Outcomes.{Tells, memory, outcome, tally, why, Room, Kept}
 use Rattle.runner.specs.declared.Spent.{Spent}
 use Rattle.runner.specs.declared.Done.{Done}
 use Rattle.runner.specs.declared.callees.Callee.{Callee}
 use Rattle.runner.specs.declared.calls.Passed.{Passed}
-use Rattle.runner.specs.declared.state.Frame.{Frame}
-use Rattle.runner.specs.declared.state.Tally.{Tally}
-use Rattle.runner.specs.declared.state.Outcome.{Outcome}
-use Rattle.runner.specs.declared.state.Outcome.the-variants.{Gives, Halts}
+use Rattle.machine.specs.declared.state.Frame.{Frame}
+use Rattle.machine.specs.declared.state.Tally.{Tally}
+use Rattle.machine.specs.declared.state.Outcome.{Outcome}
+use Rattle.machine.specs.declared.state.Outcome.the-variants.{Gives, Halts}
 
 -- ---- what the words stand for
 

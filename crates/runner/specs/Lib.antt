@@ -1,5 +1,2 @@
-pub mod Operands
-pub mod Slots
 pub mod Rows
-pub mod Outcomes
 pub mod Contract

@@ -6,13 +6,13 @@ ghost use Rattle.language.specs.Sizes.{WORK};
 ghost use Rattle.layout.specs.Slots.{put-slot};
 ghost use Rattle.layout.specs.Values.{Survives};
 ghost use Rattle.runner.specs.Rows.{Headed, find-function, callee, takes, parameter, Callable};
-use crate::leaves;
-use crate::state::SLOT;
 use layout::PUTCHAR;
 use layout::functions;
 use layout::rows;
 use layout::slots;
 use layout::values::Value;
+use machine::leaves;
+use machine::state::SLOT;
 
 // `putchar`, or the function at a row.
 pub enum Callee {

@@ -5,17 +5,17 @@ ghost use Rattle.language.specs.Meaning.{eval, step};
 ghost use Rattle.layout.specs.Table.{row-word};
 ghost use Rattle.layout.specs.Rows.{CALL};
 ghost use Rattle.runner.specs.Contract.{Ready, Ran, Queued, Passing};
-use crate::Stop;
 use crate::callees;
 use crate::callees::Callee;
-use crate::leaves;
 use crate::nodes;
-use crate::output;
-use crate::state;
-use crate::state::Frame;
-use crate::state::Outcome;
-use crate::state::Tally;
 use layout::rows;
+use machine::Stop;
+use machine::leaves;
+use machine::output;
+use machine::state;
+use machine::state::Frame;
+use machine::state::Outcome;
+use machine::state::Tally;
 
 // How the arguments of a call end: bound, so many of them, or by a stop in one.
 pub enum Passed {

@@ -1,39 +1,21 @@
 // Runs a reading that has a type. Each node uses a unit when it begins; bindings and cells lie in lent
 // work memory, which is cleared at the end, and bytes go to the lent output.
 
-mod bindings;
 mod callees;
 mod calls;
-mod cells;
-mod leaves;
 mod nodes;
-mod numbers;
-mod operands;
 mod operators;
-mod output;
-mod state;
 
 ghost use mathlib.Core.Path.{_≡_};
 ghost use Rattle.runner.specs.Contract.{Sheet, RunsTo, reported};
-use crate::state::Frame;
-use crate::state::Outcome;
-use crate::state::Tally;
 use language::ACTIVE;
 use language::WORK;
 use layout::memory;
 use layout::values::Value;
-
-// Why a run stops before it has a value: rows 50 to 57, in their order.
-pub enum Stop {
-    NoUnit,
-    TooDeep,
-    OutOfRange,
-    ZeroDivisor,
-    CellFreed,
-    CellsFull,
-    NotAByte,
-    OutputFull,
-}
+use machine::Stop;
+use machine::state::Frame;
+use machine::state::Outcome;
+use machine::state::Tally;
 
 // The units that are left of the allowance, and how many bytes were printed.
 pub struct Spent {

@@ -5,20 +5,20 @@ ghost use Rattle.language.specs.Tokens.{LBRACE, SEMI, LET, IF, WHILE};
 ghost use Rattle.language.specs.Meaning.{eval, step};
 ghost use Rattle.layout.specs.Table.{row-word};
 ghost use Rattle.runner.specs.Contract.{Ready, Ran, Spends};
-use crate::Stop;
-use crate::bindings;
 use crate::calls;
-use crate::leaves;
-use crate::operands;
 use crate::operators;
-use crate::state::Frame;
-use crate::state::Outcome;
-use crate::state::SLOT;
-use crate::state::Tally;
 use language::kinds;
 use layout::rows;
 use layout::slots;
 use layout::values::Value;
+use machine::Stop;
+use machine::bindings;
+use machine::leaves;
+use machine::operands;
+use machine::state::Frame;
+use machine::state::Outcome;
+use machine::state::SLOT;
+use machine::state::Tally;
 
 pub fn eval(
     table: &[u32],

@@ -2,7 +2,7 @@
 use mathlib.Core.Path.{refl, _∙_}
 use lib.Dec.{lit<}
 use Rattle.runner.proofs.AskingCalls.{queued-inside, queued-first, queued-later, queued-room}
-use Rattle.runner.proofs.Keeping.{room-after}
+use Rattle.machine.proofs.Keeping.{room-after}
 use Rattle.runner.proofs.Steps.{ran-at, kept-of}
 use Rattle.runner.proofs.Queues.{passing-at, passing-kept, args-none, args-stop, args-later-stop, args-dropped, args-bound}
 use Prim.Native.Nat.{ℕ}

@@ -3,7 +3,7 @@ use mathlib.Core.Path.{sym, subst, _∙_}
 use lib.Dec.{lit<}
 use Rattle.runner.proofs.Asking.{ready-long, ready-inside, ready-top}
 use Rattle.runner.proofs.AskingCalls.{ready-called, ready-row, ready-headed, ready-above, ready-callable, queued, ready-body}
-use Rattle.runner.proofs.Keeping.{room-after, printed-after}
+use Rattle.machine.proofs.Keeping.{room-after, printed-after}
 use Rattle.runner.proofs.Steps.{ran-at}
 use Rattle.runner.proofs.Queues.{passing-at, passing-kept}
 use Rattle.runner.proofs.Calling.{call-stops, call-wrong, call-prints, call-goes}

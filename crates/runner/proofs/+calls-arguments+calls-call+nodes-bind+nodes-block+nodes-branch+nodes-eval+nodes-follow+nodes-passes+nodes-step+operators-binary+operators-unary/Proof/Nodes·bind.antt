@@ -3,7 +3,7 @@ use mathlib.Core.Path.{_∙_}
 use lib.Dec.{lit<}
 use Rattle.runner.proofs.Asking.{ready-long, ready-inside, ready-self, ready-first, ready-bound, ready-room, ready-let}
 use Rattle.runner.proofs.Shapes.{known-let}
-use Rattle.runner.proofs.Keeping.{room-after}
+use Rattle.machine.proofs.Keeping.{room-after}
 use Rattle.runner.proofs.Steps.{ran-at, kept-of, stops}
 use Rattle.runner.proofs.Lets.{let-begins, let-goes}
 use Prim.Native.Nat.{ℕ}

@@ -3,11 +3,11 @@ use mathlib.Core.Path.{sym, subst, _∙_}
 use lib.Dec.{lit<}
 use Rattle.runner.proofs.Asking.{ready-long, ready-inside, ready-first, ready-second}
 use Rattle.runner.proofs.Shapes.{known-while}
-use Rattle.runner.proofs.Keeping.{kept-then}
+use Rattle.machine.proofs.Keeping.{kept-then}
 use Rattle.runner.proofs.Steps.{ran-at, kept-of}
 use Rattle.runner.proofs.Turns.{Turning, turning, while-stops, while-ends, pass-stops, while-again}
 use Rattle.runner.specs.Contract.{Spends}
-use Rattle.runner.specs.declared.state.Outcome.{Outcome}
+use Rattle.machine.specs.declared.state.Outcome.{Outcome}
 use Prim.Native.Nat.{ℕ}
 use borrow.Author.Needs.{needs}
 use native.Mathlib.Omega.{arith}

@@ -2,7 +2,7 @@
 use mathlib.Core.Path.{sym, _∙_}
 use lib.Dec.{lit<}
 use Rattle.runner.proofs.Asking.{ready-long, ready-inside, ready-self, ready-top, ready-first, ready-second}
-use Rattle.runner.proofs.Keeping.{room-after}
+use Rattle.machine.proofs.Keeping.{room-after}
 use Rattle.runner.proofs.Steps.{ran-at, kept-of, stops}
 use Rattle.runner.proofs.Operations.{binary-begins, binary-settled, binary-stops, binary-goes}
 use Prim.Native.Nat.{ℕ}

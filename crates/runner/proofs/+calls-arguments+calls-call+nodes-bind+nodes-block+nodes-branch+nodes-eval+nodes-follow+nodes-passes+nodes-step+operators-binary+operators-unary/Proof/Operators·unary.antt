@@ -2,7 +2,7 @@
 use mathlib.Core.Path.{_∙_}
 use lib.Dec.{lit<}
 use Rattle.runner.proofs.Asking.{ready-long, ready-inside, ready-self, ready-top, ready-first}
-use Rattle.runner.proofs.Keeping.{room-after}
+use Rattle.machine.proofs.Keeping.{room-after}
 use Rattle.runner.proofs.Steps.{ran-at, kept-of, stops}
 use Rattle.runner.proofs.Operations.{unary-begins, unary-goes}
 use Prim.Native.Nat.{ℕ}

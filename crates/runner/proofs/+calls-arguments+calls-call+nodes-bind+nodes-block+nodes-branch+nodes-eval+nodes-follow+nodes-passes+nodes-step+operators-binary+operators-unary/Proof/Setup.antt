@@ -40,18 +40,18 @@ use Rattle.runner.proofs.+calls-arguments+calls-call+nodes-bind+nodes-b
 use Rattle.layout.proofs.rows.link.Reads as link-reads
 use Rattle.layout.proofs.rows.word.Reads as word-reads
 use Rattle.layout.proofs.slots.put.Reads as put-reads
-use Rattle.runner.proofs.bindings.look.Reads as look-reads
+use Rattle.machine.proofs.bindings.look.Reads as look-reads
 use Rattle.runner.proofs.callees.bind.Reads as bind-reads
 use Rattle.runner.proofs.callees.find.Reads as find-reads
 use Rattle.runner.proofs.callees.takes.Reads as takes-reads
-use Rattle.runner.proofs.leaves.carried.Reads as carried-reads
-use Rattle.runner.proofs.leaves.literal.Reads as literal-reads
-use Rattle.runner.proofs.operands.is_true.Reads as is-true-reads
-use Rattle.runner.proofs.operators.apply_binary.Reads as apply-binary-reads
-use Rattle.runner.proofs.operators.apply_unary.Reads as apply-unary-reads
-use Rattle.runner.proofs.operators.settles.Reads as settles-reads
-use Rattle.runner.proofs.output.put_bound.Reads as put-bound-reads
-use Rattle.runner.proofs.state.stuck.Reads as stuck-reads
+use Rattle.machine.proofs.leaves.carried.Reads as carried-reads
+use Rattle.machine.proofs.leaves.literal.Reads as literal-reads
+use Rattle.machine.proofs.operands.is_true.Reads as is-true-reads
+use Rattle.machine.proofs.operations.apply_binary.Reads as apply-binary-reads
+use Rattle.machine.proofs.operations.apply_unary.Reads as apply-unary-reads
+use Rattle.machine.proofs.operations.settles.Reads as settles-reads
+use Rattle.machine.proofs.output.put_bound.Reads as put-bound-reads
+use Rattle.machine.proofs.state.stuck.Reads as stuck-reads
 
 -- One more node that may be active is worth more than all rows of a call's arguments; a node that has begun is worth more
 -- than these, too, and `step`, which hands it on, most.

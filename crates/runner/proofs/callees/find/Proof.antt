@@ -3,7 +3,7 @@ use mathlib.Core.Path.{_≡_, refl, sym, subst, _∙_}
 use Prim.Native.Nat.{ℕ, _≤_, _<_, _-_, _+_}
 use native.Mathlib.Nat.{le-refl}
 use Rattle.runner.specs.Rows.{find-function}
-use Rattle.runner.proofs.Literals.{function-here, function-past, function-none}
+use Rattle.runner.proofs.Heads.{function-here, function-past, function-none}
 use Rattle.language.specs.Sizes.{TOKENS}
 use Rattle.layout.specs.Table.{row-word}
 use native.Mathlib.Omega.{arith}

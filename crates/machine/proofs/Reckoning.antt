@@ -1,0 +1,226 @@
+-- Operators of two operands.
+use mathlib.Core.Path.{_≡_, refl, sym, ap, subst, _∙_}
+use mathlib.Core.Bool.{Bool, true, false}
+use mathlib.Core.List.{List}
+use mathlib.Core.Option.{none, some}
+use Prim.Native.Nat.{ℕ, suc, _-_, _≤_}
+use native.Mathlib.Omega.{arith}
+use lib.Dec.{eqb}
+use lib.IntN.{ℤ, pos, negsuc, _+ℤ_, _-ℤ_, _*ℤ_}
+use lib.Signed.{ltZ, quotZ}
+use borrow.Author.Tests.{eq-eqb, ne-eqb, eqb-true, eqb-false}
+use mir.Syntax.{w32}
+use mir.Val.{ofZ, SFits}
+use Rattle.language.specs.Tokens.{PLUS, MINUS, STAR, SLASH, AND, OR, LESS, BECOMES}
+use Rattle.language.specs.Trees.{Binary, assign}
+use Rattle.language.specs.State as M
+use Rattle.language.specs.State.{number, flag, nothing, cell, value, choose, want-int, want-bool}
+use Rattle.language.specs.Meaning.{apply-binary, is-zero, same-int}
+use Rattle.language.proofs.Meaning.CellTypes.{cond-all, none-some, some-one}
+use Rattle.layout.specs.Values.{meant}
+use Rattle.layout.specs.declared.values.Value.{Value}
+use Rattle.layout.specs.declared.values.Value.the-variants.{Flag}
+use Rattle.machine.specs.Operands.{as-int, as-cell}
+use Rattle.machine.specs.Rows.{binary-of, OnNumbers}
+use Rattle.machine.specs.Outcomes.{Tells, tells, anything, memory, outcome, tally, Room, Reckoned, Fitted, Applied}
+use Rattle.machine.specs.declared.Stop.{Stop}
+use Rattle.machine.specs.declared.state.Tally.{Tally}
+use Rattle.machine.specs.declared.state.Outcome.{Outcome}
+use Rattle.machine.specs.declared.state.Outcome.the-variants.{Gives, Halts}
+use Rattle.machine.proofs.Telling.{tells-same, int-some, int-none, cell-none}
+use Rattle.machine.proofs.CellLaws.{applied-still}
+
+-- ---- two numbers
+
+module _ (op i : ℕ) (x y : ℤ) (s : Tally) (r : Outcome) where
+  abbrev Reckons : Type 0
+  Reckons = Reckoned (apply-binary i (binary-of op) (number x) (number y)) s r
+
+  -- +
+  pub reckons-add : op ≡ PLUS → Fitted (x +ℤ y) i s r → Reckons
+  unfolding apply-binary want-int binary-of
+  reckons-add e h = (h .0, λ w o. h .1 w o ∙ rw e refl)
+
+  -- -
+  pub reckons-sub : op ≡ MINUS → Fitted (x -ℤ y) i s r → Reckons
+  unfolding apply-binary want-int binary-of
+  reckons-sub e h = (h .0, λ w o. h .1 w o ∙ rw e refl)
+
+  -- *
+  pub reckons-mul : op ≡ STAR → Fitted (x *ℤ y) i s r → Reckons
+  unfolding apply-binary want-int binary-of
+  reckons-mul e h = (h .0, λ w o. h .1 w o ∙ rw e refl)
+
+  -- / by 0
+  pub reckons-zero : op ≡ SLASH → y ≡ pos 0 → r ≡ Halts Stop.ZeroDivisor i s → Reckons
+  unfolding apply-binary want-int choose is-zero binary-of
+  reckons-zero e z h = (ap tally h, λ w o. ap (outcome w o) h ∙ rw (e, z) refl)
+
+  not-zero : (z : ℤ) → (z ≡ pos 0 → ⊥) → is-zero z ≡ false
+  unfolding is-zero
+  not-zero (pos n) h = ne-eqb n 0 (λ q. h (ap pos q))
+  not-zero (negsuc n) h = refl
+
+  -- /
+  pub reckons-div : op ≡ SLASH → (y ≡ pos 0 → ⊥) → Fitted (quotZ x y) i s r → Reckons
+  unfolding apply-binary want-int choose binary-of
+  reckons-div e z h = (h .0, λ w o. h .1 w o ∙ rw (e, not-zero y z) refl)
+
+  -- <
+  pub reckons-less : op ≡ LESS → r ≡ Gives (Flag (ltZ x y)) s → Reckons
+  unfolding apply-binary want-int binary-of
+  reckons-less e h = (ap tally h, λ w o. ap (outcome w o) h ∙ rw e refl)
+
+  -- none of these: ==
+  pub reckons-equal : OnNumbers op → (op ≡ PLUS → ⊥) → (op ≡ MINUS → ⊥) → (op ≡ STAR → ⊥) → (op ≡ SLASH → ⊥) → (op ≡ LESS → ⊥)
+      → r ≡ Gives (Flag (same-int x y)) s → Reckons
+  unfolding apply-binary want-int binary-of
+  reckons-equal n a b c d e h = (
+    ap tally h,
+    λ w o.
+        ap (outcome w o) h
+        ∙ rw (
+          ne-eqb op BECOMES (n .0),
+          ne-eqb op AND (n .1),
+          ne-eqb op OR (n .2),
+          ne-eqb op PLUS a,
+          ne-eqb op MINUS b,
+          ne-eqb op STAR c,
+          ne-eqb op SLASH d,
+          ne-eqb op LESS e,
+        ) refl,
+  )
+
+-- ---- numbers by their bits
+
+minus-eq : (m n : ℕ) → m ≤ 4294967295 → n ≤ 4294967295 → eqb (4294967296 - suc m) (4294967296 - suc n) ≡ eqb m n
+minus-eq m n a b = by (eqb m n) refl
+  where
+    by : (t : Bool) → eqb m n ≡ t → eqb (4294967296 - suc m) (4294967296 - suc n) ≡ t
+    by true e =
+        let q = eqb-true m n e in
+        eq-eqb (4294967296 - suc m) (4294967296 - suc n) (ap (λ (k : ℕ). 4294967296 - suc k) q)
+    by false e = ne-eqb (4294967296 - suc m) (4294967296 - suc n) (λ q. eqb-false m n e (omega arith))
+
+-- numbers are equal where their bits are
+pub bits-equal : (x y : ℤ) → SFits w32 x → SFits w32 y → eqb (ofZ w32 x) (ofZ w32 y) ≡ same-int x y
+unfolding same-int
+bits-equal (pos m) (pos n) f g = refl
+bits-equal (pos m) (negsuc n) f g = ne-eqb m (4294967296 - suc n) (λ q. omega (arith, f .sfits, g .sfits))
+bits-equal (negsuc m) (pos n) f g = ne-eqb (4294967296 - suc m) n (λ q. omega (arith, f .sfits, g .sfits))
+bits-equal (negsuc m) (negsuc n) f g = minus-eq m n (omega (arith, f .sfits)) (omega (arith, g .sfits))
+
+-- a number without bits is 0
+pub bits-zero : (x : ℤ) → SFits w32 x → ofZ w32 x ≡ 0 → x ≡ pos 0
+bits-zero (pos n) f e = ap pos e
+bits-zero (negsuc n) f e = absurd (omega (arith, e, f .sfits))
+
+-- ---- two operands
+
+int-is : (v : M.Value) {x : ℤ} → some x ≡ as-int v → number x ≡ v
+int-is (number z) e = ap number (some-one e)
+int-is (flag b) e = absurd (none-some (sym e))
+int-is nothing e = absurd (none-some (sym e))
+int-is (cell n) e = absurd (none-some (sym e))
+
+cell-is : (v : M.Value) {x : ℕ} → some x ≡ as-cell v → cell x ≡ v
+cell-is (cell n) e = ap cell (some-one e)
+cell-is (number z) e = absurd (none-some (sym e))
+cell-is (flag b) e = absurd (none-some (sym e))
+cell-is nothing e = absurd (none-some (sym e))
+
+-- what holds of every operator on numbers
+on-numbers : (P : Binary → Type 0) (op : ℕ) → OnNumbers op → P Binary.add → P Binary.sub → P Binary.mul → P Binary.div → P Binary.less
+    → P Binary.equal → P (binary-of op)
+unfolding binary-of
+on-numbers P op n p m t d l e =
+    rw (ne-eqb op BECOMES (n .0), ne-eqb op AND (n .1), ne-eqb op OR (n .2))
+    (cond-all P (eqb op PLUS) (λ _. p) λ _.
+    cond-all P (eqb op MINUS) (λ _. m) λ _.
+    cond-all P (eqb op STAR) (λ _. t) λ _.
+    cond-all P (eqb op SLASH) (λ _. d) λ _.
+    cond-all P (eqb op LESS) (λ _. l) λ _. e)
+
+module _ (op i : ℕ) (a b : M.Value) {w : List ℕ} {s : Tally} (room : Room w s) where
+  abbrev doing : M.State → M.Outcome
+  doing σ = apply-binary i (binary-of op) a b σ
+
+  -- two numbers
+  pub applies-numbers : {x y : ℤ} (r : Outcome) → some x ≡ as-int a → some y ≡ as-int b
+      → Reckoned (apply-binary i (binary-of op) (number x) (number y)) s r → Applied 0 doing w w s r
+  applies-numbers {x} {y} r d e h =
+      applied-still 0 doing r room (h .0)
+      (λ o.
+      tells-same (h .1 w o
+      ∙ ap (λ (z : M.Value). apply-binary i (binary-of op) z (number y) (memory w o s)) (int-is a d)
+      ∙ ap (λ (z : M.Value). apply-binary i (binary-of op) a z (memory w o s)) (int-is b e)))
+
+  left-none : OnNumbers op → none ≡ as-int a → (q : M.Outcome) (σ : M.State) → Tells q (doing σ)
+  unfolding apply-binary
+  left-none n e q σ =
+      on-numbers (λ x. Tells q (apply-binary i x a b σ)) op n (int-none a _ e) (int-none a _ e) (int-none a _ e) (int-none a _ e)
+      (int-none a _ e) (int-none a _ e)
+
+  -- no number on the left
+  pub stuck-left : OnNumbers op → (r : Outcome) → tally r ≡ s → none ≡ as-int a → Applied 0 doing w w s r
+  stuck-left n r h e = applied-still 0 doing r room h (λ o. left-none n e _ _)
+
+  right-none : OnNumbers op → {x : ℤ} → some x ≡ as-int a → none ≡ as-int b → (q : M.Outcome) (σ : M.State) → Tells q (doing σ)
+  unfolding apply-binary
+  right-none n d e q σ =
+      on-numbers (λ x. Tells q (apply-binary i x a b σ)) op n (int-some a _ d (int-none b _ e)) (int-some a _ d (int-none b _ e))
+      (int-some a _ d (int-none b _ e)) (int-some a _ d (int-none b _ e)) (int-some a _ d (int-none b _ e)) (int-some a _ d (int-none b _ e))
+
+  -- none on the right
+  pub stuck-right : OnNumbers op → (r : Outcome) → tally r ≡ s → {x : ℤ} → some x ≡ as-int a → none ≡ as-int b → Applied 0 doing w w s r
+  stuck-right n r h d e = applied-still 0 doing r room h (λ o. right-none n d e _ _)
+
+  is-assign : op ≡ BECOMES → binary-of op ≡ assign
+  unfolding binary-of
+  is-assign e = rw e refl
+
+  -- := on a cell
+  pub applies-assign : op ≡ BECOMES → {n : ℕ} → some n ≡ as-cell a → {w1 : List ℕ} {r : Outcome}
+      → Applied 0 (apply-binary i assign (cell n) b) w w1 s r → Applied 0 doing w w1 s r
+  applies-assign l {n} e {w1} {r} h =
+      subst (λ (u : Binary). Applied 0 (apply-binary i u a b) w w1 s r) (sym (is-assign l))
+      (subst (λ (z : M.Value). Applied 0 (apply-binary i assign z b) w w1 s r) (cell-is a e) h)
+
+  assign-none : none ≡ as-cell a → (q : M.Outcome) (σ : M.State) → Tells q (apply-binary i assign a b σ)
+  unfolding apply-binary
+  assign-none e q σ = cell-none a _ e
+
+  -- := on something else
+  pub stuck-assign : op ≡ BECOMES → (r : Outcome) → tally r ≡ s → none ≡ as-cell a → Applied 0 doing w w s r
+  stuck-assign l r h e =
+      subst (λ (u : Binary). Applied 0 (apply-binary i u a b) w w s r) (sym (is-assign l))
+      (applied-still 0 (apply-binary i assign a b) r room h (λ o. assign-none e _ _))
+
+-- ---- && and ||
+
+logic : (a b : M.Value) (σ : M.State) → Tells (value b σ) (want-bool a λ x. want-bool b λ y. value (flag y) σ)
+unfolding want-bool
+logic (number z) b σ = anything
+logic nothing b σ = anything
+logic (cell n) b σ = anything
+logic (flag x) (number z) σ = anything
+logic (flag x) (flag y) σ = tells
+logic (flag x) nothing σ = anything
+logic (flag x) (cell n) σ = anything
+
+module _ (op i : ℕ) (a : M.Value) (v : Value) {w : List ℕ} {s : Tally} (room : Room w s) where
+  and-right : op ≡ AND → (σ : M.State) → Tells (value (meant v) σ) (apply-binary i (binary-of op) a (meant v) σ)
+  unfolding apply-binary binary-of
+  and-right e σ = rw e (logic a (meant v) σ)
+
+  or-right : op ≡ OR → (σ : M.State) → Tells (value (meant v) σ) (apply-binary i (binary-of op) a (meant v) σ)
+  unfolding apply-binary binary-of
+  or-right e σ = rw e (logic a (meant v) σ)
+
+  -- && that its left side did not settle
+  pub applies-and : op ≡ AND → Applied 0 (apply-binary i (binary-of op) a (meant v)) w w s (Gives v s)
+  applies-and e = applied-still 0 (apply-binary i (binary-of op) a (meant v)) (Gives v s) room refl (λ o. and-right e (memory w o s))
+
+  -- || that its left side did not settle
+  pub applies-or : op ≡ OR → Applied 0 (apply-binary i (binary-of op) a (meant v)) w w s (Gives v s)
+  applies-or e = applied-still 0 (apply-binary i (binary-of op) a (meant v)) (Gives v s) room refl (λ o. or-right e (memory w o s))

@@ -1,0 +1,4 @@
+pub mod Operands
+pub mod Slots
+pub mod Rows
+pub mod Outcomes

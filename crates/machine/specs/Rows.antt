@@ -1,0 +1,48 @@
+-- What a row of the table says of its operator, its literal, and the token that it carries.
+use mathlib.Core.Bool.{true, false, cond}
+use mathlib.Core.List.{List}
+use mathlib.Core.Path.{_≡_}
+use Prim.Native.Nat.{ℕ, _+_, _≤_, _<_}
+use lib.Dec.{eqb}
+use lib.ListN.{length}
+use Rattle.language.specs.Sizes.{TOKENS, NODES, TABLE, LARGEST}
+use Rattle.language.specs.Tokens.{NUMBER, TRUE, FALSE, PLUS, MINUS, STAR, SLASH, AND, OR, LESS, BECOMES, NOT, BANG}
+use Rattle.language.specs.Trees.{Literal, whole, truth, trivial, Unary, minus, not, fetch, new, Binary, add, sub, mul, div, less, equal, and, or, assign}
+use Rattle.layout.specs.Table.{token-word, row-word}
+use Rattle.layout.specs.Rows.{PREFIX}
+
+-- what the token so many behind a row's own carries
+abbrev pub carried : List ℕ → ℕ → ℕ → ℕ
+carried w row behind = token-word w (row-word w row 1 + behind) 3
+
+-- a row whose own token carries something
+pub record Named (w : List ℕ) (row : ℕ) : Type 0 where
+  pub long : TABLE ≤ length w
+  pub inside : row < NODES
+  pub token : row-word w row 1 + 0 < TOKENS
+
+-- ---- operators, by the kind of their row
+
+unfoldable pub unary-of : ℕ → Unary
+unary-of k = cond (eqb k (PREFIX + MINUS)) minus (cond (eqb k (PREFIX + NOT)) not (cond (eqb k (PREFIX + BANG)) fetch new))
+
+unfoldable pub binary-of : ℕ → Binary
+binary-of k =
+    cond (eqb k BECOMES) assign (cond (eqb k AND) and (cond (eqb k OR) or (cond (eqb k PLUS) add (cond (eqb k MINUS) sub
+    (cond (eqb k STAR) mul (cond (eqb k SLASH) div (cond (eqb k LESS) less equal)))))))
+
+abbrev pub OnNumbers : ℕ → Type 0
+OnNumbers k = (k ≡ BECOMES → ⊥) × (k ≡ AND → ⊥) × (k ≡ OR → ⊥)
+
+-- ---- literals
+
+unfoldable pub literal-of : List ℕ → ℕ → Literal
+literal-of w row =
+    cond (eqb (row-word w row 0) NUMBER) (whole (carried w row 0))
+    (cond (eqb (row-word w row 0) TRUE) (truth true) (cond (eqb (row-word w row 0) FALSE) (truth false) trivial))
+
+pub record LiteralRow (w : List ℕ) (row : ℕ) : Type 0 where
+  pub long : TABLE ≤ length w
+  pub inside : row < NODES
+  pub token : row-word w row 0 ≡ NUMBER → row-word w row 1 + 0 < TOKENS
+  pub small : row-word w row 0 ≡ NUMBER → carried w row 0 ≤ LARGEST

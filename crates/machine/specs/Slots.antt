@@ -1,0 +1,58 @@
+-- Slots of work memory as lists: bindings have a name's number for their key, cells a birth number; the newest first.
+use mathlib.Core.Bool.{Bool, true, false, cond}
+use mathlib.Core.List.{List, [], _∷_}
+use mathlib.Core.Option.{Option, none, some}
+use mathlib.Core.Path.{_≡_}
+use Prim.Native.Nat.{ℕ, zero, suc, _+_, _*_, _≤_, _<_}
+use lib.Dec.{eqb}
+use lib.ListN.{getD}
+use Rattle.language.specs.State as State
+use Rattle.language.specs.State.{Cells, no-cell, live, held, store}
+use Rattle.layout.specs.Slots.{key-at, value-at}
+use Rattle.layout.specs.Values.{meant}
+use Rattle.layout.specs.declared.values.Value.{Value}
+use Rattle.machine.specs.declared.bindings.Found.{Found}
+
+pub record Slot : Type 0 where
+  pub key : ℕ
+  pub holds : State.Value
+
+abbrev pub slot-at : List ℕ → ℕ → ℕ → Slot
+slot-at w at i = record { key = key-at w at i; holds = value-at w at i }
+
+-- the n slots from word `at` on, the last first
+unfoldable pub slots : List ℕ → ℕ → ℕ → List Slot
+slots w at zero = []
+slots w at (suc n) = slot-at w at n ∷ slots w at n
+
+-- what n slots hold, in their order, the first of them slot k
+unfoldable pub values-from : List ℕ → ℕ → ℕ → ℕ → List State.Value
+values-from w at k zero = []
+values-from w at k (suc n) = value-at w at k ∷ values-from w at (k + 1) n
+
+unfoldable pub find : ℕ → List Slot → Option State.Value
+find k [] = none
+find k (s ∷ ss) = cond (eqb k (s .key)) (some (s .holds)) (find k ss)
+
+abbrev pub found : Found → Option State.Value
+found (Found.Is v) = some (meant v)
+found Found.No = none
+
+unfoldable pub cells-of : List Slot → Cells
+cells-of [] = no-cell
+cells-of (s ∷ ss) = live (s .key) (s .holds) (cells-of ss)
+
+abbrev pub hit : {A : Type 0} → Option A → Bool
+hit none = false
+hit (some a) = true
+
+-- the words from lo up to hi are the same
+abbrev pub Same : List ℕ → List ℕ → ℕ → ℕ → Type 0
+Same v w lo hi = (k : ℕ) → lo ≤ k → k < hi → getD v k 0 ≡ getD w k 0
+
+-- v is written into the newest slot of that key, if there is one
+pub record Stored (w w′ : List ℕ) (at n key : ℕ) (v : Value) (r : Bool) : Type 0 where
+  pub other : (i : ℕ) → (at ≤ i → i < at + 4 * n → ⊥) → getD w′ i 0 ≡ getD w i 0
+  pub keys : (i : ℕ) → i < n → key-at w′ at i ≡ key-at w at i
+  pub hit : r ≡ hit (held key (cells-of (slots w at n)))
+  pub now : cells-of (slots w′ at n) ≡ store key (meant v) (cells-of (slots w at n))

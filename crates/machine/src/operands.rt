@@ -1,0 +1,64 @@
+// An operand as the kind of value that an operator asks for, or as none of that kind.
+ghost use mathlib.Core.Path.{_≡_};
+ghost use Rattle.layout.specs.Values.{meant};
+ghost use Rattle.machine.specs.Operands.{is-true, as-int, as-flag, as-cell, number-in, truth-in, cell-in};
+use layout::values::Value;
+
+pub enum Number {
+    Is(i32),
+    Other,
+}
+
+pub enum Truth {
+    Is(bool),
+    Other,
+}
+
+pub enum Cell {
+    Is(u32),
+    Other,
+}
+
+pub fn int_of(v: Value) -> Number
+    ensures { λ r. ⌜ number-in r ≡ as-int (meant v) ⌝ }
+{
+    match v {
+        Value::Int(z) => Number::Is(z),
+        Value::Flag(_) => Number::Other,
+        Value::Nothing => Number::Other,
+        Value::Cell(_) => Number::Other,
+    }
+}
+
+pub fn flag_of(v: Value) -> Truth
+    ensures { λ r. ⌜ truth-in r ≡ as-flag (meant v) ⌝ }
+{
+    match v {
+        Value::Int(_) => Truth::Other,
+        Value::Flag(b) => Truth::Is(b),
+        Value::Nothing => Truth::Other,
+        Value::Cell(_) => Truth::Other,
+    }
+}
+
+pub fn cell_of(v: Value) -> Cell
+    ensures { λ r. ⌜ cell-in r ≡ as-cell (meant v) ⌝ }
+{
+    match v {
+        Value::Int(_) => Cell::Other,
+        Value::Flag(_) => Cell::Other,
+        Value::Nothing => Cell::Other,
+        Value::Cell(n) => Cell::Is(n),
+    }
+}
+
+pub fn is_true(v: Value) -> bool
+    ensures { λ r. ⌜ r ≡ is-true (meant v) ⌝ }
+{
+    match v {
+        Value::Int(_) => false,
+        Value::Flag(b) => b,
+        Value::Nothing => false,
+        Value::Cell(_) => false,
+    }
+}
