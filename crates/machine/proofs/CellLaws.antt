@@ -7,27 +7,28 @@ use Prim.Native.Nat.{ℕ, suc, _+_, _*_, _<_, _≤_}
 use native.Mathlib.Omega.{arith}
 use native.Mathlib.Numerals.{add-one}
 use lib.ListN.{length, getD}
-use lib.Dec.{T, eqb}
-use borrow.Author.Tests.{lt-ltb, le-ltb}
+use lib.Dec.{T, eqb, ltb}
+use borrow.Author.Tests.{lt-ltb, le-ltb, ltb-true, ltb-false}
 use Rattle.language.specs.Sizes.{CELLS}
 use Rattle.language.specs.Trees.{new, fetch, assign}
 use Rattle.language.specs.State as M
 use Rattle.language.specs.State.{nothing, cell, Cells, no-cell, live, held, store, value, stop, cell-freed, cells-full, choose, when-some, want-cell, with-cells}
 use Rattle.language.specs.Meaning.{create, apply-unary, apply-binary}
-use Rattle.layout.specs.Slots.{BINDINGS, CELLS-AT, key-at, put-slot}
+use Rattle.layout.specs.Slots.{BINDINGS, CELLS-AT, key-at, value-at, put-slot}
 use Rattle.layout.specs.Values.{meant, Survives}
 use Rattle.layout.specs.declared.values.Value.{Value}
 use Rattle.layout.specs.declared.values.Value.the-variants.{Nothing, Cell}
-use Rattle.machine.specs.Slots.{slots, find, found, cells-of, hit, Stored}
+use Rattle.machine.specs.Slots.{slots, cells-of, Rising, Sought}
 use Rattle.machine.specs.Outcomes.{Tells, memory, outcome, tally, Room, Kept, Means, Ended, Applied}
 use Rattle.machine.specs.declared.Stop.{Stop}
-use Rattle.machine.specs.declared.bindings.Found.{Found}
 use Rattle.machine.specs.declared.state.Tally.{Tally}
 use Rattle.machine.specs.declared.state.Outcome.{Outcome}
 use Rattle.machine.specs.declared.state.Outcome.the-variants.{Gives, Halts}
 use Rattle.machine.proofs.Telling.{tells-same, tells-by}
 use Rattle.machine.proofs.Slotted.{put-other, put-length, put-key, slots-put, held-slots, count-slots}
-use Rattle.machine.proofs.Keeping.{kept-self, kept-as}
+use Rattle.machine.proofs.Keeping.{kept-self, kept-as, rising-same}
+use Rattle.machine.proofs.Seeking.{passed-above, sought-some, sought-none}
+use Rattle.machine.proofs.Storing.{hit, Stored, store-hit, store-none}
 
 -- the words are as they were
 pub ended-still : (more : ℕ) (m : Means) {w o : List ℕ} {s : Tally} (r : Outcome) → Room w s → s .printed ≤ length o → tally r ≡ s
@@ -41,19 +42,22 @@ applied-still more m r room e h = (refl, λ o p. ended-still more m r room p e (
 
 -- ---- a cell read
 
-module _ (place n : ℕ) (w o : List ℕ) (s : Tally) (f : Found) (e : found f ≡ find n (slots w CELLS-AT (s .cells))) where
-  held-is : held n (cells-of (slots w CELLS-AT (s .cells))) ≡ found f
-  held-is = held-slots n (slots w CELLS-AT (s .cells)) ∙ sym e
-
+module _ (place n : ℕ) (w o : List ℕ) (s : Tally) {i : ℕ} (room : Room w s) (h : Sought w (s .cells) n i) where
   -- it is live
-  pub fetched : {v : Value} → f ≡ Found.Is v → outcome w o (Gives v s) ≡ apply-unary place fetch (cell n) (memory w o s)
+  pub fetched : i < s .cells → (v : Value) → meant v ≡ value-at w CELLS-AT i
+      → outcome w o (Gives v s) ≡ apply-unary place fetch (cell n) (memory w o s)
   unfolding apply-unary want-cell when-some
-  fetched {v} d = let q : held n (cells-of (slots w CELLS-AT (s .cells))) ≡ some (meant v) = held-is ∙ ap found d in rw q refl
+  fetched l v e =
+      let q : held n (cells-of (slots w CELLS-AT (s .cells))) ≡ some (meant v) =
+      held-slots n (slots w CELLS-AT (s .cells)) ∙ sought-some (room .rising) h l ∙ ap some (sym e) in
+      rw q refl
 
   -- it is freed
-  pub unfetched : f ≡ Found.No → outcome w o (Halts Stop.CellFreed place s) ≡ apply-unary place fetch (cell n) (memory w o s)
+  pub unfetched : s .cells ≤ i → outcome w o (Halts Stop.CellFreed place s) ≡ apply-unary place fetch (cell n) (memory w o s)
   unfolding apply-unary want-cell when-some
-  unfetched d = let q : held n (cells-of (slots w CELLS-AT (s .cells))) ≡ none = held-is ∙ ap found d in rw q refl
+  unfetched l =
+      let q : held n (cells-of (slots w CELLS-AT (s .cells))) ≡ none = held-slots n (slots w CELLS-AT (s .cells)) ∙ sought-none (room .rising) h l in
+      rw q refl
 
 -- ---- a cell born
 
@@ -84,6 +88,18 @@ module _ (place : ℕ) {w : List ℕ} {s : Tally} (v : Value) (room : Room w s) 
         let e : s .cells ≡ i = omega arith in
         subst (λ (j : ℕ). (s .births < key-at w1 CELLS-AT j) × (key-at w1 CELLS-AT j ≤ s .births + 1)) e
         (omega (arith, newest), omega (arith, newest))
+
+    rising : Rising w (s .cells) → Rising w1 (s .cells + 1)
+    rising r i j l u = by (ltb j (s .cells)) refl
+      where
+        same : (k : ℕ) → k < s .cells → key-at w1 CELLS-AT k ≡ key-at w CELLS-AT k
+        same k a = other (CELLS-AT + 4 * k) (λ b c. omega arith)
+
+        by : (x : Bool) → ltb j (s .cells) ≡ x → key-at w1 CELLS-AT i < key-at w1 CELLS-AT j
+        by true e = let a = ltb-true j (s .cells) e in omega (arith, same i (omega arith), same j a, r i j l a)
+        by false e =
+            let a = ltb-false j (s .cells) e in
+            omega (arith, same i (omega arith), room .low i (omega arith), newer j a u .0)
 
     cells-are : cells-of (slots w1 CELLS-AT (s .cells + 1)) ≡ live (suc (s .births)) (meant v) (cells-of (slots w CELLS-AT (s .cells)))
     unfolding cells-of
@@ -118,6 +134,7 @@ module _ (place : ℕ) {w : List ℕ} {s : Tally} (v : Value) (room : Room w s) 
               older = omega arith;
               keys = λ i u. other (CELLS-AT + 4 * i) (λ a b. omega arith);
               newer = newer;
+              rising = rising;
               onward = omega arith;
               printed = p;
             };
@@ -164,6 +181,7 @@ module _ (place n : ℕ) {w w1 : List ℕ} {s : Tally} (v : Value) (room : Room 
         older = omega arith;
         keys = st .keys;
         newer = λ k a b. absurd (omega arith);
+        rising = rising-same w w1 (s .cells) (st .keys);
         onward = omega arith;
         printed = p;
       }
@@ -178,7 +196,7 @@ module _ (place n : ℕ) {w w1 : List ℕ} {s : Tally} (v : Value) (room : Room 
       (tells-same (ap (λ (cs : Cells). value nothing (with-cells cs (memory w o s))) (st .now)))
 
   -- it is live
-  pub assigned : r ≡ true → Applied 0 (apply-binary place assign (cell n) (meant v)) w w1 s (Gives Nothing s)
+  assigned : r ≡ true → Applied 0 (apply-binary place assign (cell n) (meant v)) w w1 s (Gives Nothing s)
   assigned e = (long, λ o p. record { kept = stored-kept o p; right = assigned-right e o })
 
   missed-right : r ≡ false → (o : List ℕ)
@@ -190,5 +208,18 @@ module _ (place n : ℕ) {w w1 : List ℕ} {s : Tally} (v : Value) (room : Room 
       (tells-same (ap (λ (cs : Cells). stop cell-freed place (with-cells cs (memory w o s))) (st .now ∙ store-miss n (meant v) old h)))
 
   -- it is freed
-  pub missed : r ≡ false → Applied 0 (apply-binary place assign (cell n) (meant v)) w w1 s (Halts Stop.CellFreed place s)
+  missed : r ≡ false → Applied 0 (apply-binary place assign (cell n) (meant v)) w w1 s (Halts Stop.CellFreed place s)
   missed e = (long, λ o p. record { kept = stored-kept o p; right = missed-right e o })
+
+-- the same of a cell that was sought
+module _ (place n : ℕ) {w : List ℕ} {s : Tally} (v : Value) (room : Room w s) {i : ℕ} (h : Sought w (s .cells) n i) where
+  -- it is live
+  pub assigned-at : i < s .cells → Survives v → (w1 : List ℕ) → w1 ≡ put-slot w CELLS-AT i n v
+      → Applied 0 (apply-binary place assign (cell n) (meant v)) w w1 s (Gives Nothing s)
+  assigned-at l back w1 e =
+      assigned place n v room (ap (λ (x : List ℕ). length x) e ∙ put-length w CELLS-AT i n v)
+      (store-hit w CELLS-AT n v i (h .hit l) back (s .cells) l (omega (arith, room .long, room .few)) (passed-above (room .rising) h l) w1 e) refl
+
+  -- it is freed
+  pub missed-at : s .cells ≤ i → Applied 0 (apply-binary place assign (cell n) (meant v)) w w s (Halts Stop.CellFreed place s)
+  missed-at l = missed place n v room refl (store-none w CELLS-AT n v (s .cells) 0 (omega arith) (λ j a u. h .miss l j u)) refl

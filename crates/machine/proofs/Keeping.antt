@@ -9,10 +9,14 @@ use lib.Dec.{ltb}
 use borrow.Author.Tests.{ltb-true, ltb-false}
 use Rattle.layout.specs.Slots.{BINDINGS, CELLS-AT, key-at, put-slot}
 use Rattle.layout.specs.declared.values.Value.{Value}
-use Rattle.machine.specs.Slots.{Slot, slots, cells-of}
+use Rattle.machine.specs.Slots.{Slot, slots, cells-of, Rising}
 use Rattle.machine.specs.Outcomes.{bytes, memory, Room, Kept}
 use Rattle.machine.specs.declared.state.Tally.{Tally}
 use Rattle.machine.proofs.Slotted.{slots-same, put-other, put-length}
+
+-- cells that keep their birth numbers keep their order
+pub rising-same : (w w1 : List ℕ) (n : ℕ) → ((i : ℕ) → i < n → key-at w1 CELLS-AT i ≡ key-at w CELLS-AT i) → Rising w n → Rising w1 n
+rising-same w w1 n keys r i j l h = omega (arith, keys i (omega arith), keys j h, r i j l h)
 
 newer-then : (s t u : Tally) (w1 w2 : List ℕ) → s .births ≤ t .births → t .births ≤ u .births
     → ((i : ℕ) → i < t .cells → key-at w2 CELLS-AT i ≡ key-at w1 CELLS-AT i)
@@ -46,6 +50,7 @@ kept-then {w1 = w1} {w2 = w2} {s = s} {t = t} {u = u} a b =
       older = omega (arith, a .older, b .older);
       keys = λ i h. b .keys i (omega (arith, a .above)) ∙ a .keys i h;
       newer = newer-then s t u w1 w2 (a .older) (b .older) (b .keys) (a .newer) (b .newer);
+      rising = λ r. b .rising (a .rising r);
       onward = omega (arith, a .onward, b .onward);
       printed = omega (arith, b .printed, a .wide);
     }
@@ -67,6 +72,7 @@ kept-weak k low more less a =
       older = a .older;
       keys = a .keys;
       newer = a .newer;
+      rising = a .rising;
       onward = a .onward;
       printed = a .printed;
     }
@@ -96,6 +102,7 @@ kept-self m w o top s r p =
       older = omega arith;
       keys = λ i h. refl;
       newer = λ i lo hi. absurd (omega arith);
+      rising = λ r. r;
       onward = omega arith;
       printed = p;
     }
@@ -126,13 +133,14 @@ kept-spent some a =
       older = a .older;
       keys = a .keys;
       newer = a .newer;
+      rising = a .rising;
       onward = a .onward;
       printed = a .printed;
     }
 
 -- there is room with a unit less
 pub room-ticked : {w : List ℕ} {s : Tally} → Room w s → Room w (tick s)
-room-ticked r = record { long = r .long; few = r .few; births = omega (arith, r .births); low = r .low }
+room-ticked r = record { long = r .long; few = r .few; births = omega (arith, r .births); low = r .low; rising = r .rising }
 
 -- ---- room
 
@@ -155,6 +163,7 @@ room-after {w} {o} {w1} {o1} {top} {s} {t} r k =
       few = k .few;
       births = omega (arith, r .births, k .births);
       low = low-after s t w w1 (k .older) (r .low) (k .keys) (k .newer);
+      rising = k .rising (r .rising);
     }
 
 -- and in the output
@@ -164,6 +173,9 @@ printed-after k = omega (arith, k .printed, k .wide)
 -- ---- a binding that is written above those in sight
 
 module _ (w o : List ℕ) (base n key : ℕ) (v : Value) (s : Tally) (low : base + n < BINDINGS) where
+  keys : Room w s → (i : ℕ) → i < s .cells → key-at (put-slot w (4 * base) n key v) CELLS-AT i ≡ key-at w CELLS-AT i
+  keys r i h = put-other w (4 * base) n key v (CELLS-AT + 4 * i) (λ a b. omega arith)
+
   -- nothing else is changed
   pub kept-put : Room w s → s .printed ≤ length o → Kept 0 w o (put-slot w (4 * base) n key v) o (base + n) s s
   kept-put r p =
@@ -178,8 +190,9 @@ module _ (w o : List ℕ) (base n key : ℕ) (v : Value) (s : Tally) (low : base
         few = r .few;
         births = omega arith;
         older = omega arith;
-        keys = λ i h. put-other w (4 * base) n key v (CELLS-AT + 4 * i) (λ a b. omega arith);
+        keys = keys r;
         newer = λ i lo hi. absurd (omega arith);
+        rising = rising-same w (put-slot w (4 * base) n key v) (s .cells) (keys r);
         onward = omega arith;
         printed = p;
       }

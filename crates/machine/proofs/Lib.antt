@@ -5,6 +5,7 @@ mod Literals
 mod Printing
 mod Ranges
 mod Reckoning
+mod Seeking
 pub mod Slotted
 mod Storing
 pub mod Telling

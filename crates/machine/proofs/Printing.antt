@@ -151,6 +151,7 @@ module _ (i : ℕ) (z : ℤ) (lo : ltZ z (pos 0) ≡ false) (hi : ltZ (pos BYTE)
                 older = omega arith;
                 keys = λ k u. refl;
                 newer = λ k a b. absurd (omega arith);
+                rising = λ r. r;
                 onward = omega arith;
                 printed = omega arith;
               };

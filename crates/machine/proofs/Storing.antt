@@ -1,7 +1,8 @@
--- The newest slot of a key, found from the top down, and written: what the cells are then.
+-- The newest slot of a key is written: what the cells are then.
 use mathlib.Core.Path.{_≡_, refl, sym, ap, subst, _∙_}
 use mathlib.Core.Bool.{Bool, true, false}
 use mathlib.Core.List.{List}
+use mathlib.Core.Option.{Option, none, some}
 use Prim.Native.Nat.{ℕ, zero, suc, _+_, _*_, _<_, _≤_}
 use native.Mathlib.Omega.{arith}
 use lib.ListN.{length, getD}
@@ -11,8 +12,19 @@ use Rattle.language.specs.State.{Cells, live, held, store}
 use Rattle.layout.specs.Slots.{key-at, value-at, put-slot}
 use Rattle.layout.specs.Values.{meant, Survives}
 use Rattle.layout.specs.declared.values.Value.{Value}
-use Rattle.machine.specs.Slots.{slots, cells-of, hit, Stored}
+use Rattle.machine.specs.Slots.{slots, cells-of}
 use Rattle.machine.proofs.Slotted.{put-other, put-key, slots-put}
+
+abbrev pub hit : {A : Type 0} → Option A → Bool
+hit none = false
+hit (some a) = true
+
+-- v is written into the newest slot of that key, if there is one
+pub record Stored (w w′ : List ℕ) (at n key : ℕ) (v : Value) (r : Bool) : Type 0 where
+  pub other : (i : ℕ) → (at ≤ i → i < at + 4 * n → ⊥) → getD w′ i 0 ≡ getD w i 0
+  pub keys : (i : ℕ) → i < n → key-at w′ at i ≡ key-at w at i
+  pub hit : r ≡ hit (held key (cells-of (slots w at n)))
+  pub now : cells-of (slots w′ at n) ≡ store key (meant v) (cells-of (slots w at n))
 
 -- none of the slots from i up to n has the key
 abbrev pub Passed-by : List ℕ → ℕ → ℕ → ℕ → ℕ → Type 0
@@ -93,20 +105,3 @@ module _ (w : List ℕ) (at key : ℕ) (v : Value) where
             by false q =
                 let a = eqb-false i j q in
                 ap (λ (z : List ℕ). key-at z at i) d ∙ put-other w at j key v (at + 4 * i) (λ p r. a (omega arith))
-
--- one slot more was passed by
-pub passed-more : (w : List ℕ) (at key i m n : ℕ) → m ≡ i + 1 → (key-at w at i ≡ key → ⊥) → Passed-by w at key m n
-    → Passed-by w at key i n
-passed-more w at key i m n e d h j l u = by (eqb i j) refl
-  where
-    by : (t : Bool) → eqb i j ≡ t → key-at w at j ≡ key → ⊥
-    by true q = subst (λ (x : ℕ). key-at w at x ≡ key → ⊥) (eqb-true i j q) d
-    by false q = let a = eqb-false i j q in h j (omega arith) u
-
--- the same from the same place
-pub passed-at : (w : List ℕ) (at key i j n : ℕ) → i ≡ j → Passed-by w at key i n → Passed-by w at key j n
-passed-at w at key i j n e h = subst (λ (m : ℕ). Passed-by w at key m n) e h
-
--- the same memory
-pub stored-from : {w w0 w1 : List ℕ} {at n key : ℕ} {v : Value} {r : Bool} → w ≡ w0 → Stored w w1 at n key v r → Stored w0 w1 at n key v r
-stored-from {w1 = w1} {at = at} {n = n} {key = key} {v = v} {r = r} e s = subst (λ (z : List ℕ). Stored z w1 at n key v r) e s

@@ -10,7 +10,7 @@ use Rattle.language.specs.State.{value, stop, when-some, no-unit, too-deep, out
 use Rattle.language.specs.Meaning.{fit}
 use Rattle.layout.specs.Slots.{BINDINGS, CELLS-AT, key-at}
 use Rattle.layout.specs.Values.{meant}
-use Rattle.machine.specs.Slots.{slots, find, cells-of, Same}
+use Rattle.machine.specs.Slots.{slots, find, cells-of, Same, Rising}
 use Rattle.machine.specs.declared.Stop.{Stop}
 use Rattle.machine.specs.declared.state.Tally.{Tally}
 use Rattle.machine.specs.declared.state.Outcome.{Outcome}
@@ -64,6 +64,7 @@ pub record Room (w : List ℕ) (s : Tally) : Type 0 where
   pub few : s .cells ≤ CELLS
   pub births : s .births + s .units ≤ ALLOWANCE
   pub low : (i : ℕ) → i < s .cells → key-at w CELLS-AT i ≤ s .births
+  pub rising : Rising w (s .cells)
 
 -- From w, o and s to w′, o′ and t: the bindings below slot `top` stay, and the words past those that are asked for; live
 -- cells keep their birth numbers, and new ones are born later; bytes behind those printed stay. `more` is how many births
@@ -81,6 +82,7 @@ pub record Kept (more : ℕ) (w o w′ o′ : List ℕ) (top : ℕ) (s t : Tally
   pub older : s .births ≤ t .births
   pub keys : (i : ℕ) → i < s .cells → key-at w′ CELLS-AT i ≡ key-at w CELLS-AT i
   pub newer : (i : ℕ) → s .cells ≤ i → i < t .cells → (s .births < key-at w′ CELLS-AT i) × (key-at w′ CELLS-AT i ≤ t .births)
+  pub rising : Rising w (s .cells) → Rising w′ (t .cells)
   pub onward : s .printed ≤ t .printed
   pub printed : t .printed ≤ length o
 

@@ -1,16 +1,15 @@
 -- Slots of work memory as lists: bindings have a name's number for their key, cells a birth number; the newest first.
-use mathlib.Core.Bool.{Bool, true, false, cond}
+use mathlib.Core.Bool.{cond}
 use mathlib.Core.List.{List, [], _∷_}
 use mathlib.Core.Option.{Option, none, some}
 use mathlib.Core.Path.{_≡_}
-use Prim.Native.Nat.{ℕ, zero, suc, _+_, _*_, _≤_, _<_}
+use Prim.Native.Nat.{ℕ, zero, suc, _+_, _≤_, _<_}
 use lib.Dec.{eqb}
 use lib.ListN.{getD}
 use Rattle.language.specs.State as State
-use Rattle.language.specs.State.{Cells, no-cell, live, held, store}
-use Rattle.layout.specs.Slots.{key-at, value-at}
+use Rattle.language.specs.State.{Cells, no-cell, live}
+use Rattle.layout.specs.Slots.{CELLS-AT, key-at, value-at}
 use Rattle.layout.specs.Values.{meant}
-use Rattle.layout.specs.declared.values.Value.{Value}
 use Rattle.machine.specs.declared.bindings.Found.{Found}
 
 pub record Slot : Type 0 where
@@ -42,17 +41,16 @@ unfoldable pub cells-of : List Slot → Cells
 cells-of [] = no-cell
 cells-of (s ∷ ss) = live (s .key) (s .holds) (cells-of ss)
 
-abbrev pub hit : {A : Type 0} → Option A → Bool
-hit none = false
-hit (some a) = true
-
 -- the words from lo up to hi are the same
 abbrev pub Same : List ℕ → List ℕ → ℕ → ℕ → Type 0
 Same v w lo hi = (k : ℕ) → lo ≤ k → k < hi → getD v k 0 ≡ getD w k 0
 
--- v is written into the newest slot of that key, if there is one
-pub record Stored (w w′ : List ℕ) (at n key : ℕ) (v : Value) (r : Bool) : Type 0 where
-  pub other : (i : ℕ) → (at ≤ i → i < at + 4 * n → ⊥) → getD w′ i 0 ≡ getD w i 0
-  pub keys : (i : ℕ) → i < n → key-at w′ at i ≡ key-at w at i
-  pub hit : r ≡ hit (held key (cells-of (slots w at n)))
-  pub now : cells-of (slots w′ at n) ≡ store key (meant v) (cells-of (slots w at n))
+-- the first n cells lie in the order of their births
+abbrev pub Rising : List ℕ → ℕ → Type 0
+Rising w n = (i j : ℕ) → i < j → j < n → key-at w CELLS-AT i < key-at w CELLS-AT j
+
+-- r is where the cell of that birth lies among the first n, or n if it is none of them
+pub record Sought (w : List ℕ) (n birth r : ℕ) : Type 0 where
+  pub upto : r ≤ n
+  pub hit : r < n → key-at w CELLS-AT r ≡ birth
+  pub miss : n ≤ r → (i : ℕ) → i < n → key-at w CELLS-AT i ≡ birth → ⊥

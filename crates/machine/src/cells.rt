@@ -1,19 +1,15 @@
 // Cells: born, read and written by their birth number, the live ones alone.
 ghost use mathlib.Core.Path.{_≡_};
-ghost use mathlib.Core.List.{List};
-ghost use Prim.Native.Nat.{ℕ, _+_, _*_, _≤_};
+ghost use Prim.Native.Nat.{ℕ, _≤_, _<_};
 ghost use lib.ListN.{length};
-ghost use Rattle.language.specs.Sizes.{WORK};
+ghost use Rattle.language.specs.Sizes.{CELLS, WORK};
 ghost use Rattle.language.specs.Trees.{assign, fetch, new};
 ghost use Rattle.language.specs.State.{cell};
 ghost use Rattle.language.specs.Meaning.{apply-unary, apply-binary};
-ghost use Rattle.layout.specs.Slots.{CELLS-AT};
 ghost use Rattle.layout.specs.Values.{meant};
-ghost use Rattle.machine.specs.Slots.{Stored};
+ghost use Rattle.machine.specs.Slots.{Rising, Sought};
 ghost use Rattle.machine.specs.Outcomes.{Room, Applied, Answered};
 use crate::Stop;
-use crate::bindings;
-use crate::bindings::Found;
 use crate::state::Outcome;
 use crate::state::Tally;
 use language::CELLS;
@@ -21,32 +17,49 @@ use layout::CELLS_AT;
 use layout::slots;
 use layout::values::Value;
 
+// A slot between two.
+fn halfway(low: usize, high: usize) -> usize
+    requires { ⌜ low < high ⌝ }
+    ensures { λ r. ⌜ (low ≤ r) × (r < high) ⌝ }
+{
+    low + (high - low) / 2
+}
+
+// Where the cell that was born as `birth` lies among the first n; n if it is none of them. Cells lie in the
+// order of their births, so half of what is left is passed by at each look.
+fn seek(work: &[u32], n: usize, birth: u32) -> usize
+    requires { ⌜ (n ≤ CELLS) × (WORK ≤ length (now work)) × Rising (now work) n ⌝ }
+    ensures { λ r. ⌜ Sought (now (work .entry)) n birth r ⌝ }
+{
+    let mut low = 0;
+    let mut high = n;
+    while low < high {
+        let middle = halfway(low, high);
+        let born = slots::key(work, CELLS_AT, middle);
+        if born == birth {
+            return middle;
+        }
+        if born < birth {
+            low = middle + 1;
+        } else {
+            high = middle;
+        }
+    }
+    n
+}
+
 // What the cell that was born as n holds.
 pub fn fetch(place: u32, work: &[u32], n: u32, s: Tally) -> Outcome
     requires { ⌜ Room (now work) s ⌝ }
     ensures { λ r. ⌜ Answered (apply-unary place fetch (cell n)) (now (work .entry)) s r ⌝ }
 {
-    let found = bindings::find(work, CELLS_AT, s.cells, n);
-    match found {
-        Found::Is(v) => Outcome::Gives(v, s),
-        Found::No => Outcome::Halts(Stop::CellFreed, place, s),
+    let cells = s.cells;
+    let i = seek(work, cells, n);
+    if i < cells {
+        let v = slots::value(work, CELLS_AT, i);
+        return Outcome::Gives(v, s);
     }
-}
-
-// Writes v into the newest of n slots that has this key. False: none has, and nothing is changed.
-pub fn store(work: &mut [u32], at: usize, n: usize, key: u32, v: Value) -> bool
-    requires { ⌜ (at ≤ WORK) × (n ≤ WORK) × (at + 4 * n ≤ length (now work)) ⌝ }
-    ensures { λ r. ⌜ Stored (now (work .entry)) (now (work .exit)) at n key v r ⌝ }
-{
-    let mut i = n;
-    while 0 < i {
-        i = i - 1;
-        if slots::key(work, at, i) == key {
-            slots::put(work, at, i, key, v);
-            return true;
-        }
-    }
-    false
+    Outcome::Halts(Stop::CellFreed, place, s)
 }
 
 // A new cell, with the next birth number.
@@ -75,9 +88,10 @@ pub fn assign(place: u32, work: &mut [u32], n: u32, v: Value, s: Tally) -> Outco
     ensures { λ r. ⌜ Applied 0 (apply-binary place assign (cell n) (meant v)) (now (work .entry)) (now (work .exit)) s r ⌝ }
 {
     let cells = s.cells;
-    if store(work, CELLS_AT, cells, n, v) {
-        Outcome::Gives(Value::Nothing, s)
-    } else {
-        Outcome::Halts(Stop::CellFreed, place, s)
+    let i = seek(work, cells, n);
+    if i < cells {
+        slots::put(work, CELLS_AT, i, n, v);
+        return Outcome::Gives(Value::Nothing, s);
     }
+    Outcome::Halts(Stop::CellFreed, place, s)
 }

@@ -233,6 +233,7 @@ module _ (rec : Sem) (table : List ℕ) (node : ℕ) (tag : row-word table node 
             older = k .older;
             keys = k .keys;
             newer = λ i l u. absurd (omega arith);
+            rising = λ r i j l u. k .rising r i j l (omega (arith, k .above));
             onward = k .onward;
             printed = k .printed;
           };

@@ -98,7 +98,7 @@ module _ {table w o : List ℕ} {count defs root allowance : ℕ} where
         stands = stands-first w (sh .holds) (sh .typed);
         written = sh .written;
         deep = omega arith;
-        room = record { long = sh .long; few = omega arith; births = omega (arith, sh .allowed); low = λ i l. absurd (omega arith) };
+        room = record { long = sh .long; few = omega arith; births = omega (arith, sh .allowed); low = λ i l. absurd (omega arith); rising = λ i j l h. absurd (omega arith) };
         printed = omega arith;
       }
 

@@ -6,20 +6,17 @@ use borrow.Author.Needs.{needs}
 use Rattle.machine.proofs.cells.fetch.Statement.{statement}
 use Rattle.machine.proofs.cells.fetch.Tie as tie
 
-find-requires : tie.Need-find-requires
-find-requires c κs = (omega arith, omega (arith, (c .before .pre .few)), omega (arith, (c .before .pre .few), (c .before .pre .long)))
+seek-requires : tie.Need-seek-requires
+seek-requires c κs = search needs
 
-enum-known-found : tie.Need-enum-known-found
-enum-known-found c = search needs
-
-enum-told : tie.Need-enum-told
-enum-told c = search needs
+value-requires : tie.Need-value-requires
+value-requires c κs = search needs
 
 returns : tie.Need-returns
-returns c = (refl, λ o. fetched _ _ _ o _ _ (c .before .before .before .find .ensures) (c .before .found .given .1))
+returns c = (refl, λ o. fetched _ _ _ o _ (c .before .before .before .before .pre) (c .before .before .seek .ensures) (c .before .if1 .taken) (c .value .result) (c .value .ensures))
 
 returns-2 : tie.Need-returns-2
-returns-2 c = (refl, λ o. unfetched _ _ _ o _ _ (c .before .before .find .ensures) (c .enum-told .given .1))
+returns-2 c = (refl, λ o. unfetched _ _ _ o _ (c .before .before .before .pre) (c .before .seek .ensures) (c .if1 .left))
 
 pub fetch-spec : {M : Type 1} → statement M
-fetch-spec = tie.close (tie.spec find-requires enum-known-found enum-told returns returns-2)
+fetch-spec = tie.close (tie.spec seek-requires value-requires returns returns-2)
