@@ -19,21 +19,21 @@ use Rattle.layout.specs.Rows.{below}
 use Rattle.layout.specs.Decode.{tree-at, Right, ParamsAt, params-none, params-more, FunctionAt}
 use Rattle.layout.proofs.NameLaws.{name-inside}
 use Rattle.layout.proofs.VariablesWords.{row-without, function-without}
-use Rattle.checker.specs.Checked.{meant}
-use Rattle.checker.specs.Sight.{Variables, Sheet}
-use Rattle.checker.specs.Asked.{Tells}
-use Rattle.checker.specs.Judged.{Kept, Ready, Judged}
+use Rattle.rules.specs.Reasons.{meant}
+use Rattle.rules.specs.Sight.{Variables, Sheet}
+use Rattle.rules.specs.Asked.{Tells}
+use Rattle.judge.specs.Judged.{Kept, Ready, Judged}
 use Rattle.checker.specs.Ruled.{Rules, check-head, check-body, Headings, Taken, Next, Headlines, Fresh, Bodied, Fitting, Listed, Ruled}
-use Rattle.checker.specs.declared.Reason.{Reason}
-use Rattle.checker.specs.declared.Reason.the-variants.{TooManyRefs, WrongBody}
-use Rattle.checker.specs.declared.Typing.{Typing}
-use Rattle.checker.specs.declared.Typing.the-variants as Typing
+use Rattle.rules.specs.declared.Reason.{Reason}
+use Rattle.rules.specs.declared.Reason.the-variants.{TooManyRefs, WrongBody}
+use Rattle.rules.specs.declared.Typing.{Typing}
+use Rattle.rules.specs.declared.Typing.the-variants as Typing
 use Rattle.checker.specs.declared.programs.Verdict.{Verdict}
 use Rattle.checker.specs.declared.programs.Verdict.the-variants as Verdict
-use Rattle.checker.proofs.TellLaws.{type-told, fault-told, tells-as}
-use Rattle.checker.proofs.OperatorLaws.{is-type, isnt-type}
-use Rattle.checker.proofs.KeptLaws.{kept-self, kept-then, kept-fewer, kept-row}
-use Rattle.checker.proofs.PlainLaws.{headed-plain}
+use Rattle.rules.proofs.TellLaws.{type-told, fault-told, tells-as}
+use Rattle.rules.proofs.OperatorLaws.{is-type, isnt-type}
+use Rattle.judge.proofs.KeptLaws.{kept-self, kept-then, kept-fewer, kept-row}
+use Rattle.rules.proofs.PlainLaws.{headed-plain}
 use Rattle.checker.proofs.FunctionLaws.{sheet-with, next-few, next-headed}
 
 -- ---- its body

@@ -13,16 +13,16 @@ use Rattle.language.specs.Faults as Faults
 use Rattle.language.proofs.Types.Verdict.{bad, need-yes, need-no}
 use Rattle.layout.specs.Table.{row-word, without-variables}
 use Rattle.layout.proofs.VariablesWords.{row-without, function-without}
-use Rattle.checker.specs.Checked.{meant}
-use Rattle.checker.specs.Sight.{Headed, function-name, Functions, functions-given, functions-more, Sheet, callee-in, Means}
+use Rattle.rules.specs.Reasons.{meant}
+use Rattle.rules.specs.Sight.{Headed, function-name, Functions, functions-given, functions-more, Sheet, callee-in, Means}
 use Rattle.checker.specs.Ruled.{check-head, Next, Headlines, Fresh}
-use Rattle.checker.specs.declared.Reason.the-variants.{TooManyFunctions, FunctionTwice}
-use Rattle.checker.specs.declared.sight.Callee.{Callee}
-use Rattle.checker.specs.declared.sight.Callee.the-variants as Callee
+use Rattle.rules.specs.declared.Reason.the-variants.{TooManyFunctions, FunctionTwice}
+use Rattle.rules.specs.declared.sight.Callee.{Callee}
+use Rattle.rules.specs.declared.sight.Callee.the-variants as Callee
 use Rattle.checker.specs.declared.programs.Verdict.{Verdict}
 use Rattle.checker.specs.declared.programs.Verdict.the-variants as Verdict
-use Rattle.checker.proofs.SheetLaws.{name-of, sheet-headed, callee-means}
-use Rattle.checker.proofs.PlainLaws.{name-plain, callee-plain}
+use Rattle.judge.proofs.SheetLaws.{name-of, sheet-headed, callee-means}
+use Rattle.rules.proofs.PlainLaws.{name-plain, callee-plain}
 use Rattle.checker.proofs.ParameterLaws.{unbound-none, unbound-some}
 
 -- ---- the functions in sight

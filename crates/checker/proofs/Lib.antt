@@ -1,18 +1,6 @@
-pub mod TellLaws
-pub mod SightLaws
-pub mod OperatorLaws
-pub mod ShapeLaws
-pub mod KeptLaws
-pub mod SheetLaws
-pub mod CallLaws
-pub mod PlainLaws
-pub mod NodeLaws
-pub mod BindLaws
-pub mod ReadyLaws
-pub mod JudgeLaws
-pub mod ParameterLaws
-pub mod TakingLaws
-pub mod FunctionLaws
-pub mod BodyLaws
-pub mod ProgramLaws
+mod ParameterLaws
+mod TakingLaws
+mod FunctionLaws
+mod BodyLaws
+mod ProgramLaws
 pub mod OneAnswer

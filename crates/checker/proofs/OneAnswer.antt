@@ -7,11 +7,12 @@ use Rattle.language.specs.Faults as Faults
 use Rattle.language.specs.Faults.{no-binding, no-function, wrong-number, wrong-argument, wrong-operand, wrong-operands, not-unit, not-bool, branches-differ, wrong-body, too-many-refs, too-many-functions, too-many-parameters, function-twice, parameter-twice}
 use Rattle.language.specs.Meaning.{type-number}
 use Rattle.language.proofs.Types.OneType.{program-one-type, one-fault, never-both}
-use Rattle.checker.specs.Checked.{meant, Checkable, Answers, Checked}
-use Rattle.checker.specs.declared.Reason.{Reason}
-use Rattle.checker.specs.declared.Reason.the-variants.{NoBinding, NoFunction, WrongNumber, WrongArgument, WrongOperand, WrongOperands, NotUnit, NotBool, BranchesDiffer, WrongBody, TooManyRefs, TooManyFunctions, TooManyParameters, FunctionTwice, ParameterTwice}
-use Rattle.checker.specs.declared.Typing.{Typing}
-use Rattle.checker.specs.declared.Typing.the-variants as Typing
+use Rattle.rules.specs.Reasons.{meant}
+use Rattle.checker.specs.Checked.{Checkable, Answers, Checked}
+use Rattle.rules.specs.declared.Reason.{Reason}
+use Rattle.rules.specs.declared.Reason.the-variants.{NoBinding, NoFunction, WrongNumber, WrongArgument, WrongOperand, WrongOperands, NotUnit, NotBool, BranchesDiffer, WrongBody, TooManyRefs, TooManyFunctions, TooManyParameters, FunctionTwice, ParameterTwice}
+use Rattle.rules.specs.declared.Typing.{Typing}
+use Rattle.rules.specs.declared.Typing.the-variants as Typing
 
 -- ---- reasons: each written one has its own in the code
 

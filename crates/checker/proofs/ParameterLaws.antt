@@ -19,19 +19,19 @@ use Rattle.layout.specs.Names.{Stand}
 use Rattle.layout.specs.Decode.{ParamsAt, params-more}
 use Rattle.layout.proofs.NameLaws.{Named, named-at}
 use Rattle.layout.proofs.VariablesWords.{row-without, token-without}
-use Rattle.checker.specs.Checked.{meant}
-use Rattle.checker.specs.Sight.{Variables, variables-none, variables-more, find-variable, found}
-use Rattle.checker.specs.Judged.{looked}
+use Rattle.rules.specs.Reasons.{meant}
+use Rattle.rules.specs.Sight.{Variables, variables-none, variables-more, find-variable, found}
+use Rattle.judge.specs.Judged.{looked}
 use Rattle.checker.specs.Ruled.{ParameterAt, Bound}
-use Rattle.checker.specs.declared.Reason.the-variants.{TooManyParameters, ParameterTwice, TooManyRefs}
-use Rattle.checker.specs.declared.Reason.{Reason}
-use Rattle.checker.specs.declared.sight.Found.{Found}
-use Rattle.checker.specs.declared.sight.Found.the-variants as Found
+use Rattle.rules.specs.declared.Reason.the-variants.{TooManyParameters, ParameterTwice, TooManyRefs}
+use Rattle.rules.specs.declared.Reason.{Reason}
+use Rattle.rules.specs.declared.sight.Found.{Found}
+use Rattle.rules.specs.declared.sight.Found.the-variants as Found
 use Rattle.checker.specs.declared.programs.Verdict.{Verdict}
 use Rattle.checker.specs.declared.programs.Verdict.the-variants as Verdict
-use Rattle.checker.proofs.TellLaws.{type-told, fault-told, tells-as}
-use Rattle.checker.proofs.KeptLaws.{kept-self, kept-put, variables-put}
-use Rattle.checker.proofs.SheetLaws.{look-tells, stand-few}
+use Rattle.rules.proofs.TellLaws.{type-told, fault-told, tells-as}
+use Rattle.judge.proofs.KeptLaws.{kept-self, kept-put, variables-put}
+use Rattle.judge.proofs.SheetLaws.{look-tells, stand-few}
 
 -- ---- what is bound under a name
 

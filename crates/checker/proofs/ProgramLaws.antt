@@ -19,18 +19,18 @@ use Rattle.layout.specs.Rows.{below}
 use Rattle.layout.specs.Decode.{tree-at, Right, FunctionsAt, functions-more, Holds}
 use Rattle.layout.proofs.VariablesTrees.{holds-without}
 use Rattle.checker.specs.Checked.{Checkable, Answers}
-use Rattle.checker.specs.Sight.{variables-none, Functions, functions-given, Sheet}
-use Rattle.checker.specs.Sight as Sight
-use Rattle.checker.specs.Asked.{Tells, tells-type, tells-fault}
-use Rattle.checker.specs.Judged.{Kept, Ready, Judged}
+use Rattle.rules.specs.Sight.{variables-none, Functions, functions-given, Sheet}
+use Rattle.rules.specs.Sight as Sight
+use Rattle.rules.specs.Asked.{Tells, tells-type, tells-fault}
+use Rattle.judge.specs.Judged.{Kept, Ready, Judged}
 use Rattle.checker.specs.Ruled.{Rules, Next, Listed, Ruled, Concluded}
-use Rattle.checker.specs.declared.Reason.{Reason}
-use Rattle.checker.specs.declared.Typing.{Typing}
-use Rattle.checker.specs.declared.Typing.the-variants as Typing
+use Rattle.rules.specs.declared.Reason.{Reason}
+use Rattle.rules.specs.declared.Typing.{Typing}
+use Rattle.rules.specs.declared.Typing.the-variants as Typing
 use Rattle.checker.specs.declared.programs.Verdict.{Verdict}
 use Rattle.checker.specs.declared.programs.Verdict.the-variants as Verdict
-use Rattle.checker.proofs.TellLaws.{fault-is, tells-from}
-use Rattle.checker.proofs.KeptLaws.{kept-self, kept-then}
+use Rattle.rules.proofs.TellLaws.{fault-is, tells-from}
+use Rattle.judge.proofs.KeptLaws.{kept-self, kept-then}
 
 -- ---- halfway
 

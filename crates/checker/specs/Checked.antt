@@ -5,33 +5,13 @@ use Prim.Native.Nat.{ℕ}
 use Rattle.language.specs.Tokens.{Token}
 use Rattle.language.specs.Trees.{Ty, Program}
 use Rattle.language.specs.Types.{HasType}
-use Rattle.language.specs.Faults as Faults
-use Rattle.language.specs.Faults.{HasFault, no-binding, no-function, wrong-number, wrong-argument, wrong-operand, wrong-operands, not-unit, not-bool, branches-differ, wrong-body, too-many-refs, too-many-functions, too-many-parameters, function-twice, parameter-twice}
+use Rattle.language.specs.Faults.{HasFault}
 use Rattle.language.specs.Meaning.{type-number}
 use Rattle.layout.specs.Table.{without-variables}
 use Rattle.layout.specs.Decode.{Holds}
-use Rattle.checker.specs.declared.Reason.{Reason}
-use Rattle.checker.specs.declared.Reason.the-variants.{NoBinding, NoFunction, WrongNumber, WrongArgument, WrongOperand, WrongOperands, NotUnit, NotBool, BranchesDiffer, WrongBody, TooManyRefs, TooManyFunctions, TooManyParameters, FunctionTwice, ParameterTwice}
-use Rattle.checker.specs.declared.Typing.{Typing}
-use Rattle.checker.specs.declared.Typing.the-variants as Typing
-
--- the written reason that the code's stands for
-abbrev pub meant : Reason → Faults.Reason
-meant NoBinding = no-binding
-meant NoFunction = no-function
-meant WrongNumber = wrong-number
-meant WrongArgument = wrong-argument
-meant WrongOperand = wrong-operand
-meant WrongOperands = wrong-operands
-meant NotUnit = not-unit
-meant NotBool = not-bool
-meant BranchesDiffer = branches-differ
-meant WrongBody = wrong-body
-meant TooManyRefs = too-many-refs
-meant TooManyFunctions = too-many-functions
-meant TooManyParameters = too-many-parameters
-meant FunctionTwice = function-twice
-meant ParameterTwice = parameter-twice
+use Rattle.rules.specs.Reasons.{meant}
+use Rattle.rules.specs.declared.Typing.{Typing}
+use Rattle.rules.specs.declared.Typing.the-variants as Typing
 
 -- the table holds some program
 pub record Checkable (w : List ℕ) (count defs root : ℕ) : Type 0 where

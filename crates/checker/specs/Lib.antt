@@ -1,5 +1,2 @@
 pub mod Checked
-pub mod Sight
-pub mod Asked
-pub mod Judged
 pub mod Ruled

@@ -14,11 +14,11 @@ use Rattle.language.proofs.Types.Checker.{unbound, infer, take-params, check-de
 use Rattle.layout.specs.Table.{row-word, function-row, without-variables}
 use Rattle.layout.specs.Names.{Stand}
 use Rattle.layout.specs.Decode.{ParamsAt, FunctionAt, Holds}
-use Rattle.checker.specs.Checked.{meant}
-use Rattle.checker.specs.Sight.{Variables, Functions, Headed}
-use Rattle.checker.specs.Asked.{Tells}
-use Rattle.checker.specs.Judged.{Kept, Ready}
-use Rattle.checker.specs.declared.Typing.{Typing}
+use Rattle.rules.specs.Reasons.{meant}
+use Rattle.rules.specs.Sight.{Variables, Functions, Headed}
+use Rattle.rules.specs.Asked.{Tells}
+use Rattle.judge.specs.Judged.{Kept, Ready}
+use Rattle.rules.specs.declared.Typing.{Typing}
 use Rattle.checker.specs.declared.programs.Verdict.{Verdict}
 use Rattle.checker.specs.declared.programs.Verdict.the-variants as Verdict
 

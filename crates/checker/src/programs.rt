@@ -3,19 +3,19 @@
 ghost use Prim.Native.Nat.{_+_, _<_};
 ghost use Rattle.checker.specs.Checked.{Checkable};
 ghost use Rattle.checker.specs.Ruled.{ParameterAt, Bound, Headings, Taken, Headlines, Fresh, Bodied, Fitting, Listed, Ruled, Concluded};
-use crate::Reason;
-use crate::Typing;
-use crate::expressions;
-use crate::sight;
-use crate::sight::Callee;
-use crate::sight::Found;
-use crate::types;
+use judge::expressions;
 use language::FUNCTIONS;
 use language::PARAMETERS;
 use layout::functions;
 use layout::rows;
 use layout::tokens;
 use layout::variables;
+use rules::Reason;
+use rules::Typing;
+use rules::sight;
+use rules::sight::Callee;
+use rules::sight::Found;
+use rules::types;
 
 pub enum Verdict {
     Fine,

@@ -16,13 +16,13 @@ use Rattle.layout.specs.Table.{kind-of, put-row, without-rows}
 use Rattle.layout.specs.Names.{Stand}
 use Rattle.layout.specs.Rows.{PARAMETER, below, lay, lay-params, lay-def, def-rows}
 use Rattle.layout.proofs.TableLaws.{without-put-row}
-use Rattle.reader.specs.Parts.{Told, Yields}
+use Rattle.phrases.specs.Parts.{Told, Yields}
 use Rattle.reader.specs.Definitions.{Typeful, Resulting, Params, Formals, Function, TypeAnswer, ParamsAnswer, DefAnswer, Headed}
-use Rattle.reader.specs.declared.parts.Part.{Part}
+use Rattle.phrases.specs.declared.parts.Part.{Part}
 use Rattle.reader.specs.declared.types.Typing.{Typing}
 use Rattle.reader.specs.declared.definitions.Rows.{Rows}
-use Rattle.reader.proofs.Standing.{at, not-at, stand-row, stand-params}
-use Rattle.reader.proofs.ItemLaws.{Braced, braced, unbraced, Block}
+use Rattle.phrases.proofs.Standing.{at, not-at, stand-row, stand-params}
+use Rattle.phrases.proofs.ItemLaws.{Braced, braced, unbraced, Block}
 
 -- an answer that is known
 pub known-params : {T : Told (List Param)} {count n f : ℕ} {w w′ : List ℕ} {g h : Rows} → ParamsAnswer T count w n f g w′ → g ≡ h

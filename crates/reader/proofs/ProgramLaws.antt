@@ -15,14 +15,14 @@ use Rattle.layout.specs.Rows.{lay, lay-def, def-rows, defs-rows, lay-defs, lay-
 use Rattle.layout.proofs.TableLaws.{without-put-function}
 use Rattle.layout.proofs.FewRows.{few-rows}
 use Rattle.layout.proofs.NodesInRows.{nodes-in-rows}
-use Rattle.reader.specs.Parts.{Told, Yields, Seq}
+use Rattle.phrases.specs.Parts.{Told, Yields, Seq}
 use Rattle.reader.specs.Definitions.{Function, Sequel, DefAnswer, ProgramAnswer}
 use Rattle.reader.specs.Findings.{Finds}
-use Rattle.reader.specs.declared.parts.Part.{Part}
+use Rattle.phrases.specs.declared.parts.Part.{Part}
 use Rattle.reader.specs.declared.definitions.Rows.{Rows}
 use Rattle.reader.specs.declared.definitions.Sheet.{Sheet}
 use Rattle.reader.specs.declared.Found.{Found}
-use Rattle.reader.proofs.Standing.{at, not-at, stand-def}
+use Rattle.phrases.proofs.Standing.{at, not-at, stand-def}
 
 -- an answer that is known
 pub known-program : {T : Told Program} {count f c : ℕ} {w w′ : List ℕ} {g h : Sheet} → ProgramAnswer T count w f c g w′ → g ≡ h

@@ -13,10 +13,10 @@ use Rattle.language.proofs.Grammar.Entries.{every, entry-passes}
 use Rattle.language.proofs.Grammar.SettlesPrograms as S
 use Rattle.layout.specs.Table.{kind-of}
 use Rattle.layout.proofs.TableLaws.{kind-within}
-use Rattle.reader.specs.Parts.{Told}
+use Rattle.phrases.specs.Parts.{Told}
 use Rattle.reader.specs.Definitions.{Typeful, Resulting, number-or, basic-number, TypeAnswer, RefsAnswer}
 use Rattle.reader.specs.declared.types.Typing.{Typing}
-use Rattle.reader.proofs.Standing.{at, not-at, within}
+use Rattle.phrases.proofs.Standing.{at, not-at, within}
 
 -- an answer that is known
 pub known-type : {T : Told Ty} {count lo hi : ℕ} {w : List ℕ} {g h : Typing} → TypeAnswer T count w lo hi g → g ≡ h

@@ -14,8 +14,8 @@ use Rattle.language.proofs.Grammar.Settles.{Settles}
 use Rattle.layout.specs.Table.{without-rows}
 use Rattle.layout.specs.Names.{Stand}
 use Rattle.layout.specs.Rows.{below, lay, lay-params, lay-def, def-rows, defs-rows, lay-defs}
-use Rattle.reader.specs.Parts.{Told}
-use Rattle.reader.specs.declared.parts.Part.{Part}
+use Rattle.phrases.specs.Parts.{Told}
+use Rattle.phrases.specs.declared.parts.Part.{Part}
 use Rattle.reader.specs.declared.types.Typing.{Typing}
 use Rattle.reader.specs.declared.definitions.Rows.{Rows}
 use Rattle.reader.specs.declared.definitions.Sheet.{Sheet}

@@ -1,4 +1,3 @@
 -- What the reader's functions require and ensure.
-pub mod Parts
 pub mod Definitions
 pub mod Findings

@@ -5,12 +5,8 @@ ghost use lib.ListN.{length};
 ghost use Rattle.language.specs.Sizes.{TOKENS, NODES, TABLE};
 ghost use Rattle.language.specs.Tokens.{DEF};
 ghost use Rattle.layout.specs.Table.{kind-of, put-row};
-ghost use Rattle.reader.specs.Parts.{Room};
+ghost use Rattle.phrases.specs.Parts.{Room};
 ghost use Rattle.reader.specs.Definitions.{ParamsAnswer, DefAnswer, ProgramAnswer, Headed, Params, Formals, Function, Sequel};
-use crate::items::seq;
-use crate::items::until;
-use crate::parts::Part;
-use crate::parts::around;
 use crate::types::Typing;
 use crate::types::result;
 use crate::types::type_at;
@@ -19,6 +15,10 @@ use layout::functions;
 use layout::rows;
 use layout::rows::PARAMETER;
 use layout::tokens::kind;
+use phrases::items::seq;
+use phrases::items::until;
+use phrases::parts::Part;
+use phrases::parts::around;
 
 pub enum Rows {
     // The token behind what was laid, and the first free row.

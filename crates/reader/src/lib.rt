@@ -1,15 +1,7 @@
-// The reader: from the tokens in table memory to the rows of their reading.
-//
-// A function for each rule of the grammar begins at a token and at the first free row. It answers what
-// it read, laid down in rows, the parts before their whole, or the token at which it failed. `specs/`
-// says what is told of an answer.
+// The reader: from the tokens in table memory to the rows of their reading. Functions and the program are
+// read here, what they are made of by `phrases`.
 
 mod definitions;
-mod items;
-mod names;
-mod operands;
-mod operators;
-mod parts;
 mod types;
 
 ghost use mathlib.Core.List.{List};

@@ -4,7 +4,7 @@ use native.Mathlib.Omega.{arith}
 use borrow.Author.Needs.{needs}
 use Rattle.reader.proofs.definitions.formals.Statement.{statement}
 use Rattle.reader.proofs.definitions.formals.Tie as tie
-use Rattle.reader.proofs.Standing.{within}
+use Rattle.phrases.proofs.Standing.{within}
 use Rattle.reader.proofs.DefinitionLaws.{known-params, formals-none, formals-failed, formals-other, formals-some}
 
 kind-requires : tie.Need-kind-requires

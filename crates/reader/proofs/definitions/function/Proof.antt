@@ -4,9 +4,9 @@ use native.Mathlib.Omega.{arith}
 use borrow.Author.Needs.{needs}
 use Rattle.reader.proofs.definitions.function.Statement.{statement}
 use Rattle.reader.proofs.definitions.function.Tie as tie
-use Rattle.reader.proofs.Moving.{top-fits}
-use Rattle.reader.proofs.Standing.{within}
-use Rattle.reader.proofs.ItemLaws.{body}
+use Rattle.phrases.proofs.Moving.{top-fits}
+use Rattle.phrases.proofs.Standing.{within}
+use Rattle.phrases.proofs.ItemLaws.{body}
 use Rattle.reader.proofs.TypeLaws.{known-type}
 use Rattle.reader.proofs.DefinitionLaws.{known-params, function-name, function-open, function-formals, function-result, function-all}
 

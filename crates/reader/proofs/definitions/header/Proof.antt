@@ -1,6 +1,6 @@
 -- A function's row, behind its body.
 use borrow.Author.Needs.{needs}
-use Rattle.reader.proofs.Topping.{headed-tree, headed-none}
+use Rattle.reader.proofs.Heading.{headed-tree, headed-none}
 use Rattle.reader.proofs.definitions.header.Statement.{statement}
 use Rattle.reader.proofs.definitions.header.Tie as tie
 

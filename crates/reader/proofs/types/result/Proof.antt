@@ -4,7 +4,7 @@ use native.Mathlib.Omega.{arith}
 use borrow.Author.Needs.{needs}
 use Rattle.reader.proofs.types.result.Statement.{statement}
 use Rattle.reader.proofs.types.result.Tie as tie
-use Rattle.reader.proofs.Standing.{within}
+use Rattle.phrases.proofs.Standing.{within}
 use Rattle.reader.proofs.TypeLaws.{known-type, result-colon, result-none, result-other, result-all}
 
 kind-requires : tie.Need-kind-requires

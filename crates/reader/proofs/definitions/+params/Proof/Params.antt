@@ -6,8 +6,8 @@ use borrow.Author.Needs.{needs}
 use Rattle.reader.proofs.definitions.params.Reads as params
 use Rattle.reader.proofs.definitions.+params.Lts-params as lts
 use Rattle.reader.proofs.definitions.+params.Proof.Setup.{params-claims, params-at}
-use Rattle.reader.proofs.Moving.{ask, row-fits}
-use Rattle.reader.proofs.Standing.{within}
+use Rattle.phrases.proofs.Moving.{ask, row-fits}
+use Rattle.phrases.proofs.Standing.{within}
 use Rattle.reader.proofs.TypeLaws.{known-type}
 use Rattle.reader.proofs.DefinitionLaws.{params-name, params-colon, params-none, params-one, params-more}
 

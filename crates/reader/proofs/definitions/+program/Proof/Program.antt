@@ -6,9 +6,9 @@ use borrow.Author.Needs.{needs}
 use Rattle.reader.proofs.definitions.program.Reads as program
 use Rattle.reader.proofs.definitions.+program.Lts-program as lts
 use Rattle.reader.proofs.definitions.+program.Proof.Setup.{program-claims, program-at}
-use Rattle.reader.proofs.Moving.{ask}
-use Rattle.reader.proofs.Standing.{within}
-use Rattle.reader.proofs.Answering.{known}
+use Rattle.phrases.proofs.Moving.{ask}
+use Rattle.phrases.proofs.Standing.{within}
+use Rattle.phrases.proofs.Answering.{known}
 use Rattle.reader.proofs.DefinitionLaws.{known-def}
 use Rattle.reader.proofs.ProgramLaws.{program-failed, program-more, program-none, program-seq}
 

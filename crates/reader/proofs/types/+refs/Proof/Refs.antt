@@ -5,7 +5,7 @@ use native.Mathlib.Omega.{arith}
 use Rattle.reader.proofs.types.refs.Reads as refs
 use Rattle.reader.proofs.types.+refs.Lts-refs as lts
 use Rattle.reader.proofs.types.+refs.Proof.Setup.{refs-claims, refs-at}
-use Rattle.reader.proofs.Standing.{within}
+use Rattle.phrases.proofs.Standing.{within}
 use Rattle.reader.proofs.TypeLaws.{refs-end, refs-more}
 
 pub kind-requires : (t : ℕ) → lts.Need-kind-requires (refs-claims t) (refs-at t) refs.Post

@@ -1,0 +1,7 @@
+pub mod KeptLaws
+pub mod SheetLaws
+mod Naming
+mod NodeLaws
+mod BindLaws
+mod ReadyLaws
+mod JudgeLaws

@@ -1,0 +1,63 @@
+-- What the borrow checker leaves of `arguments`.
+use mathlib.Core.Path.{_∙_}
+use Rattle.judge.proofs.ReadyLaws.{args-inside, args-rowed, args-first, args-next}
+use Rattle.judge.proofs.JudgeLaws.{end-judged, stop-judged, more-judged}
+use Prim.Native.Nat.{ℕ}
+use borrow.Author.Needs.{needs}
+use native.Mathlib.Omega.{arith}
+use Rattle.judge.proofs.expressions.arguments.Reads as arguments
+use Rattle.judge.proofs.expressions.+arguments+bind+branch+call+over_one+over_two+type_at.Lts-arguments as lts
+use Rattle.judge.proofs.expressions.+arguments+bind+branch+call+over_one+over_two+type_at.Proof.Setup.{arguments-claims, arguments-at}
+
+pub returns : (t : ℕ) → lts.Need-returns (arguments-claims t) (arguments-at t) arguments.Post
+returns t c = end-judged (c .if1 .taken)
+
+pub link-requires :
+    (t : ℕ) → lts.Need-link-requires (arguments-claims t) (arguments-at t) arguments.Post
+link-requires t c κs = (c .before .before .before .pre .1 .long, args-inside (c .before .before .before .pre .1) (c .before .if1 .left), omega arith)
+
+pub link-requires-2 :
+    (t : ℕ) → lts.Need-link-requires-2 (arguments-claims t) (arguments-at t) arguments.Post
+link-requires-2 t c κs = (c .before .before .before .before .before .pre .1 .long, args-inside (c .before .before .before .before .before .pre .1) (c .before .before .before .if1 .left), omega arith)
+
+pub wanted-requires :
+    (t : ℕ) → lts.Need-wanted-requires (arguments-claims t) (arguments-at t) arguments.Post
+wanted-requires t c κs = (c .before .before .before .before .before .before .before .pre .1 .long, args-rowed (c .before .before .before .before .before .before .before .pre .1) (c .before .before .before .before .before .if1 .left))
+
+pub type-at-requires :
+    (t : ℕ) → lts.Need-type-at-requires (arguments-claims t) (arguments-at t) arguments.Post
+type-at-requires t c κs = let q = args-first (c .before .before .before .before .before .before .before .before .before .pre .1) (c .before .before .before .before .before .before .before .if1 .left) (c .before .before .before .before .before .link .ensures) in (omega (arith, q .0, c .before .before .before .before .before .before .before .before .before .pre .0), q .1)
+
+pub enum-known-first :
+    (t : ℕ) → lts.Need-enum-known-first (arguments-claims t) (arguments-at t) arguments.Post
+enum-known-first t c = search needs
+
+pub enum-known-first-2 :
+    (t : ℕ) → lts.Need-enum-known-first-2 (arguments-claims t) (arguments-at t) arguments.Post
+enum-known-first-2 t c = search needs
+
+pub still-requires :
+    (t : ℕ) → lts.Need-still-requires (arguments-claims t) (arguments-at t) arguments.Post
+still-requires t c κs = tt
+
+pub add-arguments :
+    (t : ℕ) → lts.Need-add-arguments (arguments-claims t) (arguments-at t) arguments.Post
+add-arguments t c = omega (arith, c .before .before .before .before .before .before .before .before .before .before .before .before .before .before .before .before .before .pre .1 .few)
+
+pub arguments-requires :
+    (t : ℕ) → lts.Need-arguments-requires (arguments-claims t) (arguments-at t) arguments.Post
+arguments-requires t c κs = let q = args-next (c .before .before .before .before .before .before .before .before .before .before .before .before .before .before .before .before .before .pre .1) (c .before .before .before .before .before .before .before .before .before .before .before .before .before .before .before .if1 .left) (c .before .before .before .before .before .before .before .type-at .ensures .kept) (c .before .before .before .before .before .before .before .before .before .before .before .link2 .ensures) in (omega (arith, q .0, c .before .before .before .before .before .before .before .before .before .before .before .before .before .before .before .before .before .pre .0), q .1)
+
+pub same-length :
+    (t : ℕ) → lts.Need-same-length (arguments-claims t) (arguments-at t) arguments.Post
+same-length t c = c .before .before .before .before .before .type-at .ensures .kept .long
+
+pub returns-2 : (t : ℕ) → lts.Need-returns-2 (arguments-claims t) (arguments-at t) arguments.Post
+returns-2 t c = stop-judged (c .before .before .before .before .before .before .before .before .before .before .before .before .before .before .before .pre .1) (c .before .before .before .before .before .before .before .before .before .before .before .before .before .if1 .left) (c .before .before .before .before .before .before .before .before .before .before .before .link .ensures) (c .before .before .before .before .before .type-at .ensures) (c .before .first .given .1)
+
+pub same-length-2 :
+    (t : ℕ) → lts.Need-same-length-2 (arguments-claims t) (arguments-at t) arguments.Post
+same-length-2 t c = c .before .before .arguments .ensures .kept .long ∙ c .before .before .before .before .before .before .before .before .before .before .type-at .ensures .kept .long
+
+pub returns-3 : (t : ℕ) → lts.Need-returns-3 (arguments-claims t) (arguments-at t) arguments.Post
+returns-3 t c = more-judged (c .before .before .before .before .before .before .before .before .before .before .before .before .before .before .before .before .before .before .before .before .pre .1) (c .before .before .before .before .before .before .before .before .before .before .before .before .before .before .before .before .before .before .if1 .left) (c .before .before .before .before .before .before .before .before .before .before .before .before .before .before .before .before .link .ensures) (c .before .before .before .before .before .before .before .before .before .before .type-at .ensures) (c .before .before .before .before .before .before .first2 .given .1) (c .before .before .before .before .before .before .before .before .before .before .before .before .wanted .ensures) (c .before .before .before .before .before .before .before .before .before .before .before .before .before .before .link2 .ensures) (c .before .before .before .before .still .ensures) (c .before .before .arguments .ensures)

@@ -1,0 +1,49 @@
+-- What the borrow checker leaves of `call`.
+use Rattle.judge.proofs.ReadyLaws.{called-number, ready-inside, ready-called, ready-headed, ready-args}
+use Rattle.judge.proofs.JudgeLaws.{arguments-judged, callee-ready, call-judged}
+use Prim.Native.Nat.{ℕ}
+use borrow.Author.Needs.{needs}
+use native.Mathlib.Omega.{arith}
+use Rattle.judge.proofs.expressions.call.Reads as call
+use Rattle.judge.proofs.expressions.+arguments+bind+branch+call+over_one+over_two+type_at.Lts-call as lts
+use Rattle.judge.proofs.expressions.+arguments+bind+branch+call+over_one+over_two+type_at.Proof.Setup.{call-claims, call-at}
+
+pub word-requires : (t : ℕ) → lts.Need-word-requires (call-claims t) (call-at t) call.Post
+word-requires t c κs = (c .before .before .pre .1 .0 .long, ready-inside (c .before .before .pre .1 .0), omega arith)
+
+pub link-requires : (t : ℕ) → lts.Need-link-requires (call-claims t) (call-at t) call.Post
+link-requires t c κs = (c .before .before .before .before .pre .1 .0 .long, ready-inside (c .before .before .before .before .pre .1 .0), omega arith)
+
+pub value-requires : (t : ℕ) → lts.Need-value-requires (call-claims t) (call-at t) call.Post
+value-requires t c κs = let h = ready-called (c .before .before .before .before .before .before .pre .1 .0) (c .before .before .before .before .before .before .pre .1 .1) in (c .before .before .before .before .before .before .pre .1 .0 .long, omega (arith, c .before .link .ensures))
+
+pub called-requires : (t : ℕ) → lts.Need-called-requires (call-claims t) (call-at t) call.Post
+called-requires t c κs = (c .before .before .before .before .before .before .before .before .pre .1 .0 .long, ready-headed (c .before .before .before .before .before .before .before .before .pre .1 .0))
+
+pub link-requires-2 : (t : ℕ) → lts.Need-link-requires-2 (call-claims t) (call-at t) call.Post
+link-requires-2 t c κs = (c .before .before .before .before .before .before .before .before .before .before .pre .1 .0 .long, ready-inside (c .before .before .before .before .before .before .before .before .before .before .pre .1 .0), omega arith)
+
+pub arguments-requires : (t : ℕ) → lts.Need-arguments-requires (call-claims t) (call-at t) call.Post
+arguments-requires t c κs = let q = ready-args (c .before .before .before .before .before .before .before .before .before .before .before .before .pre .1 .0) (c .before .before .before .before .before .before .before .before .before .before .before .before .pre .1 .1) (called-number (c .before .before .before .before .before .before .before .before .before .before .before .before .pre .1 .0) (c .before .before .before .before .before .before .before .link .ensures) (c .before .before .before .before .before .value .ensures)) (c .before .before .before .called .ensures) (c .before .link2 .ensures) in (omega (arith, q .0, c .before .before .before .before .before .before .before .before .before .before .before .before .pre .0), q .1)
+
+pub enum-known-passed : (t : ℕ) → lts.Need-enum-known-passed (call-claims t) (call-at t) call.Post
+enum-known-passed t c = search needs
+
+pub enum-known-passed-2 :
+    (t : ℕ) → lts.Need-enum-known-passed-2 (call-claims t) (call-at t) call.Post
+enum-known-passed-2 t c = search needs
+
+pub call-requires : (t : ℕ) → lts.Need-call-requires (call-claims t) (call-at t) call.Post
+call-requires t c κs = callee-ready (c .before .before .before .before .before .before .before .before .before .before .before .before .before .before .before .before .before .before .before .pre .1 .0) (c .before .before .before .before .before .before .before .before .before .before .before .before .before .before .before .before .before .before .before .pre .1 .1) (called-number (c .before .before .before .before .before .before .before .before .before .before .before .before .before .before .before .before .before .before .before .pre .1 .0) (c .before .before .before .before .before .before .before .before .before .before .before .before .before .before .link .ensures) (c .before .before .before .before .before .before .before .before .before .before .before .before .value .ensures)) (c .before .before .before .before .before .before .before .before .before .before .called .ensures) (c .before .before .before .before .before .before .before .before .link2 .ensures) (c .before .before .before .before .before .before .arguments .ensures)
+
+pub same-length : (t : ℕ) → lts.Need-same-length (call-claims t) (call-at t) call.Post
+same-length t c = c .before .before .before .before .before .arguments .ensures .kept .long
+
+pub returns : (t : ℕ) → lts.Need-returns (call-claims t) (call-at t) call.Post
+returns t c = arguments-judged (c .before .before .before .before .before .before .before .before .before .before .before .before .before .before .before .before .before .before .pre .1 .0) (c .before .before .before .before .before .before .before .before .before .before .before .before .before .before .before .before .before .before .pre .1 .1) (called-number (c .before .before .before .before .before .before .before .before .before .before .before .before .before .before .before .before .before .before .pre .1 .0) (c .before .before .before .before .before .before .before .before .before .before .before .before .before .link .ensures) (c .before .before .before .before .before .before .before .before .before .before .before .value .ensures)) (c .before .before .before .before .before .before .before .before .before .called .ensures) (c .before .before .before .before .before .before .before .link2 .ensures) (c .before .before .before .before .before .arguments .ensures) (c .before .passed .given .1)
+
+pub same-length-2 : (t : ℕ) → lts.Need-same-length-2 (call-claims t) (call-at t) call.Post
+same-length-2 t c = c .before .before .before .before .before .before .before .arguments .ensures .kept .long
+
+pub returns-2 : (t : ℕ) → lts.Need-returns-2 (call-claims t) (call-at t) call.Post
+returns-2 t c = call-judged (c .before .before .before .before .before .before .before .before .before .before .before .before .before .before .before .before .before .before .before .before .pre .1 .0) (c .before .before .before .before .before .before .before .before .before .before .before .before .before .before .before .before .before .before .before .before .pre .1 .1) (called-number (c .before .before .before .before .before .before .before .before .before .before .before .before .before .before .before .before .before .before .before .before .pre .1 .0) (c .before .before .before .before .before .before .before .before .before .before .before .before .before .before .before .link .ensures) (c .before .before .before .before .before .before .before .before .before .before .before .before .before .value .ensures)) (c .before .before .before .before .before .before .before .before .before .before .before .called .ensures) (c .before .before .before .before .before .before .before .before .before .link2 .ensures) (c .before .before .before .before .before .before .before .arguments .ensures) (c .before .before .before .passed2 .given .1) (c .before .before .before .before .before .before .before .before .before .before .before .before .before .before .before .before .before .word .ensures) (c .call .ensures)

@@ -1,0 +1,50 @@
+-- What the borrow checker leaves of `over-one`.
+use Rattle.judge.proofs.KeptLaws.{kept-self}
+use Rattle.judge.proofs.ReadyLaws.{ready-inside, ready-first}
+use Rattle.judge.proofs.JudgeLaws.{first-judged, one-judged}
+use Prim.Native.Nat.{ℕ}
+use borrow.Author.Needs.{needs}
+use native.Mathlib.Omega.{arith}
+use Rattle.judge.proofs.expressions.over_one.Reads as over-one
+use Rattle.judge.proofs.expressions.+arguments+bind+branch+call+over_one+over_two+type_at.Lts-over_one as lts
+use Rattle.judge.proofs.expressions.+arguments+bind+branch+call+over_one+over_two+type_at.Proof.Setup.{over-one-claims, over-one-at}
+
+pub word-requires :
+    (t : ℕ) → lts.Need-word-requires (over-one-claims t) (over-one-at t) over-one.Post
+word-requires t c κs = (c .before .before .pre .1 .0 .long, ready-inside (c .before .before .pre .1 .0), omega arith)
+
+pub word-requires-2 :
+    (t : ℕ) → lts.Need-word-requires-2 (over-one-claims t) (over-one-at t) over-one.Post
+word-requires-2 t c κs = (c .before .before .before .before .pre .1 .0 .long, ready-inside (c .before .before .before .before .pre .1 .0), omega arith)
+
+pub link-requires :
+    (t : ℕ) → lts.Need-link-requires (over-one-claims t) (over-one-at t) over-one.Post
+link-requires t c κs = (c .before .before .before .before .before .before .pre .1 .0 .long, ready-inside (c .before .before .before .before .before .before .pre .1 .0), omega arith)
+
+pub type-at-requires :
+    (t : ℕ) → lts.Need-type-at-requires (over-one-claims t) (over-one-at t) over-one.Post
+type-at-requires t c κs = let q = ready-first (c .before .before .before .before .before .before .before .before .pre .1 .0) (kept-self _ _) (c .before .before .before .before .before .before .before .before .pre .1 .1) (omega arith) (c .before .link .ensures) in (omega (arith, q .0, c .before .before .before .before .before .before .before .before .pre .0), q .1)
+
+pub enum-known-inside :
+    (t : ℕ) → lts.Need-enum-known-inside (over-one-claims t) (over-one-at t) over-one.Post
+enum-known-inside t c = search needs
+
+pub enum-known-inside-2 :
+    (t : ℕ) → lts.Need-enum-known-inside-2 (over-one-claims t) (over-one-at t) over-one.Post
+enum-known-inside-2 t c = search needs
+
+pub one-requires : (t : ℕ) → lts.Need-one-requires (over-one-claims t) (over-one-at t) over-one.Post
+one-requires t c κs = tt
+
+pub same-length : (t : ℕ) → lts.Need-same-length (over-one-claims t) (over-one-at t) over-one.Post
+same-length t c = c .before .before .before .before .before .type-at .ensures .kept .long
+
+pub returns : (t : ℕ) → lts.Need-returns (over-one-claims t) (over-one-at t) over-one.Post
+returns t c = first-judged (c .before .before .before .before .before .before .before .before .before .before .before .before .before .before .pre .1 .0) (c .before .before .before .before .before .before .before .link .ensures) (c .before .before .before .before .before .type-at .ensures) (c .before .before .before .before .before .before .before .before .before .before .before .before .before .before .pre .1 .1) (omega arith) (c .before .inside .given .1)
+
+pub same-length-2 :
+    (t : ℕ) → lts.Need-same-length-2 (over-one-claims t) (over-one-at t) over-one.Post
+same-length-2 t c = c .before .before .before .before .before .before .type-at .ensures .kept .long
+
+pub returns-2 : (t : ℕ) → lts.Need-returns-2 (over-one-claims t) (over-one-at t) over-one.Post
+returns-2 t c = one-judged (c .before .before .before .before .before .before .before .before .before .before .before .before .before .before .before .pre .1 .0) (c .before .before .before .before .before .before .before .before .link .ensures) (c .before .before .before .before .before .before .type-at .ensures) (c .before .before .inside2 .given .1) (c .before .before .before .before .before .before .before .before .before .before .before .before .before .before .before .pre .1 .1) (c .before .before .before .before .before .before .before .before .before .before .before .before .word .ensures) (c .before .before .before .before .before .before .before .before .before .before .word2 .ensures) (c .one .ensures)

@@ -1,0 +1,74 @@
+-- What the borrow checker leaves of `over-two`.
+use mathlib.Core.Path.{_∙_}
+use Rattle.judge.proofs.KeptLaws.{kept-self}
+use Rattle.judge.proofs.ReadyLaws.{ready-inside, ready-first, ready-second}
+use Rattle.judge.proofs.JudgeLaws.{first-judged, second-judged, two-judged}
+use Prim.Native.Nat.{ℕ}
+use borrow.Author.Needs.{needs}
+use native.Mathlib.Omega.{arith}
+use Rattle.judge.proofs.expressions.over_two.Reads as over-two
+use Rattle.judge.proofs.expressions.+arguments+bind+branch+call+over_one+over_two+type_at.Lts-over_two as lts
+use Rattle.judge.proofs.expressions.+arguments+bind+branch+call+over_one+over_two+type_at.Proof.Setup.{over-two-claims, over-two-at}
+
+pub word-requires :
+    (t : ℕ) → lts.Need-word-requires (over-two-claims t) (over-two-at t) over-two.Post
+word-requires t c κs = (c .before .before .pre .1 .0 .long, ready-inside (c .before .before .pre .1 .0), omega arith)
+
+pub word-requires-2 :
+    (t : ℕ) → lts.Need-word-requires-2 (over-two-claims t) (over-two-at t) over-two.Post
+word-requires-2 t c κs = (c .before .before .before .before .pre .1 .0 .long, ready-inside (c .before .before .before .before .pre .1 .0), omega arith)
+
+pub link-requires :
+    (t : ℕ) → lts.Need-link-requires (over-two-claims t) (over-two-at t) over-two.Post
+link-requires t c κs = (c .before .before .before .before .before .before .pre .1 .0 .long, ready-inside (c .before .before .before .before .before .before .pre .1 .0), omega arith)
+
+pub link-requires-2 :
+    (t : ℕ) → lts.Need-link-requires-2 (over-two-claims t) (over-two-at t) over-two.Post
+link-requires-2 t c κs = (c .before .before .before .before .before .before .before .before .pre .1 .0 .long, ready-inside (c .before .before .before .before .before .before .before .before .pre .1 .0), omega arith)
+
+pub type-at-requires :
+    (t : ℕ) → lts.Need-type-at-requires (over-two-claims t) (over-two-at t) over-two.Post
+type-at-requires t c κs = let q = ready-first (c .before .before .before .before .before .before .before .before .before .before .pre .1 .0) (kept-self _ _) (c .before .before .before .before .before .before .before .before .before .before .pre .1 .1) (omega arith) (c .before .before .before .link .ensures) in (omega (arith, q .0, c .before .before .before .before .before .before .before .before .before .before .pre .0), q .1)
+
+pub enum-known-first :
+    (t : ℕ) → lts.Need-enum-known-first (over-two-claims t) (over-two-at t) over-two.Post
+enum-known-first t c = search needs
+
+pub enum-known-first-2 :
+    (t : ℕ) → lts.Need-enum-known-first-2 (over-two-claims t) (over-two-at t) over-two.Post
+enum-known-first-2 t c = search needs
+
+pub type-at-requires-2 :
+    (t : ℕ) → lts.Need-type-at-requires-2 (over-two-claims t) (over-two-at t) over-two.Post
+type-at-requires-2 t c κs = let q = ready-second (c .before .before .before .before .before .before .before .before .before .before .before .before .before .before .before .before .before .pre .1 .0) (c .before .before .before .before .before .before .type-at .ensures .kept) (c .before .before .before .before .before .before .before .before .before .before .before .before .before .before .before .before .before .pre .1 .1) (omega arith) (c .before .before .before .before .before .before .before .before .link2 .ensures) in (omega (arith, q .0, c .before .before .before .before .before .before .before .before .before .before .before .before .before .before .before .before .before .pre .0), q .1)
+
+pub enum-known-second :
+    (t : ℕ) → lts.Need-enum-known-second (over-two-claims t) (over-two-at t) over-two.Post
+enum-known-second t c = search needs
+
+pub enum-known-second-2 :
+    (t : ℕ) → lts.Need-enum-known-second-2 (over-two-claims t) (over-two-at t) over-two.Post
+enum-known-second-2 t c = search needs
+
+pub two-requires : (t : ℕ) → lts.Need-two-requires (over-two-claims t) (over-two-at t) over-two.Post
+two-requires t c κs = tt
+
+pub same-length : (t : ℕ) → lts.Need-same-length (over-two-claims t) (over-two-at t) over-two.Post
+same-length t c = c .before .before .before .before .before .type-at .ensures .kept .long
+
+pub returns : (t : ℕ) → lts.Need-returns (over-two-claims t) (over-two-at t) over-two.Post
+returns t c = first-judged (c .before .before .before .before .before .before .before .before .before .before .before .before .before .before .before .before .pre .1 .0) (c .before .before .before .before .before .before .before .before .before .link .ensures) (c .before .before .before .before .before .type-at .ensures) (c .before .before .before .before .before .before .before .before .before .before .before .before .before .before .before .before .pre .1 .1) (omega arith) (c .before .first .given .1)
+
+pub same-length-2 :
+    (t : ℕ) → lts.Need-same-length-2 (over-two-claims t) (over-two-at t) over-two.Post
+same-length-2 t c = c .before .before .before .before .before .type-at2 .ensures .kept .long ∙ c .before .before .before .before .before .before .before .before .before .before .before .before .type-at .ensures .kept .long
+
+pub returns-2 : (t : ℕ) → lts.Need-returns-2 (over-two-claims t) (over-two-at t) over-two.Post
+returns-2 t c = second-judged (c .before .before .before .before .before .before .before .before .before .before .before .before .before .before .before .before .before .before .before .before .before .before .before .pre .1 .0) (c .before .before .before .before .before .before .before .before .before .before .before .before .before .before .before .before .link .ensures) (c .before .before .before .before .before .before .before .before .before .before .before .before .type-at .ensures) (c .before .before .before .before .before .before .before .before .first2 .given .1) (c .before .before .before .before .before .before .before .before .before .before .before .before .before .before .link2 .ensures) (c .before .before .before .before .before .type-at2 .ensures) (c .before .before .before .before .before .before .before .before .before .before .before .before .before .before .before .before .before .before .before .before .before .before .before .pre .1 .1) (c .before .before .before .before .before .before .before .before .before .before .before .before .before .before .before .before .before .before .before .before .before .before .before .pre .1 .2) (c .before .second .given .1)
+
+pub same-length-3 :
+    (t : ℕ) → lts.Need-same-length-3 (over-two-claims t) (over-two-at t) over-two.Post
+same-length-3 t c = c .before .before .before .before .before .before .type-at2 .ensures .kept .long ∙ c .before .before .before .before .before .before .before .before .before .before .before .before .before .type-at .ensures .kept .long
+
+pub returns-3 : (t : ℕ) → lts.Need-returns-3 (over-two-claims t) (over-two-at t) over-two.Post
+returns-3 t c = two-judged (c .before .before .before .before .before .before .before .before .before .before .before .before .before .before .before .before .before .before .before .before .before .before .before .before .pre .1 .0) (c .before .before .before .before .before .before .before .before .before .before .before .before .before .before .before .before .before .link .ensures) (c .before .before .before .before .before .before .before .before .before .before .before .before .before .type-at .ensures) (c .before .before .before .before .before .before .before .before .before .first2 .given .1) (c .before .before .before .before .before .before .before .before .before .before .before .before .before .before .before .link2 .ensures) (c .before .before .before .before .before .before .type-at2 .ensures) (c .before .before .before .before .before .before .before .before .before .before .before .before .before .before .before .before .before .before .before .before .before .before .before .before .pre .1 .1) (c .before .before .before .before .before .before .before .before .before .before .before .before .before .before .before .before .before .before .before .before .before .before .before .before .pre .1 .2) (c .before .before .second2 .given .1) (c .before .before .before .before .before .before .before .before .before .before .before .before .before .before .before .before .before .before .before .before .before .word .ensures) (c .before .before .before .before .before .before .before .before .before .before .before .before .before .before .before .before .before .before .before .word2 .ensures) (c .two .ensures)

@@ -1,0 +1,84 @@
+-- What the borrow checker leaves of `type-at`.
+use mathlib.Core.Path.{refl, sym, _∙_}
+use Rattle.rules.proofs.ShapeLaws.{children-as, children-rest}
+use Rattle.judge.proofs.ReadyLaws.{ready-inside, ready-name, ready-binds}
+use Rattle.judge.proofs.JudgeLaws.{name-judged, constant-judged}
+use Prim.Native.Nat.{ℕ}
+use native.Mathlib.Omega.{arith}
+use Rattle.judge.proofs.expressions.type_at.Reads as type-at
+use Rattle.judge.proofs.expressions.+arguments+bind+branch+call+over_one+over_two+type_at.Lts-type_at as lts
+use Rattle.judge.proofs.expressions.+arguments+bind+branch+call+over_one+over_two+type_at.Proof.Setup.{type-at-claims, type-at-at}
+
+pub word-requires : (t : ℕ) → lts.Need-word-requires (type-at-claims t) (type-at-at t) type-at.Post
+word-requires t c κs = (c .before .before .pre .1 .long, ready-inside (c .before .before .pre .1), omega arith)
+
+pub name-requires : (t : ℕ) → lts.Need-name-requires (type-at-claims t) (type-at-at t) type-at.Post
+name-requires t c κs = let h = ready-name (c .before .before .before .before .before .pre .1) (sym (c .before .before .word .ensures) ∙ c .before .if1 .taken) in let b = ready-binds (c .before .before .before .before .before .pre .1) in (c .before .before .before .before .before .pre .1 .long, ready-inside (c .before .before .before .before .before .pre .1), h, omega arith)
+
+pub same-length : (t : ℕ) → lts.Need-same-length (type-at-claims t) (type-at-at t) type-at.Post
+same-length t c = refl
+
+pub returns : (t : ℕ) → lts.Need-returns (type-at-claims t) (type-at-at t) type-at.Post
+returns t c = name-judged (c .before .before .before .before .before .before .pre .1) (sym (c .before .before .before .word .ensures) ∙ c .before .before .if1 .taken) (c .name .ensures)
+
+pub call-requires : (t : ℕ) → lts.Need-call-requires (type-at-claims t) (type-at-at t) type-at.Post
+call-requires t c κs = (omega (arith, c .before .before .before .before .before .before .pre .0), (c .before .before .before .before .before .before .pre .1, sym (c .before .before .before .word .ensures) ∙ c .before .if2 .taken))
+
+pub same-length-2 : (t : ℕ) → lts.Need-same-length-2 (type-at-claims t) (type-at-at t) type-at.Post
+same-length-2 t c = c .before .before .call .ensures .kept .long
+
+pub returns-2 : (t : ℕ) → lts.Need-returns-2 (type-at-claims t) (type-at-at t) type-at.Post
+returns-2 t c = c .before .before .call .ensures
+
+pub bind-requires : (t : ℕ) → lts.Need-bind-requires (type-at-claims t) (type-at-at t) type-at.Post
+bind-requires t c κs = (omega (arith, c .before .before .before .before .before .before .before .pre .0), (c .before .before .before .before .before .before .before .pre .1, sym (c .before .before .before .before .word .ensures) ∙ c .before .if3 .taken))
+
+pub same-length-3 : (t : ℕ) → lts.Need-same-length-3 (type-at-claims t) (type-at-at t) type-at.Post
+same-length-3 t c = c .before .before .bind .ensures .kept .long
+
+pub returns-3 : (t : ℕ) → lts.Need-returns-3 (type-at-claims t) (type-at-at t) type-at.Post
+returns-3 t c = c .before .before .bind .ensures
+
+pub children-requires :
+    (t : ℕ) → lts.Need-children-requires (type-at-claims t) (type-at-at t) type-at.Post
+children-requires t c κs = tt
+
+pub constant-requires :
+    (t : ℕ) → lts.Need-constant-requires (type-at-claims t) (type-at-at t) type-at.Post
+constant-requires t c κs = tt
+
+pub same-length-4 : (t : ℕ) → lts.Need-same-length-4 (type-at-claims t) (type-at-at t) type-at.Post
+same-length-4 t c = refl
+
+pub returns-4 : (t : ℕ) → lts.Need-returns-4 (type-at-claims t) (type-at-at t) type-at.Post
+returns-4 t c = constant-judged (c .before .before .before .before .before .before .before .before .before .pre .1) (c .before .before .before .before .before .before .word .ensures) (c .before .before .before .before .before .if1 .left) (c .before .before .before .before .if2 .left) (c .before .before .children .ensures) (c .before .if4 .taken) (c .constant .ensures)
+
+pub over-one-requires :
+    (t : ℕ) → lts.Need-over-one-requires (type-at-claims t) (type-at-at t) type-at.Post
+over-one-requires t c κs = (omega (arith, c .before .before .before .before .before .before .before .before .before .before .pre .0), (c .before .before .before .before .before .before .before .before .before .before .pre .1, children-as (c .before .before .before .before .before .before .before .word .ensures) (c .before .if5 .taken) (c .before .before .before .children .ensures)))
+
+pub same-length-5 : (t : ℕ) → lts.Need-same-length-5 (type-at-claims t) (type-at-at t) type-at.Post
+same-length-5 t c = c .before .before .over-one .ensures .kept .long
+
+pub returns-5 : (t : ℕ) → lts.Need-returns-5 (type-at-claims t) (type-at-at t) type-at.Post
+returns-5 t c = c .before .before .over-one .ensures
+
+pub over-two-requires :
+    (t : ℕ) → lts.Need-over-two-requires (type-at-claims t) (type-at-at t) type-at.Post
+over-two-requires t c κs = (omega (arith, c .before .before .before .before .before .before .before .before .before .before .before .pre .0), (c .before .before .before .before .before .before .before .before .before .before .before .pre .1, children-as (c .before .before .before .before .before .before .before .before .word .ensures) (c .before .if6 .taken) (c .before .before .before .before .children .ensures), λ e. c .before .before .before .before .before .if3 .left ((c .before .before .before .before .before .before .before .before .word .ensures) ∙ e)))
+
+pub same-length-6 : (t : ℕ) → lts.Need-same-length-6 (type-at-claims t) (type-at-at t) type-at.Post
+same-length-6 t c = c .before .before .over-two .ensures .kept .long
+
+pub returns-6 : (t : ℕ) → lts.Need-returns-6 (type-at-claims t) (type-at-at t) type-at.Post
+returns-6 t c = c .before .before .over-two .ensures
+
+pub branch-requires :
+    (t : ℕ) → lts.Need-branch-requires (type-at-claims t) (type-at-at t) type-at.Post
+branch-requires t c κs = (omega (arith, c .before .before .before .before .before .before .before .before .before .before .before .pre .0), (c .before .before .before .before .before .before .before .before .before .before .before .pre .1, children-rest (c .before .before .before .before .before .before .before .before .word .ensures) (c .before .before .before .if4 .left) (c .before .before .if5 .left) (c .before .if6 .left) (c .before .before .before .before .children .ensures)))
+
+pub same-length-7 : (t : ℕ) → lts.Need-same-length-7 (type-at-claims t) (type-at-at t) type-at.Post
+same-length-7 t c = c .before .before .branch .ensures .kept .long
+
+pub returns-7 : (t : ℕ) → lts.Need-returns-7 (type-at-claims t) (type-at-at t) type-at.Post
+returns-7 t c = c .before .before .branch .ensures

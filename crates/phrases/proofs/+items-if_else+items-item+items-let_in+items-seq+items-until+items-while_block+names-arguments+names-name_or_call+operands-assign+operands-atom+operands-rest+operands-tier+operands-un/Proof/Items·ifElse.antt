@@ -1,0 +1,121 @@
+-- What the borrow checker leaves of `items·if-else`.
+use mathlib.Core.Path.{refl, _∙_}
+use Prim.Native.Nat.{ℕ}
+use native.Mathlib.Omega.{arith}
+use borrow.Author.Needs.{needs}
+use Rattle.phrases.proofs.items.if_else.Reads as items·if-else
+use Rattle.phrases.proofs.+items-if_else+items-item+items-let_in+items-seq+items-until+items-while_block+names-arguments+names-name_or_call+operands-assign+operands-atom+operands-rest+operands-tier+operands-un.Lts-items-if_else as lts
+use Rattle.phrases.proofs.+items-if_else+items-item+items-let_in+items-seq+items-until+items-while_block+names-arguments+names-name_or_call+operands-assign+operands-atom+operands-rest+operands-tier+operands-un.Proof.Setup.{items·if-else-claims, items·if-else-at}
+use Rattle.phrases.proofs.Moving.{top-fits, later, later-with}
+use Rattle.phrases.proofs.Standing.{within}
+use Rattle.phrases.proofs.Answering.{known}
+use Rattle.phrases.proofs.ItemLaws.{if-none, then-none, if-all}
+
+pub add-until : (t : ℕ) → lts.Need-add-until (items·if-else-claims t) (items·if-else-at t) items·if-else.Post
+add-until t c = let p = c .before .before .pre .1 .0 in omega arith
+
+pub until-requires : (t : ℕ) → lts.Need-until-requires (items·if-else-claims t) (items·if-else-at t) items·if-else.Post
+until-requires t c κs =
+    let p = c .before .before .pre .1 .0 in
+    let i = within _ _ _ _ (c .before .before .pre .1 .1) (omega arith) in
+    later-with p 6 9 (c .before .before .pre .0) refl (omega arith) (omega arith) (omega arith) (omega arith) (omega arith)
+
+pub enum-known-test : (t : ℕ) → lts.Need-enum-known-test (items·if-else-claims t) (items·if-else-at t) items·if-else.Post
+enum-known-test t c = search needs
+
+pub add-until-2 : (t : ℕ) → lts.Need-add-until-2 (items·if-else-claims t) (items·if-else-at t) items·if-else.Post
+add-until-2 t c =
+    let p = c .before .before .before .before .before .before .before .before .before .pre .1 .0 in
+    let o = (known (c .before .before .before .before .before .before .until .ensures) (c .before .before .test .given .1)) .ahead in
+    omega arith
+
+pub until-requires-2 : (t : ℕ) → lts.Need-until-requires-2 (items·if-else-claims t) (items·if-else-at t) items·if-else.Post
+until-requires-2 t c κs =
+    let p = c .before .before .before .before .before .before .before .before .before .pre .1 .0 in
+    let o = (known (c .before .before .before .before .before .before .until .ensures) (c .before .before .test .given .1)) .ahead in
+    later-with p 6 9 (c .before .before .before .before .before .before .before .before .before .pre .0)
+    (c .before .before .before .before .before .before .until .kept .0) (omega arith) (omega arith) (omega arith) (omega arith)
+    (omega arith)
+
+pub enum-known-yes : (t : ℕ) → lts.Need-enum-known-yes (items·if-else-claims t) (items·if-else-at t) items·if-else.Post
+enum-known-yes t c = search needs
+
+pub add-item : (t : ℕ) → lts.Need-add-item (items·if-else-claims t) (items·if-else-at t) items·if-else.Post
+add-item t c =
+    let p = c .before .before .before .before .before .before .before .before .before .before .before .before .before .before .before .before .pre .1 .0 in
+    let q = (known (c .before .before .before .before .before .before .until2 .ensures) (c .before .before .yes .given .1)) .ahead in
+    omega arith
+
+pub item-requires : (t : ℕ) → lts.Need-item-requires (items·if-else-claims t) (items·if-else-at t) items·if-else.Post
+item-requires t c κs =
+    let p = c .before .before .before .before .before .before .before .before .before .before .before .before .before .before .before .before .pre .1 .0 in
+    let o = (known
+    (c .before .before .before .before .before .before .before .before .before .before .before .before .before .until .ensures)
+    (c .before .before .before .before .before .before .before .before .before .test .given .1)) .ahead in
+    let q = (known (c .before .before .before .before .before .before .until2 .ensures) (c .before .before .yes .given .1)) .ahead in
+    later p 6 7
+    (c .before .before .before .before .before .before .before .before .before .before .before .before .before .before .before .before .pre .0)
+    (c .before .before .before .before .before .before .until2 .kept .0
+    ∙ c .before .before .before .before .before .before .before .before .before .before .before .before .before .until .kept .0)
+    (omega arith) (omega arith) (omega arith) (omega arith)
+
+pub choice-requires : (t : ℕ) → lts.Need-choice-requires (items·if-else-claims t) (items·if-else-at t) items·if-else.Post
+choice-requires t c κs =
+    let p = c .before .before .before .before .before .before .before .before .before .before .before .before .before .before .before .before .before .before .before .before .pre .1 .0 in
+    let o = (known
+    (c .before .before .before .before .before .before .before .before .before .before .before .before .before .before .before .before .before .until .ensures)
+    (c .before .before .before .before .before .before .before .before .before .before .before .before .before .test .given .1)) .ahead in
+    let q = (known (c .before .before .before .before .before .before .before .before .before .before .until2 .ensures)
+    (c .before .before .before .before .before .before .yes .given .1)) .ahead in
+    let i = within _ _ _ _
+    (c .before .before .before .before .before .before .before .before .before .before .before .before .before .before .before .before .before .before .before .before .pre .1 .1)
+    (omega arith) in
+    top-fits p _ (c .before .before .before .item .ensures) (omega arith) (omega arith)
+    (c .before .before .before .item .kept .0
+    ∙ c .before .before .before .before .before .before .before .before .before .before .until2 .kept .0
+    ∙ c .before .before .before .before .before .before .before .before .before .before .before .before .before .before .before .before .before .until .kept .0)
+    i
+
+pub enum-known-yes-2 : (t : ℕ) → lts.Need-enum-known-yes-2 (items·if-else-claims t) (items·if-else-at t) items·if-else.Post
+enum-known-yes-2 t c = search needs
+
+pub enum-known-test-2 : (t : ℕ) → lts.Need-enum-known-test-2 (items·if-else-claims t) (items·if-else-at t) items·if-else.Post
+enum-known-test-2 t c = search needs
+
+pub same-length : (t : ℕ) → lts.Need-same-length (items·if-else-claims t) (items·if-else-at t) items·if-else.Post
+same-length t c =
+    c .before .before .choice .kept .0 ∙ c .before .before .before .before .before .before .item .kept .0
+    ∙ c .before .before .before .before .before .before .before .before .before .before .before .before .before .until2 .kept .0
+    ∙ c .before .before .before .before .before .before .before .before .before .before .before .before .before .before .before .before .before .before .before .before .until .kept .0
+
+pub returns : (t : ℕ) → lts.Need-returns (items·if-else-claims t) (items·if-else-at t) items·if-else.Post
+returns t c =
+    if-all
+    (c .before .before .before .before .before .before .before .before .before .before .before .before .before .before .before .before .before .before .before .before .before .before .before .pre .1 .1)
+    (known
+    (c .before .before .before .before .before .before .before .before .before .before .before .before .before .before .before .before .before .before .before .before .until .ensures)
+    (c .before .before .before .before .before .before .before .before .before .before .before .before .before .before .before .before .test .given .1))
+    (known (c .before .before .before .before .before .before .before .before .before .before .before .before .before .until2 .ensures)
+    (c .before .before .before .before .before .before .before .before .before .yes .given .1))
+    (c .before .before .before .before .before .before .item .ensures) (c .before .before .choice .ensures)
+
+pub same-length-2 : (t : ℕ) → lts.Need-same-length-2 (items·if-else-claims t) (items·if-else-at t) items·if-else.Post
+same-length-2 t c =
+    c .before .before .before .before .before .until2 .kept .0
+    ∙ c .before .before .before .before .before .before .before .before .before .before .before .before .until .kept .0
+
+pub returns-2 : (t : ℕ) → lts.Need-returns-2 (items·if-else-claims t) (items·if-else-at t) items·if-else.Post
+returns-2 t c =
+    then-none
+    (c .before .before .before .before .before .before .before .before .before .before .before .before .before .before .before .pre .1 .1)
+    (known (c .before .before .before .before .before .before .before .before .before .before .before .before .until .ensures)
+    (c .before .before .before .before .before .before .before .before .test .given .1))
+    (known (c .before .before .before .before .before .until2 .ensures) (c .before .yes2 .given .1))
+
+pub same-length-3 : (t : ℕ) → lts.Need-same-length-3 (items·if-else-claims t) (items·if-else-at t) items·if-else.Post
+same-length-3 t c = c .before .before .before .before .before .until .kept .0
+
+pub returns-3 : (t : ℕ) → lts.Need-returns-3 (items·if-else-claims t) (items·if-else-at t) items·if-else.Post
+returns-3 t c =
+    if-none (c .before .before .before .before .before .before .before .before .pre .1 .1)
+    (known (c .before .before .before .before .before .until .ensures) (c .before .test2 .given .1))

@@ -1,0 +1,96 @@
+-- What the borrow checker leaves of `names·name-or-call`.
+use mathlib.Core.Path.{refl, sym, _∙_}
+use Prim.Native.Nat.{ℕ}
+use native.Mathlib.Omega.{arith}
+use Rattle.phrases.proofs.names.name_or_call.Reads as names·name-or-call
+use Rattle.phrases.proofs.+items-if_else+items-item+items-let_in+items-seq+items-until+items-while_block+names-arguments+names-name_or_call+operands-assign+operands-atom+operands-rest+operands-tier+operands-un.Lts-names-name_or_call as lts
+use Rattle.phrases.proofs.+items-if_else+items-item+items-let_in+items-seq+items-until+items-while_block+names-arguments+names-name_or_call+operands-assign+operands-atom+operands-rest+operands-tier+operands-un.Proof.Setup.{names·name-or-call-claims, names·name-or-call-at}
+use Rattle.phrases.proofs.Moving.{ask, node-fits, call-fits, later-with}
+use Rattle.phrases.proofs.Standing.{within}
+use Rattle.phrases.proofs.CallLaws.{just-name, call-none, call-some}
+
+pub add-kind : (t : ℕ) → lts.Need-add-kind (names·name-or-call-claims t) (names·name-or-call-at t) names·name-or-call.Post
+add-kind t c = let p = c .before .before .pre .1 .0 in omega arith
+
+pub kind-requires : (t : ℕ) → lts.Need-kind-requires (names·name-or-call-claims t) (names·name-or-call-at t) names·name-or-call.Post
+kind-requires t c κs = ask (c .before .before .pre .1 .0) refl
+
+pub add-node : (t : ℕ) → lts.Need-add-node (names·name-or-call-claims t) (names·name-or-call-at t) names·name-or-call.Post
+add-node t c = let p = c .before .before .before .before .before .pre .1 .0 in omega arith
+
+pub node-requires : (t : ℕ) → lts.Need-node-requires (names·name-or-call-claims t) (names·name-or-call-at t) names·name-or-call.Post
+node-requires t c κs =
+    let p = c .before .before .before .before .before .pre .1 .0 in
+    let i = within _ _ _ _ (c .before .before .before .before .before .pre .1 .1) (omega arith) in
+    node-fits p refl i (omega arith)
+
+pub same-length : (t : ℕ) → lts.Need-same-length (names·name-or-call-claims t) (names·name-or-call-at t) names·name-or-call.Post
+same-length t c = c .before .before .node .kept .0
+
+pub returns : (t : ℕ) → lts.Need-returns (names·name-or-call-claims t) (names·name-or-call-at t) names·name-or-call.Post
+returns t c =
+    let i = within _ _ _ _ (c .before .before .before .before .before .before .before .before .pre .1 .1) (omega arith) in
+    just-name (c .before .before .before .before .before .before .before .before .pre .1 .1)
+    (λ e. c .before .before .before .before .if1 .taken (c .before .before .before .before .before .kind .ensures ∙ e)) i
+    (c .before .before .node .ensures)
+
+pub add-kind-2 : (t : ℕ) → lts.Need-add-kind-2 (names·name-or-call-claims t) (names·name-or-call-at t) names·name-or-call.Post
+add-kind-2 t c = let p = c .before .before .before .before .before .pre .1 .0 in omega arith
+
+pub kind-requires-2 : (t : ℕ) → lts.Need-kind-requires-2 (names·name-or-call-claims t) (names·name-or-call-at t) names·name-or-call.Post
+kind-requires-2 t c κs = ask (c .before .before .before .before .before .pre .1 .0) refl
+
+pub add-node-2 : (t : ℕ) → lts.Need-add-node-2 (names·name-or-call-claims t) (names·name-or-call-at t) names·name-or-call.Post
+add-node-2 t c = let p = c .before .before .before .before .before .before .before .before .pre .1 .0 in omega arith
+
+pub node-requires-2 : (t : ℕ) → lts.Need-node-requires-2 (names·name-or-call-claims t) (names·name-or-call-at t) names·name-or-call.Post
+node-requires-2 t c κs =
+    let p = c .before .before .before .before .before .before .before .before .pre .1 .0 in
+    let i = within _ _ _ _ (c .before .before .before .before .before .before .before .before .pre .1 .1) (omega arith) in
+    node-fits p refl i (omega arith)
+
+pub same-length-2 : (t : ℕ) → lts.Need-same-length-2 (names·name-or-call-claims t) (names·name-or-call-at t) names·name-or-call.Post
+same-length-2 t c = c .before .before .node2 .kept .0
+
+pub returns-2 : (t : ℕ) → lts.Need-returns-2 (names·name-or-call-claims t) (names·name-or-call-at t) names·name-or-call.Post
+returns-2 t c =
+    let j = within _ _ _ _
+    (sym (c .before .before .before .before .before .kind2 .ensures) ∙ c .before .before .before .before .if2 .taken) (omega arith) in
+    call-none (c .before .before .before .before .before .before .before .before .before .before .before .pre .1 .1)
+    (sym (c .before .before .before .before .before .before .before .before .kind .ensures)
+    ∙ c .before .before .before .before .before .before .before .if1 .left)
+    (sym (c .before .before .before .before .before .kind2 .ensures) ∙ c .before .before .before .before .if2 .taken) j
+    (c .before .before .node2 .ensures)
+
+pub add-arguments : (t : ℕ) → lts.Need-add-arguments (names·name-or-call-claims t) (names·name-or-call-at t) names·name-or-call.Post
+add-arguments t c = let p = c .before .before .before .before .before .before .before .before .pre .1 .0 in omega arith
+
+pub arguments-requires :
+    (t : ℕ) → lts.Need-arguments-requires (names·name-or-call-claims t) (names·name-or-call-at t) names·name-or-call.Post
+arguments-requires t c κs =
+    let p = c .before .before .before .before .before .before .before .before .pre .1 .0 in
+    let i = within _ _ _ _ (c .before .before .before .before .before .before .before .before .pre .1 .1) (omega arith) in
+    let j = within _ _ _ _
+    (sym (c .before .before .before .before .before .kind .ensures) ∙ c .before .before .before .before .if1 .left) (omega arith) in
+    later-with p 1 9 (c .before .before .before .before .before .before .before .before .pre .0) refl (omega arith) (omega arith)
+    (omega arith) (omega arith) i
+
+pub over-requires : (t : ℕ) → lts.Need-over-requires (names·name-or-call-claims t) (names·name-or-call-at t) names·name-or-call.Post
+over-requires t c κs =
+    let p = c .before .before .before .before .before .before .before .before .before .before .before .before .pre .1 .0 in
+    let i = within _ _ _ _
+    (c .before .before .before .before .before .before .before .before .before .before .before .before .pre .1 .1) (omega arith) in
+    call-fits p _ (c .before .before .before .arguments .ensures) (omega arith) (c .before .before .before .arguments .kept .0) i
+
+pub same-length-3 : (t : ℕ) → lts.Need-same-length-3 (names·name-or-call-claims t) (names·name-or-call-at t) names·name-or-call.Post
+same-length-3 t c = c .before .before .over .kept .0 ∙ c .before .before .before .before .before .before .arguments .kept .0
+
+pub returns-3 : (t : ℕ) → lts.Need-returns-3 (names·name-or-call-claims t) (names·name-or-call-at t) names·name-or-call.Post
+returns-3 t c =
+    call-some
+    (c .before .before .before .before .before .before .before .before .before .before .before .before .before .before .before .pre .1 .1)
+    (sym (c .before .before .before .before .before .before .before .before .before .before .before .before .kind .ensures)
+    ∙ c .before .before .before .before .before .before .before .before .before .before .before .if1 .left) _
+    (λ e. c .before .before .before .before .before .before .before .before .if2 .left
+    (c .before .before .before .before .before .before .before .before .before .kind2 .ensures ∙ e))
+    (c .before .before .before .before .before .before .arguments .ensures) (c .before .before .over .ensures)

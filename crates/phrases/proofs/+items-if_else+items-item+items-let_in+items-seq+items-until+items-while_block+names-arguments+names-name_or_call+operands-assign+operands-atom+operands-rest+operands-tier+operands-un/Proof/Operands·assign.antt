@@ -1,0 +1,87 @@
+-- What the borrow checker leaves of `operands·assign`.
+use mathlib.Core.Path.{sym, _∙_}
+use Prim.Native.Nat.{ℕ}
+use native.Mathlib.Omega.{arith}
+use borrow.Author.Needs.{needs}
+use Rattle.phrases.proofs.operands.assign.Reads as operands·assign
+use Rattle.phrases.proofs.+items-if_else+items-item+items-let_in+items-seq+items-until+items-while_block+names-arguments+names-name_or_call+operands-assign+operands-atom+operands-rest+operands-tier+operands-un.Lts-operands-assign as lts
+use Rattle.phrases.proofs.+items-if_else+items-item+items-let_in+items-seq+items-until+items-while_block+names-arguments+names-name_or_call+operands-assign+operands-atom+operands-rest+operands-tier+operands-un.Proof.Setup.{operands·assign-claims, operands·assign-at}
+use Rattle.phrases.proofs.Moving.{ask, top-fits, lower-with, later-with}
+use Rattle.phrases.proofs.Standing.{within}
+use Rattle.phrases.proofs.Answering.{known}
+use Rattle.phrases.proofs.OperandLaws.{assign-none, assign-one, assign-to}
+
+pub tier-requires : (t : ℕ) → lts.Need-tier-requires (operands·assign-claims t) (operands·assign-at t) operands·assign.Post
+tier-requires t c κs =
+    lower-with (c .before .before .pre .1) 5 4 (c .before .before .pre .0) (omega arith) (omega arith, omega arith, λ e. omega arith)
+
+pub enum-known-target : (t : ℕ) → lts.Need-enum-known-target (operands·assign-claims t) (operands·assign-at t) operands·assign.Post
+enum-known-target t c = search needs
+
+pub kind-requires : (t : ℕ) → lts.Need-kind-requires (operands·assign-claims t) (operands·assign-at t) operands·assign.Post
+kind-requires t c κs =
+    ask (c .before .before .before .before .before .before .before .before .before .pre .1)
+    (c .before .before .before .before .before .before .tier .kept .0)
+
+pub add-tier : (t : ℕ) → lts.Need-add-tier (operands·assign-claims t) (operands·assign-at t) operands·assign.Post
+add-tier t c =
+    let p = c .before .before .before .before .before .before .before .before .before .before .before .before .pre .1 in
+    let o = (known (c .before .before .before .before .before .before .before .before .before .tier .ensures)
+    (c .before .before .before .before .before .target .given .1)) .ahead in
+    omega arith
+
+pub tier-requires-2 : (t : ℕ) → lts.Need-tier-requires-2 (operands·assign-claims t) (operands·assign-at t) operands·assign.Post
+tier-requires-2 t c κs =
+    let p = c .before .before .before .before .before .before .before .before .before .before .before .before .pre .1 in
+    let o = (known (c .before .before .before .before .before .before .before .before .before .tier .ensures)
+    (c .before .before .before .before .before .target .given .1)) .ahead in
+    let i = within _ _ _ _ (sym (c .before .before .kind .ensures) ∙ c .before .if1 .taken) (omega arith) in
+    later-with p 5 4 (c .before .before .before .before .before .before .before .before .before .before .before .before .pre .0)
+    (c .before .before .before .before .before .before .before .before .before .tier .kept .0) (omega arith) (omega arith) (omega arith)
+    (omega arith) (omega arith, omega arith, λ e. omega arith)
+
+pub pair-requires : (t : ℕ) → lts.Need-pair-requires (operands·assign-claims t) (operands·assign-at t) operands·assign.Post
+pair-requires t c κs =
+    let p = c .before .before .before .before .before .before .before .before .before .before .before .before .before .before .before .before .pre .1 in
+    let o = (known
+    (c .before .before .before .before .before .before .before .before .before .before .before .before .before .tier .ensures)
+    (c .before .before .before .before .before .before .before .before .before .target .given .1)) .ahead in
+    let i = within _ _ _ _
+    (sym (c .before .before .before .before .before .before .kind .ensures) ∙ c .before .before .before .before .before .if1 .taken)
+    (omega arith) in
+    top-fits p _ (c .before .before .before .tier2 .ensures) (omega arith) (omega arith)
+    (c .before .before .before .tier2 .kept .0
+    ∙ c .before .before .before .before .before .before .before .before .before .before .before .before .before .tier .kept .0) i
+
+pub enum-known-target-2 : (t : ℕ) → lts.Need-enum-known-target-2 (operands·assign-claims t) (operands·assign-at t) operands·assign.Post
+enum-known-target-2 t c = search needs
+
+pub same-length : (t : ℕ) → lts.Need-same-length (operands·assign-claims t) (operands·assign-at t) operands·assign.Post
+same-length t c =
+    c .before .before .pair .kept .0 ∙ c .before .before .before .before .before .before .tier2 .kept .0
+    ∙ c .before .before .before .before .before .before .before .before .before .before .before .before .before .before .before .before .tier .kept .0
+
+pub returns : (t : ℕ) → lts.Need-returns (operands·assign-claims t) (operands·assign-at t) operands·assign.Post
+returns t c =
+    assign-to
+    (known
+    (c .before .before .before .before .before .before .before .before .before .before .before .before .before .before .before .before .tier .ensures)
+    (c .before .before .before .before .before .before .before .before .before .before .before .before .target .given .1))
+    (sym (c .before .before .before .before .before .before .before .before .before .kind .ensures)
+    ∙ c .before .before .before .before .before .before .before .before .if1 .taken)
+    (c .before .before .before .before .before .before .tier2 .ensures) (c .before .before .pair .ensures)
+
+pub same-length-2 : (t : ℕ) → lts.Need-same-length-2 (operands·assign-claims t) (operands·assign-at t) operands·assign.Post
+same-length-2 t c = c .before .before .before .before .before .before .before .before .tier .kept .0
+
+pub returns-2 : (t : ℕ) → lts.Need-returns-2 (operands·assign-claims t) (operands·assign-at t) operands·assign.Post
+returns-2 t c =
+    assign-one
+    (known (c .before .before .before .before .before .before .before .before .tier .ensures)
+    (c .before .before .before .before .target .given .1)) (λ e. c .if1 .left (c .before .kind .ensures ∙ e))
+
+pub same-length-3 : (t : ℕ) → lts.Need-same-length-3 (operands·assign-claims t) (operands·assign-at t) operands·assign.Post
+same-length-3 t c = c .before .before .before .before .before .tier .kept .0
+
+pub returns-3 : (t : ℕ) → lts.Need-returns-3 (operands·assign-claims t) (operands·assign-at t) operands·assign.Post
+returns-3 t c = assign-none (known (c .before .before .before .before .before .tier .ensures) (c .before .target2 .given .1))

@@ -1,0 +1,291 @@
+-- The measure of each reader of expressions: twelve for each token that is left, and its rule's rank. Then for each what it is
+-- given at a measure, what a call of it asks below one, and what all that it calls ask and ensure.
+use Prim.Native.Nat.{ℕ, _+_, _*_, _-_, _<_}
+use borrow.Fn.Kinds.{In}
+use borrow.Fn.PlainCycle.{Measures, is, falls, and}
+use Rattle.layout.proofs.rows.put.Reads as put-reads
+use Rattle.layout.proofs.tokens.kind.Reads as kind-reads
+use Rattle.phrases.proofs.items.if_else.Reads as items·if-else
+use Rattle.phrases.proofs.items.if_else.Kinds as items·if-else-kinds
+use Rattle.phrases.proofs.+items-if_else+items-item+items-let_in+items-seq+items-until+items-while_block+names-arguments+names-name_or_call+operands-assign+operands-atom+operands-rest+operands-tier+operands-un.Lts-items-if_else as items·if-else-lts
+use Rattle.phrases.proofs.items.item.Reads as items·item
+use Rattle.phrases.proofs.items.item.Kinds as items·item-kinds
+use Rattle.phrases.proofs.+items-if_else+items-item+items-let_in+items-seq+items-until+items-while_block+names-arguments+names-name_or_call+operands-assign+operands-atom+operands-rest+operands-tier+operands-un.Lts-items-item as items·item-lts
+use Rattle.phrases.proofs.items.let_in.Reads as items·let-in
+use Rattle.phrases.proofs.items.let_in.Kinds as items·let-in-kinds
+use Rattle.phrases.proofs.+items-if_else+items-item+items-let_in+items-seq+items-until+items-while_block+names-arguments+names-name_or_call+operands-assign+operands-atom+operands-rest+operands-tier+operands-un.Lts-items-let_in as items·let-in-lts
+use Rattle.phrases.proofs.items.seq.Reads as items·seq
+use Rattle.phrases.proofs.items.seq.Kinds as items·seq-kinds
+use Rattle.phrases.proofs.+items-if_else+items-item+items-let_in+items-seq+items-until+items-while_block+names-arguments+names-name_or_call+operands-assign+operands-atom+operands-rest+operands-tier+operands-un.Lts-items-seq as items·seq-lts
+use Rattle.phrases.proofs.items.until.Reads as items·until
+use Rattle.phrases.proofs.items.until.Kinds as items·until-kinds
+use Rattle.phrases.proofs.+items-if_else+items-item+items-let_in+items-seq+items-until+items-while_block+names-arguments+names-name_or_call+operands-assign+operands-atom+operands-rest+operands-tier+operands-un.Lts-items-until as items·until-lts
+use Rattle.phrases.proofs.items.while_block.Reads as items·while-block
+use Rattle.phrases.proofs.items.while_block.Kinds as items·while-block-kinds
+use Rattle.phrases.proofs.+items-if_else+items-item+items-let_in+items-seq+items-until+items-while_block+names-arguments+names-name_or_call+operands-assign+operands-atom+operands-rest+operands-tier+operands-un.Lts-items-while_block as items·while-block-lts
+use Rattle.phrases.proofs.names.arguments.Reads as names·arguments
+use Rattle.phrases.proofs.names.arguments.Kinds as names·arguments-kinds
+use Rattle.phrases.proofs.+items-if_else+items-item+items-let_in+items-seq+items-until+items-while_block+names-arguments+names-name_or_call+operands-assign+operands-atom+operands-rest+operands-tier+operands-un.Lts-names-arguments as names·arguments-lts
+use Rattle.phrases.proofs.names.name_or_call.Reads as names·name-or-call
+use Rattle.phrases.proofs.names.name_or_call.Kinds as names·name-or-call-kinds
+use Rattle.phrases.proofs.+items-if_else+items-item+items-let_in+items-seq+items-until+items-while_block+names-arguments+names-name_or_call+operands-assign+operands-atom+operands-rest+operands-tier+operands-un.Lts-names-name_or_call as names·name-or-call-lts
+use Rattle.phrases.proofs.operands.assign.Reads as operands·assign
+use Rattle.phrases.proofs.operands.assign.Kinds as operands·assign-kinds
+use Rattle.phrases.proofs.+items-if_else+items-item+items-let_in+items-seq+items-until+items-while_block+names-arguments+names-name_or_call+operands-assign+operands-atom+operands-rest+operands-tier+operands-un.Lts-operands-assign as operands·assign-lts
+use Rattle.phrases.proofs.operands.atom.Reads as operands·atom
+use Rattle.phrases.proofs.operands.atom.Kinds as operands·atom-kinds
+use Rattle.phrases.proofs.+items-if_else+items-item+items-let_in+items-seq+items-until+items-while_block+names-arguments+names-name_or_call+operands-assign+operands-atom+operands-rest+operands-tier+operands-un.Lts-operands-atom as operands·atom-lts
+use Rattle.phrases.proofs.operands.rest.Reads as operands·rest
+use Rattle.phrases.proofs.operands.rest.Kinds as operands·rest-kinds
+use Rattle.phrases.proofs.+items-if_else+items-item+items-let_in+items-seq+items-until+items-while_block+names-arguments+names-name_or_call+operands-assign+operands-atom+operands-rest+operands-tier+operands-un.Lts-operands-rest as operands·rest-lts
+use Rattle.phrases.proofs.operands.tier.Reads as operands·tier
+use Rattle.phrases.proofs.operands.tier.Kinds as operands·tier-kinds
+use Rattle.phrases.proofs.+items-if_else+items-item+items-let_in+items-seq+items-until+items-while_block+names-arguments+names-name_or_call+operands-assign+operands-atom+operands-rest+operands-tier+operands-un.Lts-operands-tier as operands·tier-lts
+use Rattle.phrases.proofs.operands.un.Reads as operands·un
+use Rattle.phrases.proofs.operands.un.Kinds as operands·un-kinds
+use Rattle.phrases.proofs.+items-if_else+items-item+items-let_in+items-seq+items-until+items-while_block+names-arguments+names-name_or_call+operands-assign+operands-atom+operands-rest+operands-tier+operands-un.Lts-operands-un as operands·un-lts
+use Rattle.phrases.proofs.operators.after.Reads as after-reads
+use Rattle.phrases.proofs.operators.is_constant.Reads as is-constant-reads
+use Rattle.phrases.proofs.operators.is_prefix.Reads as is-prefix-reads
+use Rattle.phrases.proofs.operators.tightness.Reads as tightness-reads
+use Rattle.phrases.proofs.parts.around.Reads as around-reads
+use Rattle.phrases.proofs.parts.choice.Reads as choice-reads
+use Rattle.phrases.proofs.parts.node.Reads as node-reads
+use Rattle.phrases.proofs.parts.over.Reads as over-reads
+use Rattle.phrases.proofs.parts.pair.Reads as pair-reads
+
+abbrev pub μ-items·if-else : Measures 1 items·if-else-kinds.ps ℕ
+μ-items·if-else κs a = 12 * (a .1 .0 - a .1 .1 .0) + 6
+
+abbrev pub μ-items·item : Measures 1 items·item-kinds.ps ℕ
+μ-items·item κs a = 12 * (a .1 .0 - a .1 .1 .0) + 7
+
+abbrev pub μ-items·let-in : Measures 1 items·let-in-kinds.ps ℕ
+μ-items·let-in κs a = 12 * (a .1 .0 - a .1 .1 .0) + 7
+
+abbrev pub μ-items·seq : Measures 1 items·seq-kinds.ps ℕ
+μ-items·seq κs a = 12 * (a .1 .0 - a .1 .1 .0) + 8
+
+abbrev pub μ-items·until : Measures 1 items·until-kinds.ps ℕ
+μ-items·until κs a = 12 * (a .1 .0 - a .1 .1 .0) + 9
+
+abbrev pub μ-items·while-block : Measures 1 items·while-block-kinds.ps ℕ
+μ-items·while-block κs a = 12 * (a .1 .0 - a .1 .1 .0) + 6
+
+abbrev pub μ-names·arguments : Measures 1 names·arguments-kinds.ps ℕ
+μ-names·arguments κs a = 12 * (a .1 .0 - a .1 .1 .0) + 9
+
+abbrev pub μ-names·name-or-call : Measures 1 names·name-or-call-kinds.ps ℕ
+μ-names·name-or-call κs a = 12 * (a .1 .0 - a .1 .1 .0) + 1
+
+abbrev pub μ-operands·assign : Measures 1 operands·assign-kinds.ps ℕ
+μ-operands·assign κs a = 12 * (a .1 .0 - a .1 .1 .0) + 5
+
+abbrev pub μ-operands·atom : Measures 1 operands·atom-kinds.ps ℕ
+μ-operands·atom κs a = 12 * (a .1 .0 - a .1 .1 .0) + 2
+
+abbrev pub μ-operands·rest : Measures 1 operands·rest-kinds.ps ℕ
+μ-operands·rest κs a = 12 * (a .1 .0 - a .1 .1 .0) + 0
+
+abbrev pub μ-operands·tier : Measures 1 operands·tier-kinds.ps ℕ
+μ-operands·tier κs a = 12 * (a .1 .0 - a .1 .1 .0) + 4
+
+abbrev pub μ-operands·un : Measures 1 operands·un-kinds.ps ℕ
+μ-operands·un κs a = 12 * (a .1 .0 - a .1 .1 .0) + 3
+
+abbrev pub items·if-else-at : ℕ → In 1 items·if-else-kinds.ps
+items·if-else-at t = and 1 items·if-else-kinds.ps (is 1 items·if-else-kinds.ps μ-items·if-else t) items·if-else.Pre
+
+abbrev pub items·if-else-below : ℕ → In 1 items·if-else-kinds.ps
+items·if-else-below t = and 1 items·if-else-kinds.ps (falls 1 items·if-else-kinds.ps _<_ μ-items·if-else t) items·if-else.Pre
+
+abbrev pub items·item-at : ℕ → In 1 items·item-kinds.ps
+items·item-at t = and 1 items·item-kinds.ps (is 1 items·item-kinds.ps μ-items·item t) items·item.Pre
+
+abbrev pub items·item-below : ℕ → In 1 items·item-kinds.ps
+items·item-below t = and 1 items·item-kinds.ps (falls 1 items·item-kinds.ps _<_ μ-items·item t) items·item.Pre
+
+abbrev pub items·let-in-at : ℕ → In 1 items·let-in-kinds.ps
+items·let-in-at t = and 1 items·let-in-kinds.ps (is 1 items·let-in-kinds.ps μ-items·let-in t) items·let-in.Pre
+
+abbrev pub items·let-in-below : ℕ → In 1 items·let-in-kinds.ps
+items·let-in-below t = and 1 items·let-in-kinds.ps (falls 1 items·let-in-kinds.ps _<_ μ-items·let-in t) items·let-in.Pre
+
+abbrev pub items·seq-at : ℕ → In 1 items·seq-kinds.ps
+items·seq-at t = and 1 items·seq-kinds.ps (is 1 items·seq-kinds.ps μ-items·seq t) items·seq.Pre
+
+abbrev pub items·seq-below : ℕ → In 1 items·seq-kinds.ps
+items·seq-below t = and 1 items·seq-kinds.ps (falls 1 items·seq-kinds.ps _<_ μ-items·seq t) items·seq.Pre
+
+abbrev pub items·until-at : ℕ → In 1 items·until-kinds.ps
+items·until-at t = and 1 items·until-kinds.ps (is 1 items·until-kinds.ps μ-items·until t) items·until.Pre
+
+abbrev pub items·until-below : ℕ → In 1 items·until-kinds.ps
+items·until-below t = and 1 items·until-kinds.ps (falls 1 items·until-kinds.ps _<_ μ-items·until t) items·until.Pre
+
+abbrev pub items·while-block-at : ℕ → In 1 items·while-block-kinds.ps
+items·while-block-at t = and 1 items·while-block-kinds.ps (is 1 items·while-block-kinds.ps μ-items·while-block t) items·while-block.Pre
+
+abbrev pub items·while-block-below : ℕ → In 1 items·while-block-kinds.ps
+items·while-block-below t = and 1 items·while-block-kinds.ps (falls 1 items·while-block-kinds.ps _<_ μ-items·while-block t) items·while-block.Pre
+
+abbrev pub names·arguments-at : ℕ → In 1 names·arguments-kinds.ps
+names·arguments-at t = and 1 names·arguments-kinds.ps (is 1 names·arguments-kinds.ps μ-names·arguments t) names·arguments.Pre
+
+abbrev pub names·arguments-below : ℕ → In 1 names·arguments-kinds.ps
+names·arguments-below t = and 1 names·arguments-kinds.ps (falls 1 names·arguments-kinds.ps _<_ μ-names·arguments t) names·arguments.Pre
+
+abbrev pub names·name-or-call-at : ℕ → In 1 names·name-or-call-kinds.ps
+names·name-or-call-at t = and 1 names·name-or-call-kinds.ps (is 1 names·name-or-call-kinds.ps μ-names·name-or-call t) names·name-or-call.Pre
+
+abbrev pub names·name-or-call-below : ℕ → In 1 names·name-or-call-kinds.ps
+names·name-or-call-below t = and 1 names·name-or-call-kinds.ps (falls 1 names·name-or-call-kinds.ps _<_ μ-names·name-or-call t) names·name-or-call.Pre
+
+abbrev pub operands·assign-at : ℕ → In 1 operands·assign-kinds.ps
+operands·assign-at t = and 1 operands·assign-kinds.ps (is 1 operands·assign-kinds.ps μ-operands·assign t) operands·assign.Pre
+
+abbrev pub operands·assign-below : ℕ → In 1 operands·assign-kinds.ps
+operands·assign-below t = and 1 operands·assign-kinds.ps (falls 1 operands·assign-kinds.ps _<_ μ-operands·assign t) operands·assign.Pre
+
+abbrev pub operands·atom-at : ℕ → In 1 operands·atom-kinds.ps
+operands·atom-at t = and 1 operands·atom-kinds.ps (is 1 operands·atom-kinds.ps μ-operands·atom t) operands·atom.Pre
+
+abbrev pub operands·atom-below : ℕ → In 1 operands·atom-kinds.ps
+operands·atom-below t = and 1 operands·atom-kinds.ps (falls 1 operands·atom-kinds.ps _<_ μ-operands·atom t) operands·atom.Pre
+
+abbrev pub operands·rest-at : ℕ → In 1 operands·rest-kinds.ps
+operands·rest-at t = and 1 operands·rest-kinds.ps (is 1 operands·rest-kinds.ps μ-operands·rest t) operands·rest.Pre
+
+abbrev pub operands·rest-below : ℕ → In 1 operands·rest-kinds.ps
+operands·rest-below t = and 1 operands·rest-kinds.ps (falls 1 operands·rest-kinds.ps _<_ μ-operands·rest t) operands·rest.Pre
+
+abbrev pub operands·tier-at : ℕ → In 1 operands·tier-kinds.ps
+operands·tier-at t = and 1 operands·tier-kinds.ps (is 1 operands·tier-kinds.ps μ-operands·tier t) operands·tier.Pre
+
+abbrev pub operands·tier-below : ℕ → In 1 operands·tier-kinds.ps
+operands·tier-below t = and 1 operands·tier-kinds.ps (falls 1 operands·tier-kinds.ps _<_ μ-operands·tier t) operands·tier.Pre
+
+abbrev pub operands·un-at : ℕ → In 1 operands·un-kinds.ps
+operands·un-at t = and 1 operands·un-kinds.ps (is 1 operands·un-kinds.ps μ-operands·un t) operands·un.Pre
+
+abbrev pub operands·un-below : ℕ → In 1 operands·un-kinds.ps
+operands·un-below t = and 1 operands·un-kinds.ps (falls 1 operands·un-kinds.ps _<_ μ-operands·un t) operands·un.Pre
+
+abbrev pub items·if-else-claims : ℕ → items·if-else-lts.Claims
+items·if-else-claims t =
+    (items·until-below t, items·until.Post, items·item-below t, items·item.Post, choice-reads.Asked, choice-reads.Learnt)
+
+abbrev pub items·item-claims : ℕ → items·item-lts.Claims
+items·item-claims t = (
+  kind-reads.Asked,
+  kind-reads.Learnt,
+  items·if-else-below t,
+  items·if-else.Post,
+  items·while-block-below t,
+  items·while-block.Post,
+  operands·assign-below t,
+  operands·assign.Post,
+)
+
+abbrev pub items·let-in-claims : ℕ → items·let-in-lts.Claims
+items·let-in-claims t = (kind-reads.Asked, kind-reads.Learnt, items·until-below t, items·until.Post, items·seq-below t, items·seq.Post, pair-reads.Asked, pair-reads.Learnt)
+
+abbrev pub items·seq-claims : ℕ → items·seq-lts.Claims
+items·seq-claims t = (
+  kind-reads.Asked,
+  kind-reads.Learnt,
+  items·let-in-below t,
+  items·let-in.Post,
+  items·item-below t,
+  items·item.Post,
+  items·seq-below t,
+  items·seq.Post,
+  pair-reads.Asked,
+  pair-reads.Learnt,
+)
+
+abbrev pub items·until-claims : ℕ → items·until-lts.Claims
+items·until-claims t = (items·seq-below t, items·seq.Post, kind-reads.Asked, kind-reads.Learnt)
+
+abbrev pub items·while-block-claims : ℕ → items·while-block-lts.Claims
+items·while-block-claims t =
+    (items·until-below t, items·until.Post, around-reads.Asked, around-reads.Learnt, pair-reads.Asked, pair-reads.Learnt)
+
+abbrev pub names·arguments-claims : ℕ → names·arguments-lts.Claims
+names·arguments-claims t = (
+  items·seq-below t,
+  items·seq.Post,
+  kind-reads.Asked,
+  kind-reads.Learnt,
+  node-reads.Asked,
+  node-reads.Learnt,
+  names·arguments-below t,
+  names·arguments.Post,
+  pair-reads.Asked,
+  pair-reads.Learnt,
+)
+
+abbrev pub names·name-or-call-claims : ℕ → names·name-or-call-lts.Claims
+names·name-or-call-claims t = (
+  kind-reads.Asked,
+  kind-reads.Learnt,
+  node-reads.Asked,
+  node-reads.Learnt,
+  names·arguments-below t,
+  names·arguments.Post,
+  over-reads.Asked,
+  over-reads.Learnt,
+)
+
+abbrev pub operands·assign-claims : ℕ → operands·assign-lts.Claims
+operands·assign-claims t =
+    (operands·tier-below t, operands·tier.Post, kind-reads.Asked, kind-reads.Learnt, pair-reads.Asked, pair-reads.Learnt)
+
+abbrev pub operands·atom-claims : ℕ → operands·atom-lts.Claims
+operands·atom-claims t = (
+  kind-reads.Asked,
+  kind-reads.Learnt,
+  is-constant-reads.Asked,
+  is-constant-reads.Learnt,
+  node-reads.Asked,
+  node-reads.Learnt,
+  names·name-or-call-below t,
+  names·name-or-call.Post,
+  items·until-below t,
+  items·until.Post,
+  around-reads.Asked,
+  around-reads.Learnt,
+)
+
+abbrev pub operands·rest-claims : ℕ → operands·rest-lts.Claims
+operands·rest-claims t = (
+  kind-reads.Asked,
+  kind-reads.Learnt,
+  tightness-reads.Asked,
+  tightness-reads.Learnt,
+  operands·tier-below t,
+  operands·tier.Post,
+  put-reads.Asked,
+  put-reads.Learnt,
+  after-reads.Asked,
+  after-reads.Learnt,
+  operands·rest-below t,
+  operands·rest.Post,
+)
+
+abbrev pub operands·tier-claims : ℕ → operands·tier-lts.Claims
+operands·tier-claims t = (operands·un-below t, operands·un.Post, operands·rest-below t, operands·rest.Post)
+
+abbrev pub operands·un-claims : ℕ → operands·un-lts.Claims
+operands·un-claims t = (
+  kind-reads.Asked,
+  kind-reads.Learnt,
+  is-prefix-reads.Asked,
+  is-prefix-reads.Learnt,
+  operands·un-below t,
+  operands·un.Post,
+  over-reads.Asked,
+  over-reads.Learnt,
+  operands·atom-below t,
+  operands·atom.Post,
+)

@@ -1,0 +1,11 @@
+-- What is true of reading phrases: laws of numbers, of tokens and of rows, then a file for the ways through each group of readers.
+mod Topping
+pub mod Standing
+pub mod Moving
+mod RowKinds
+pub mod Answering
+mod SeqLaws
+pub mod ItemLaws
+mod OperandLaws
+mod OperatorLaws
+mod CallLaws

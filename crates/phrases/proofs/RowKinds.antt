@@ -1,0 +1,85 @@
+-- What the tables of the grammar give for a token's kind, and the kind of the row that is put for it.
+use mathlib.Core.Bool.{true, false}
+use mathlib.Core.List.{List}
+use mathlib.Core.Option.{Option, none, some}
+use mathlib.Core.Path.{_≡_, refl}
+use Prim.Native.Nat.{ℕ, zero, suc, _+_, _≤_, _<_}
+use native.Mathlib.Omega.{arith}
+use lib.Dec.{T, eqb, leb, eqb→eq, leb→le}
+use Rattle.language.specs.Tokens.{Row, entry, PAST, RBRACE}
+use Rattle.language.specs.Trees.{Literal, Unary, Binary}
+use Rattle.language.specs.Grammar.{or, and, sum, prod, operators, comparisons, prefixes, constants}
+use Rattle.language.proofs.Grammar.Entries.{every, entry-passes}
+use Rattle.language.proofs.Grammar.Climbing.{Joins, joins-or, joins-and, joins-cmp, joins-sum, joins-prod}
+use Rattle.layout.specs.Table.{kind-of}
+use Rattle.layout.specs.Rows.{PREFIX, literal-kind, unary-kind, binary-kind}
+use Rattle.layout.proofs.TableLaws.{kind-within}
+use Rattle.phrases.specs.Parts.{has, in-table}
+
+-- ---- a look into a table
+
+module _ {A : Type 0} (rows : List (Row ℕ A)) (k : ℕ) where
+  -- what is in the table stands for something
+  pub stands-for : in-table rows k ≡ true → (a : A) × (entry rows k ≡ some a)
+  stands-for h = go (entry rows k) refl h
+    where
+      go : (o : Option A) → entry rows k ≡ o → has o ≡ true → (a : A) × (entry rows k ≡ some a)
+      go (some a) e p = (a, e)
+      go none e p = let z : _≡_ {A = ℕ} 0 1 = cc in absurd (omega arith)
+
+  -- and what is not, for nothing
+  pub stands-for-none : in-table rows k ≡ false → entry rows k ≡ none
+  stands-for-none h = go (entry rows k) h
+    where
+      go : (o : Option A) → has o ≡ false → o ≡ none
+      go none p = refl
+      go (some a) p = let z : _≡_ {A = ℕ} 0 1 = cc in absurd (omega arith)
+
+-- a token that is in a table stands before the end, past which there is none
+module _ (w : List ℕ) (count i k : ℕ) (h : k ≡ kind-of w count i) where
+  listed : {A : Type 0} (rows : List (Row ℕ A)) → in-table rows PAST ≡ false → in-table rows k ≡ true → i < count
+  listed rows p l = kind-within w count i (omega (arith, positive k refl))
+    where
+      positive : (c : ℕ) → k ≡ c → 0 < c
+      positive zero e = let z : _≡_ {A = ℕ} 0 1 = cc in absurd (omega arith)
+      positive (suc c) e = omega arith
+
+  -- a prefix
+  pub prefix-within : in-table prefixes k ≡ true → i < count
+  unfolding entry
+  prefix-within l = listed prefixes refl l
+
+  -- a constant
+  pub constant-within : in-table constants k ≡ true → i < count
+  unfolding entry
+  constant-within l = listed constants refl l
+
+-- ---- the kinds of rows
+
+by-rows : {A : Type 0} (kind : A → ℕ) (of : ℕ → ℕ) (rows : List (Row ℕ A)) (k : ℕ) {a : A} → T (every (λ c x. eqb (kind x) (of c)) rows)
+    → entry rows k ≡ some a → kind a ≡ of k
+by-rows kind of rows k {a} t e = eqb→eq (kind a) (of k) (entry-passes (λ c x. eqb (kind x) (of c)) rows k t e)
+
+-- an operator before its operand
+pub prefix-row : (k : ℕ) {o : Unary} → entry prefixes k ≡ some o → unary-kind o ≡ PREFIX + k
+unfolding unary-kind every
+prefix-row k e = by-rows unary-kind (λ c. PREFIX + c) prefixes k tt e
+
+-- its kind is small
+pub prefix-small : (k : ℕ) → in-table prefixes k ≡ true → k ≤ RBRACE
+unfolding every
+prefix-small k h = leb→le k RBRACE (entry-passes (λ c x. leb c RBRACE) prefixes k tt (stands-for prefixes k h .1))
+
+-- a constant
+pub constant-row : (k : ℕ) {l : Literal} → entry constants k ≡ some l → literal-kind l ≡ k
+unfolding literal-kind every
+constant-row k e = by-rows literal-kind (λ c. c) constants k tt e
+
+-- an operator between two operands
+pub joins-row : {k : ℕ} {o : Binary} {p : ℕ} → Joins k o p → binary-kind o ≡ k
+unfolding binary-kind every
+joins-row {k} (joins-or e) = by-rows binary-kind (λ c. c) (operators or) k tt e
+joins-row {k} (joins-and e) = by-rows binary-kind (λ c. c) (operators and) k tt e
+joins-row {k} (joins-cmp e) = by-rows binary-kind (λ c. c) comparisons k tt e
+joins-row {k} (joins-sum e) = by-rows binary-kind (λ c. c) (operators sum) k tt e
+joins-row {k} (joins-prod e) = by-rows binary-kind (λ c. c) (operators prod) k tt e

@@ -1,0 +1,163 @@
+// Seq, Let and Item. These readers, those of `operands` and those of `names` call each other. Each call
+// goes to a later token, or to a lower rule at the same one.
+ghost use mathlib.Core.Path.{_≡_};
+ghost use Prim.Native.Nat.{_≤_};
+ghost use Rattle.language.specs.Tokens.{LET, IF, WHILE};
+ghost use Rattle.layout.specs.Table.{kind-of};
+ghost use Rattle.phrases.specs.Parts.{Room, Yields, Halts, Seq, Let, Item, Until};
+use crate::operands::assign;
+use crate::parts::Part;
+use crate::parts::around;
+use crate::parts::choice;
+use crate::parts::pair;
+use language::kinds;
+use layout::tokens::kind;
+
+// A Seq and the token `mark` behind it, at which it stops.
+pub fn until(table: &mut [u32], count: usize, at: usize, free: usize, mark: u32) -> Part
+    requires { ⌜ Room count (now table) at free ⌝ }
+    requires { ⌜ 1 ≤ mark ⌝ }
+    ensures { λ g. ⌜ Halts (Until mark at) count (now (table .entry)) at free g (now (table .exit)) ⌝ }
+{
+    let whole = seq(table, count, at, free);
+    match whole {
+        Part::Tree {
+            root,
+            next,
+            free: rows,
+        } => {
+            if kind(table, count, next) == mark {
+                Part::Tree {
+                    root: root,
+                    next: next,
+                    free: rows,
+                }
+            } else {
+                Part::None { at: next }
+            }
+        }
+        Part::None { at: e } => Part::None { at: e },
+    }
+}
+
+// `;` associates to the right.
+pub fn seq(table: &mut [u32], count: usize, at: usize, free: usize) -> Part
+    requires { ⌜ Room count (now table) at free ⌝ }
+    ensures { λ g. ⌜ Yields (Seq at) count (now (table .entry)) at free g (now (table .exit)) ⌝ }
+{
+    if kind(table, count, at) == kinds::LET {
+        return let_in(table, count, at, free);
+    }
+    let first = item(table, count, at, free);
+    match first {
+        Part::Tree {
+            root,
+            next,
+            free: rows,
+        } => {
+            if kind(table, count, next) == kinds::SEMI {
+                let rest = seq(table, count, next + 1, rows);
+                pair(table, kinds::SEMI, next, root, rest)
+            } else {
+                Part::Tree {
+                    root: root,
+                    next: next,
+                    free: rows,
+                }
+            }
+        }
+        Part::None { at: e } => Part::None { at: e },
+    }
+}
+
+// At a `let`, whose body is a Seq, and so reaches as far as one can.
+fn let_in(table: &mut [u32], count: usize, at: usize, free: usize) -> Part
+    requires { ⌜ Room count (now table) at free ⌝ }
+    requires { ⌜ kind-of (now table) count at ≡ LET ⌝ }
+    ensures { λ g. ⌜ Yields (Let at) count (now (table .entry)) at free g (now (table .exit)) ⌝ }
+{
+    if kind(table, count, at + 1) != kinds::NAME {
+        return Part::None { at: at + 1 };
+    }
+    if kind(table, count, at + 2) != kinds::IS {
+        return Part::None { at: at + 2 };
+    }
+    let value = until(table, count, at + 3, free, kinds::IN);
+    match value {
+        Part::Tree {
+            root,
+            next,
+            free: rows,
+        } => {
+            let body = seq(table, count, next + 1, rows);
+            pair(table, kinds::LET, at, root, body)
+        }
+        Part::None { at: e } => Part::None { at: e },
+    }
+}
+
+// A test of the first token tells which of the three it is.
+pub fn item(table: &mut [u32], count: usize, at: usize, free: usize) -> Part
+    requires { ⌜ Room count (now table) at free ⌝ }
+    ensures { λ g. ⌜ Yields (Item at) count (now (table .entry)) at free g (now (table .exit)) ⌝ }
+{
+    let k = kind(table, count, at);
+    if k == kinds::IF {
+        return if_else(table, count, at, free);
+    }
+    if k == kinds::WHILE {
+        return while_block(table, count, at, free);
+    }
+    assign(table, count, at, free)
+}
+
+// At an `if`, whose last part is an Item, so that a `;` behind it ends it.
+fn if_else(table: &mut [u32], count: usize, at: usize, free: usize) -> Part
+    requires { ⌜ Room count (now table) at free ⌝ }
+    requires { ⌜ kind-of (now table) count at ≡ IF ⌝ }
+    ensures { λ g. ⌜ Yields (Item at) count (now (table .entry)) at free g (now (table .exit)) ⌝ }
+{
+    let test = until(table, count, at + 1, free, kinds::THEN);
+    match test {
+        Part::Tree {
+            root: test_root,
+            next: then_at,
+            free: test_rows,
+        } => {
+            let yes = until(table, count, then_at + 1, test_rows, kinds::ELSE);
+            match yes {
+                Part::Tree {
+                    root: yes_root,
+                    next: else_at,
+                    free: yes_rows,
+                } => {
+                    let no = item(table, count, else_at + 1, yes_rows);
+                    choice(table, at, test_root, yes_root, no)
+                }
+                Part::None { at: e } => Part::None { at: e },
+            }
+        }
+        Part::None { at: e } => Part::None { at: e },
+    }
+}
+
+// At a `while`, whose body is a Block of its own.
+fn while_block(table: &mut [u32], count: usize, at: usize, free: usize) -> Part
+    requires { ⌜ Room count (now table) at free ⌝ }
+    requires { ⌜ kind-of (now table) count at ≡ WHILE ⌝ }
+    ensures { λ g. ⌜ Yields (Item at) count (now (table .entry)) at free g (now (table .exit)) ⌝ }
+{
+    let test = until(table, count, at + 1, free, kinds::LBRACE);
+    match test {
+        Part::Tree {
+            root,
+            next: brace,
+            free: rows,
+        } => {
+            let body = until(table, count, brace + 1, rows, kinds::RBRACE);
+            let block = around(table, kinds::LBRACE, brace, body);
+            pair(table, kinds::WHILE, at, root, block)
+        }
+        Part::None { at: e } => Part::None { at: e },
+    }
+}

@@ -1,0 +1,11 @@
+// Reads phrases: what the grammar says from Seq down.
+//
+// A function for each rule of the grammar begins at a token and at the first free row. It answers what
+// it read, laid down in rows, the parts before their whole, or the token at which it failed. `specs/`
+// says what is told of an answer.
+
+pub mod items;
+pub mod names;
+pub mod operands;
+pub mod operators;
+pub mod parts;

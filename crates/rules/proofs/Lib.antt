@@ -1,0 +1,6 @@
+pub mod TellLaws
+pub mod SightLaws
+pub mod OperatorLaws
+pub mod ShapeLaws
+pub mod CallLaws
+pub mod PlainLaws

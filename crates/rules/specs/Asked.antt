@@ -1,0 +1,147 @@
+-- What a node asks when its children are typed, and when an answer tells what the executable checker of the language answers.
+use mathlib.Core.Bool.{Bool, true, false, _&&_}
+use mathlib.Core.List.{List, [], _∷_}
+use mathlib.Core.Option.{some}
+use mathlib.Core.Path.{_≡_}
+use Prim.Native.Nat.{ℕ, suc}
+use native.Mathlib.Decide.{ℕ-discrete}
+use lib.Dec.{eqb}
+use lib.ListN.{length}
+use Rattle.language.specs.Tokens.{Token, NAME, LET}
+use Rattle.language.specs.Trees.{Name, Ty, int, bool, unit, Ty-discrete, Unary, Binary, add, sub, mul, div, less, equal, and, or, assign, Exp, branch, call, Exps, Scope, nearest}
+use Rattle.language.specs.Types.{Sig}
+use Rattle.language.specs.Faults as Faults
+use Rattle.language.specs.Faults.{unsuited, wrong-operand, wrong-operands, not-unit, not-bool, wrong-number, wrong-argument}
+use Rattle.language.specs.Meaning.{type-number}
+use Rattle.language.proofs.Types.Verdict.{Res, ok, bad, told, need}
+use Rattle.language.proofs.Types.Operators.{if-yes, unop, binop}
+use Rattle.language.proofs.Types.Checker.{same-types, infer, infers}
+use Rattle.layout.specs.Rows.{CALL, unary-kind, binary-kind}
+use Rattle.layout.specs.Decode.{Shape, shape-of, children, build}
+use Rattle.rules.specs.Reasons.{meant}
+use Rattle.rules.specs.Sight.{Means, wanted-in}
+use Rattle.rules.specs.declared.Reason.{Reason}
+use Rattle.rules.specs.declared.Typing.{Typing}
+use Rattle.rules.specs.declared.Typing.the-variants as Typing
+use Rattle.rules.specs.declared.sight.Callee.{Callee}
+
+-- ---- answers
+
+-- the code's answer tells what the written checker answers
+pub data Tells : Typing → Res Ty → Type 0 where
+  tells-type : {n : ℕ} {t : Ty} → n ≡ type-number t → Tells (Typing.«Type» n) (ok t)
+  tells-fault : {r : Reason} {q : Faults.Reason} {i : ℕ} → meant r ≡ q → Tells (Typing.Fault r i) (bad q i)
+
+-- the types ts are those that the callee wants from its argument k on
+unfoldable pub suits : List ℕ → Callee → ℕ → List Ty → Bool
+suits w c k [] = true
+suits w c k (t ∷ ts) = eqb (type-number t) (wanted-in w c k) && suits w c (suc k) ts
+
+-- ---- what a node asks when its children are typed
+
+-- how many children, whatever the shape
+abbrev pub Children : ℕ → ℕ → Type 0
+Children kind n = (s : Shape) → shape-of kind ≡ some s → n ≡ children s
+
+-- a constant's type
+abbrev pub Constant : ℕ → ℕ → Type 0
+Constant kind n =
+    (ts : List Token) (s : Shape) (Δ : Scope Sig) (Γ : Scope Ty) (i : ℕ) (a b c : Exp) (es : Exps)
+    → shape-of kind ≡ some s → children s ≡ 0 → (kind ≡ NAME → ⊥) → (kind ≡ CALL → ⊥)
+    → (t : Ty) × (infer Δ (build ts s i a b c es) Γ ≡ ok t) × (n ≡ type-number t)
+
+-- the answer of a node with one child, whose type has the number n
+abbrev pub AsksOne : ℕ → ℕ → ℕ → Typing → Type 0
+AsksOne kind n i r =
+    (ts : List Token) (s : Shape) (Δ : Scope Sig) (Γ : Scope Ty) (a b c : Exp) (es : Exps) (t : Ty)
+    → shape-of kind ≡ some s → children s ≡ 1 → infer Δ a Γ ≡ ok t → n ≡ type-number t
+    → Tells r (infer Δ (build ts s i a b c es) Γ)
+
+-- with two children; a `let`, whose second child sees more, is not among these
+abbrev pub AsksTwo : ℕ → ℕ → ℕ → ℕ → Typing → Type 0
+AsksTwo kind m n i r =
+    (ts : List Token) (s : Shape) (Δ : Scope Sig) (Γ : Scope Ty) (a b c : Exp) (es : Exps) (t u : Ty)
+    → shape-of kind ≡ some s → children s ≡ 2 → (kind ≡ LET → ⊥) → infer Δ a Γ ≡ ok t → m ≡ type-number t → infer Δ b Γ ≡ ok u
+    → n ≡ type-number u
+    → Tells r (infer Δ (build ts s i a b c es) Γ)
+
+-- an operator's answer, once its operands' types are known
+abbrev pub Prefixed : ℕ → ℕ → ℕ → Typing → Type 0
+Prefixed kind n i r = (o : Unary) (t : Ty) → kind ≡ unary-kind o → n ≡ type-number t → Tells r (told (unop o t) (unsuited o) i)
+
+-- between two operands
+abbrev pub Between : ℕ → ℕ → ℕ → ℕ → Typing → Type 0
+Between kind m n i r =
+    (o : Binary) (t u : Ty) → kind ≡ binary-kind o → m ≡ type-number t → n ≡ type-number u → Tells r (told (binop o t u) wrong-operands i)
+
+-- of a prefix operator that wants one type and gives it back
+abbrev pub Alike : ℕ → ℕ → ℕ → Typing → Type 0
+Alike m n i r = (t u : Ty) → m ≡ type-number t → n ≡ type-number u → Tells r (told (if-yes (Ty-discrete t u) u) wrong-operand i)
+
+-- of `:=`
+abbrev pub Assigns : ℕ → ℕ → ℕ → Typing → Type 0
+Assigns m n i r = (t u : Ty) → m ≡ type-number t → n ≡ type-number u → Tells r (told (binop assign t u) wrong-operands i)
+
+-- of `;`
+abbrev pub Follows : ℕ → ℕ → ℕ → Typing → Type 0
+Follows m n i r = (t u : Ty) → m ≡ type-number t → n ≡ type-number u → Tells r (need (Ty-discrete t unit) not-unit i λ _. ok u)
+
+-- of `while`
+abbrev pub Repeats : ℕ → ℕ → ℕ → Typing → Type 0
+Repeats m n i r =
+    (t u : Ty) → m ≡ type-number t → n ≡ type-number u
+    → Tells r (need (Ty-discrete t bool) not-bool i λ _. need (Ty-discrete u unit) not-unit i λ _. ok unit)
+
+-- the type that an operator wants of both operands, and that of its result; `:=`, which wants two types, is kept out where
+-- these are used
+abbrev pub operand : Binary → Ty
+operand add = int
+operand sub = int
+operand mul = int
+operand div = int
+operand less = int
+operand equal = int
+operand and = bool
+operand or = bool
+operand assign = unit
+
+-- the type of the result
+abbrev pub result : Binary → Ty
+result add = int
+result sub = int
+result mul = int
+result div = int
+result less = bool
+result equal = bool
+result and = bool
+result or = bool
+result assign = unit
+
+-- and these by the operator's kind
+abbrev pub Operand : ℕ → ℕ → Type 0
+Operand kind n = (o : Binary) → (o ≡ assign → ⊥) → kind ≡ binary-kind o → n ≡ type-number (operand o)
+
+abbrev pub Result : ℕ → ℕ → Type 0
+Result kind n = (o : Binary) → (o ≡ assign → ⊥) → kind ≡ binary-kind o → n ≡ type-number (result o)
+
+-- of an `if`, with the numbers of its condition's and its branches' types
+abbrev pub AsksIf : ℕ → ℕ → ℕ → ℕ → Typing → Type 0
+AsksIf k m n i r =
+    (Δ : Scope Sig) (Γ : Scope Ty) (a b c : Exp) (v t u : Ty)
+    → infer Δ a Γ ≡ ok v → k ≡ type-number v → infer Δ b Γ ≡ ok t → m ≡ type-number t → infer Δ c Γ ≡ ok u → n ≡ type-number u
+    → Tells r (infer Δ (branch i a b c) Γ)
+
+-- what a call answers of a function with such a signature, where the flag tells whether the arguments suit
+abbrev pub Matches : ℕ → ℕ → ℕ → Bool → ℕ → Typing → Type 0
+Matches a g n b i r =
+    (s : Sig) (us : List Ty) → a ≡ length (s .takes) → g ≡ type-number (s .gives) → n ≡ length us
+    → (length us ≡ length (s .takes) → (b ≡ true → us ≡ s .takes) × (b ≡ false → us ≡ s .takes → ⊥))
+    → Tells r (need (ℕ-discrete (length us) (length (s .takes))) wrong-number i λ _. need (same-types us
+    (s .takes)) wrong-argument i λ _. ok (s .gives))
+
+-- of a call of c, which has so many arguments that suit or do not
+abbrev pub AsksCall : List ℕ → Callee → ℕ → Bool → ℕ → Typing → Type 0
+AsksCall w c n b i r =
+    (ts : List Token) (f : ℕ) (Δ : Scope Sig) (Γ : Scope Ty) (x : Name) (es : Exps) (us : List Ty)
+    → Means f ts w c (nearest x Δ) → infers Δ es Γ ≡ ok us → n ≡ length us → b ≡ suits w c 0 us
+    → Tells r (infer Δ (call i x es) Γ)

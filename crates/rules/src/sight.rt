@@ -1,0 +1,93 @@
+// What is in sight: the nearest variable of a name, the function that a call means, and what it wants.
+// Names are compared by their numbers.
+ghost use mathlib.Core.Path.{_≡_};
+ghost use Prim.Native.Nat.{ℕ, _+_, _≤_, _<_};
+ghost use lib.ListN.{length};
+ghost use Rattle.language.specs.Sizes.{TOKENS, TABLE};
+ghost use Rattle.rules.specs.Sight.{find-variable, found, function-name, callee-in, Rowed, wanted-in, Headed};
+use crate::types;
+use layout::PUTCHAR;
+use layout::functions;
+use layout::rows;
+use layout::tokens;
+use layout::variables;
+
+// A variable, by its type's number.
+pub enum Found {
+    Is(u32),
+    Nowhere,
+}
+
+// Whom a call means: the function at a row, or the one that is there before all others.
+pub enum Callee {
+    Function(usize),
+    Putchar,
+    Nobody,
+}
+
+// The nearest of the first `binds` variables that has this name.
+pub fn variable(table: &[u32], binds: usize, name: u32) -> Found
+    requires { ⌜ (TABLE ≤ length (now table)) × (binds ≤ TOKENS) ⌝ }
+    ensures { λ r. ⌜ found r ≡ find-variable (now (table .entry)) name binds ⌝ }
+{
+    let mut i = binds;
+    while 0 < i {
+        let k = i - 1;
+        if variables::name(table, k) == name {
+            return Found::Is(variables::kind(table, k));
+        }
+        i = k;
+    }
+    Found::Nowhere
+}
+
+// The number of function k's name, which stands behind its `def`.
+pub fn name_of(table: &[u32], k: usize) -> u32
+    requires { ⌜ (TABLE ≤ length (now table)) × Headed (now table) k ⌝ }
+    ensures { λ r. ⌜ r ≡ function-name (now (table .entry)) k ⌝ }
+{
+    let row = functions::row(table, k);
+    let def = rows::link(table, row, 1);
+    tokens::value(table, def + 1)
+}
+
+// The callee of this name: the newest of the first `seen` functions, or `putchar`.
+pub fn called(table: &[u32], seen: usize, name: u32) -> Callee
+    requires { ⌜ (TABLE ≤ length (now table)) × ((k : ℕ) → k < seen → Headed (now table) k) ⌝ }
+    ensures { λ r. ⌜ r ≡ callee-in (now (table .entry)) name seen ⌝ }
+{
+    let mut i = seen;
+    while 0 < i {
+        let k = i - 1;
+        if name_of(table, k) == name {
+            return Callee::Function(functions::row(table, k));
+        }
+        i = k;
+    }
+    if name == PUTCHAR {
+        return Callee::Putchar;
+    }
+    Callee::Nobody
+}
+
+// The number of the type that a callee wants of its argument k, 0 where it has none.
+pub fn wanted(table: &[u32], callee: Callee, k: usize) -> u32
+    requires { ⌜ (TABLE ≤ length (now table)) × Rowed (now table) callee ⌝ }
+    ensures { λ r. ⌜ r ≡ wanted-in (now (table .entry)) callee k ⌝ }
+{
+    match callee {
+        Callee::Function(row) => {
+            if k < rows::link(table, row, 2) {
+                return rows::word(table, row + k + 1, 2);
+            }
+            0
+        }
+        Callee::Putchar => {
+            if k == 0 {
+                return types::INT;
+            }
+            0
+        }
+        Callee::Nobody => 0,
+    }
+}
