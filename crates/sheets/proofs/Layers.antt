@@ -31,10 +31,10 @@ use Rattle.reader.specs.declared.Found as found
 use Rattle.checker.specs.Checked as Checker
 use Rattle.checker.specs.declared.Typing as typing
 use Rattle.checker.specs.declared.Reason.{Reason}
-use Rattle.grumpy.specs.Sheets.{wiped, Held, OfProgram, Typed, Standing, Denied, denied-unread, denied-large, denied-fault, OfTokens, Read, OfSource, Examined}
-use Rattle.grumpy.specs.declared.answers.Refusal.the-variants as refusal
-use Rattle.grumpy.specs.declared.sheets.Seen.{Seen}
-use Rattle.grumpy.specs.declared.sheets.Seen.the-variants as seen
+use Rattle.sheets.specs.Sheets.{wiped, Held, OfProgram, Typed, Standing, Denied, denied-unread, denied-large, denied-fault, OfTokens, Read, OfSource, Examined}
+use Rattle.sheets.specs.declared.refusals.Refusal.the-variants as refusal
+use Rattle.sheets.specs.declared.Seen.{Seen}
+use Rattle.sheets.specs.declared.Seen.the-variants as seen
 
 -- ---- places
 
