@@ -103,7 +103,7 @@ fn report(answer: Ran, out: &[u8]) {
             bytes(out, printed);
         }
         Ran::Refused(why, place) => {
-            three(grumpy::numbers::of_refusal(why), place, 0);
+            three(sheets::numbers::of_refusal(why), place, 0);
             field(0);
             field(0);
         }

@@ -3,70 +3,22 @@
 use mathlib.Core.List.{List}
 use mathlib.Core.Path.{_≡_, refl, sym, ap, ap₂, _∙_}
 use Prim.Native.Nat.{ℕ}
-use Rattle.language.specs.Text as Text
-use Rattle.language.specs.Faults as Faults
 use Rattle.language.specs.State as State
 use Rattle.language.specs.Numbers.{Row, passed, short-memory, large-allowance, long-source, text, no-reading, many-nodes, types, stopped}
 use Rattle.language.specs.Answers.{CheckReport, Check, RunReport, Run}
 use Rattle.language.proofs.Answers.OneAnswer.{one-check, one-run}
-use Rattle.tokens.specs.Answer as Tokens
 use Rattle.tokens.specs.declared.answer.Flaw as flaw
-use Rattle.checker.specs.Checked as Checker
-use Rattle.checker.specs.declared.Reason as reason
+use Rattle.rules.specs.declared.Reason as reason
 use Rattle.machine.specs.Outcomes.{why}
 use Rattle.machine.specs.declared.Stop as halt
+use Rattle.sheets.specs.declared.refusals.Refusal as refused
+use Rattle.rules.proofs.ReasonLaws.{reason-of, reason-back}
+use Rattle.sheets.proofs.OneRefusal.{flaw-of, flaw-back}
 use Rattle.grumpy.specs.Reports.{checked-row, checked-report, ran-row, ran-report}
-use Rattle.grumpy.specs.declared.answers.Refusal as refused
 use Rattle.grumpy.specs.declared.answers.Checked as checked
 use Rattle.grumpy.specs.declared.answers.Ran as ran
 
--- ---- the code's names for the written ones
-
-abbrev flaw-of : Text.Flaw → flaw.Flaw
-flaw-of Text.Flaw.strange-byte = flaw.the-variants.StrangeByte
-flaw-of Text.Flaw.open-comment = flaw.the-variants.OpenComment
-flaw-of Text.Flaw.large-number = flaw.the-variants.LargeNumber
-flaw-of Text.Flaw.many-tokens = flaw.the-variants.ManyTokens
-
-flaw-back : (f : flaw.Flaw) → flaw-of (Tokens.meant f) ≡ f
-flaw-back flaw.the-variants.StrangeByte = refl
-flaw-back flaw.the-variants.OpenComment = refl
-flaw-back flaw.the-variants.LargeNumber = refl
-flaw-back flaw.the-variants.ManyTokens = refl
-
-abbrev reason-of : Faults.Reason → reason.Reason
-reason-of Faults.Reason.no-binding = reason.the-variants.NoBinding
-reason-of Faults.Reason.no-function = reason.the-variants.NoFunction
-reason-of Faults.Reason.wrong-number = reason.the-variants.WrongNumber
-reason-of Faults.Reason.wrong-argument = reason.the-variants.WrongArgument
-reason-of Faults.Reason.wrong-operand = reason.the-variants.WrongOperand
-reason-of Faults.Reason.wrong-operands = reason.the-variants.WrongOperands
-reason-of Faults.Reason.not-unit = reason.the-variants.NotUnit
-reason-of Faults.Reason.not-bool = reason.the-variants.NotBool
-reason-of Faults.Reason.branches-differ = reason.the-variants.BranchesDiffer
-reason-of Faults.Reason.wrong-body = reason.the-variants.WrongBody
-reason-of Faults.Reason.too-many-refs = reason.the-variants.TooManyRefs
-reason-of Faults.Reason.too-many-functions = reason.the-variants.TooManyFunctions
-reason-of Faults.Reason.too-many-parameters = reason.the-variants.TooManyParameters
-reason-of Faults.Reason.function-twice = reason.the-variants.FunctionTwice
-reason-of Faults.Reason.parameter-twice = reason.the-variants.ParameterTwice
-
-reason-back : (r : reason.Reason) → reason-of (Checker.meant r) ≡ r
-reason-back reason.the-variants.NoBinding = refl
-reason-back reason.the-variants.NoFunction = refl
-reason-back reason.the-variants.WrongNumber = refl
-reason-back reason.the-variants.WrongArgument = refl
-reason-back reason.the-variants.WrongOperand = refl
-reason-back reason.the-variants.WrongOperands = refl
-reason-back reason.the-variants.NotUnit = refl
-reason-back reason.the-variants.NotBool = refl
-reason-back reason.the-variants.BranchesDiffer = refl
-reason-back reason.the-variants.WrongBody = refl
-reason-back reason.the-variants.TooManyRefs = refl
-reason-back reason.the-variants.TooManyFunctions = refl
-reason-back reason.the-variants.TooManyParameters = refl
-reason-back reason.the-variants.FunctionTwice = refl
-reason-back reason.the-variants.ParameterTwice = refl
+-- ---- the code's names for the written stops
 
 abbrev stop-of : State.Stop → halt.Stop
 stop-of State.Stop.no-unit = halt.the-variants.NoUnit

@@ -1,4 +1,3 @@
-pub mod Layers
 pub mod Runs
 pub mod Services
 pub mod Determined

@@ -20,9 +20,9 @@ use Rattle.machine.specs.Outcomes.{why}
 use Rattle.runner.specs.declared.Done as done
 use Rattle.machine.specs.declared.Stop.{Stop}
 use Rattle.runner.specs.declared.Spent as spent
-use Rattle.grumpy.specs.Sheets.{EndsInValue, EndsInStop, Executed}
+use Rattle.grumpy.specs.Outcomes.{EndsInValue, EndsInStop, Executed}
 use Rattle.grumpy.specs.declared.answers.Ran as ran
-use Rattle.grumpy.proofs.Layers.{place-stands}
+use Rattle.sheets.proofs.Layers.{place-stands}
 
 -- no more units are left than were allowed
 abbrev units-of : M.Outcome → ℕ

@@ -18,11 +18,12 @@ use Rattle.language.proofs.Text.SmallNumbers.{split-small}
 use Rattle.runner.specs.Contract as Runner
 use Rattle.machine.specs.Outcomes.{why}
 use Rattle.grumpy.specs.Reports.{checked-row, checked-report, ran-row, ran-report}
-use Rattle.grumpy.specs.Sheets.{Passing, OfSource, Examined, Counts, OfRun, Executed, Finishable, Answered, Finished}
-use Rattle.grumpy.specs.declared.answers.Refusal as refused
+use Rattle.sheets.specs.Sheets.{Passing, OfSource, Examined}
+use Rattle.grumpy.specs.Outcomes.{Counts, OfRun, Executed, Finishable, Answered, Finished}
+use Rattle.sheets.specs.declared.refusals.Refusal as refused
 use Rattle.grumpy.specs.declared.answers.Checked as checked
 use Rattle.grumpy.specs.declared.answers.Ran as ran
-use Rattle.grumpy.specs.declared.sheets.Seen as seen
+use Rattle.sheets.specs.declared.Seen as seen
 
 -- after a source was looked at, the required words are zero
 refused-leaves : {source : List ℕ} {w : Row} {i : ℕ} → Refused source w i → (n : ℕ) (words : List ℕ) → left w n words ≡ cleared n words

@@ -1,2 +1,2 @@
 pub mod Reports
-pub mod Sheets
+pub mod Outcomes

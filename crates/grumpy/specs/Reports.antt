@@ -1,24 +1,11 @@
 -- What the answers of the services say in the paper's numbers: the row of the table, and the report.
 use lib.IntN.{pos}
-use Rattle.language.specs.Numbers.{Row, passed, short-memory, large-allowance, long-source, text, no-reading, many-nodes, types, stopped, number}
+use Rattle.language.specs.Numbers.{Row, passed, stopped, number}
 use Rattle.language.specs.Answers.{CheckReport, check-report, RunReport, refusal}
-use Rattle.tokens.specs.Answer as Tokens
-use Rattle.checker.specs.Checked as Checker
 use Rattle.machine.specs.Outcomes.{why}
-use Rattle.grumpy.specs.declared.answers.Refusal.{Refusal}
-use Rattle.grumpy.specs.declared.answers.Refusal.the-variants.{ShortMemory, LargeAllowance, LongSource, Text, NoReading, ManyNodes, Types}
+use Rattle.sheets.specs.Refusals.{refusal-row}
 use Rattle.grumpy.specs.declared.answers.Checked as checked
 use Rattle.grumpy.specs.declared.answers.Ran as ran
-
--- the row that a refusal is
-abbrev pub refusal-row : Refusal → Row
-refusal-row ShortMemory = short-memory
-refusal-row LargeAllowance = large-allowance
-refusal-row LongSource = long-source
-refusal-row (Text f) = text (Tokens.meant f)
-refusal-row NoReading = no-reading
-refusal-row ManyNodes = many-nodes
-refusal-row (Types r) = types (Checker.meant r)
 
 -- ---- check
 

@@ -1,18 +1,6 @@
 // What the services answer. `specs/Reports.antt` gives the paper's numbers for each case.
-use checker::Reason;
 use machine::Stop;
-use tokens::answer::Flaw;
-
-// Why a sheet is not run: the rows below 50, in the order in which they are looked for.
-pub enum Refusal {
-    ShortMemory,
-    LargeAllowance,
-    LongSource,
-    Text(Flaw),
-    NoReading,
-    ManyNodes,
-    Types(Reason),
-}
+use sheets::refusals::Refusal;
 
 // A type's number, or a refusal and the byte it is told at.
 pub enum Checked {

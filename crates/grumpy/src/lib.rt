@@ -6,16 +6,16 @@ ghost use Rattle.grumpy.specs.Reports.{checked-row, checked-report, ran-
 
 pub mod answers;
 pub mod numbers;
-mod sheets;
+mod outcomes;
 
 use crate::answers::Checked;
 use crate::answers::Ran;
-use crate::answers::Refusal;
-use crate::sheets::Seen;
 use language::ALLOWANCE;
 use language::TABLE;
 use language::WORK;
 use layout::memory;
+use sheets::Seen;
+use sheets::refusals::Refusal;
 
 pub fn check(source: &[u8], table: &mut [u32]) -> Checked
     ensures { λ r. ⌜ Check (now (source .entry)) (now (table .entry)) (checked-row r) (checked-report r) (now (table .exit)) ⌝ }
@@ -58,7 +58,7 @@ pub fn run(
         return Ran::Refused(Refusal::LargeAllowance, 0);
     }
     let seen = sheets::examine(source, table);
-    let answer = sheets::finish(table, work, out, seen, allowance as u32);
+    let answer = outcomes::finish(table, work, out, seen, allowance as u32);
     memory::clear(table, 0, TABLE);
     answer
 }

@@ -1,47 +1,8 @@
-// The paper's numbers for refusals and stops.
+// The paper's numbers for stops; those for refusals are in `sheets`.
 ghost use mathlib.Core.Path.{_≡_};
-ghost use Rattle.language.specs.Numbers.{number, flaw-number, reason-number, stop-number};
-ghost use Rattle.tokens.specs.Answer.{meant as flaw-meant};
-ghost use Rattle.checker.specs.Checked.{meant as reason-meant};
+ghost use Rattle.language.specs.Numbers.{stop-number};
 ghost use Rattle.machine.specs.Outcomes.{why as stop-meant};
-ghost use Rattle.grumpy.specs.Reports.{refusal-row};
-use crate::answers::Refusal;
-use checker::Reason;
 use machine::Stop;
-use tokens::answer::Flaw;
-
-fn of_flaw(flaw: Flaw) -> u32
-    ensures { λ r. ⌜ r ≡ flaw-number (flaw-meant flaw) ⌝ }
-{
-    match flaw {
-        Flaw::StrangeByte => 11,
-        Flaw::OpenComment => 12,
-        Flaw::LargeNumber => 13,
-        Flaw::ManyTokens => 14,
-    }
-}
-
-fn of_reason(reason: Reason) -> u32
-    ensures { λ r. ⌜ r ≡ reason-number (reason-meant reason) ⌝ }
-{
-    match reason {
-        Reason::TooManyFunctions => 30,
-        Reason::TooManyParameters => 30,
-        Reason::FunctionTwice => 31,
-        Reason::ParameterTwice => 32,
-        Reason::NoBinding => 33,
-        Reason::NoFunction => 33,
-        Reason::WrongNumber => 33,
-        Reason::WrongArgument => 33,
-        Reason::WrongOperand => 33,
-        Reason::WrongOperands => 33,
-        Reason::NotUnit => 33,
-        Reason::NotBool => 33,
-        Reason::BranchesDiffer => 33,
-        Reason::WrongBody => 33,
-        Reason::TooManyRefs => 34,
-    }
-}
 
 pub fn of_stop(stop: Stop) -> u32
     ensures { λ r. ⌜ r ≡ stop-number (stop-meant stop) ⌝ }
@@ -55,19 +16,5 @@ pub fn of_stop(stop: Stop) -> u32
         Stop::CellsFull => 55,
         Stop::NotAByte => 56,
         Stop::OutputFull => 57,
-    }
-}
-
-pub fn of_refusal(refusal: Refusal) -> u32
-    ensures { λ r. ⌜ r ≡ number (refusal-row refusal) ⌝ }
-{
-    match refusal {
-        Refusal::ShortMemory => 40,
-        Refusal::LargeAllowance => 41,
-        Refusal::LongSource => 10,
-        Refusal::Text(flaw) => of_flaw(flaw),
-        Refusal::NoReading => 20,
-        Refusal::ManyNodes => 21,
-        Refusal::Types(reason) => of_reason(reason),
     }
 }

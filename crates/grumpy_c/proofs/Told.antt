@@ -12,8 +12,9 @@ use Rattle.language.specs.Answers.{Check, Run}
 use Rattle.language.proofs.Answers.OneAnswer.{one-check, one-run}
 use Rattle.machine.specs.Outcomes.{why}
 use Rattle.machine.specs.declared.Stop.{Stop}
-use Rattle.grumpy.specs.Reports.{refusal-row, checked-row, checked-report, ran-row, ran-report}
-use Rattle.grumpy.specs.declared.answers.Refusal.{Refusal}
+use Rattle.sheets.specs.Refusals.{refusal-row}
+use Rattle.sheets.specs.declared.refusals.Refusal.{Refusal}
+use Rattle.grumpy.specs.Reports.{checked-row, checked-report, ran-row, ran-report}
 use Rattle.grumpy.specs.declared.answers.Checked as checked
 use Rattle.grumpy.specs.declared.answers.Ran as ran
 use Rattle.grumpy_c.specs.Reports.{three, six, check-words, run-words, ToldChecked, ToldRan, CheckedC, check-no-report, check-reported, RanC, run-no-report, run-reported}

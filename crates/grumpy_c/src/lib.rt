@@ -9,7 +9,6 @@ ghost use mir.Val.{ofZ};
 ghost use Rattle.grumpy_c.specs.Reports.{three, six, ToldChecked, ToldRan, CheckedC, RanC};
 use grumpy::answers::Checked;
 use grumpy::answers::Ran;
-use grumpy::numbers;
 
 // The two's complement of v.
 fn complement(v: i64) -> u64
@@ -60,7 +59,7 @@ fn report_checked(report: &mut [u64], answer: Checked) -> u32
             0
         }
         Checked::Refused(why, place) => {
-            let number = numbers::of_refusal(why);
+            let number = sheets::numbers::of_refusal(why);
             put_three(report, number, place, 0);
             number
         }
@@ -89,12 +88,12 @@ fn report_ran(report: &mut [u64], answer: Ran) -> u32
             units,
             printed,
         } => {
-            let number = numbers::of_stop(why);
+            let number = grumpy::numbers::of_stop(why);
             put_six(report, number, place, kind, 0, units, printed);
             number
         }
         Ran::Refused(why, place) => {
-            let number = numbers::of_refusal(why);
+            let number = sheets::numbers::of_refusal(why);
             put_six(report, number, place, 0, 0, 0, 0);
             number
         }

@@ -1,3 +1,4 @@
+pub mod ReasonLaws
 pub mod TellLaws
 pub mod SightLaws
 pub mod OperatorLaws

@@ -46,7 +46,7 @@ fn run_whole(source: &[u8], allowance: u64) {
             report::units(units, allowance);
         }
         Ran::Refused(why, place) => {
-            report::refusal(source, grumpy::numbers::of_refusal(why), place);
+            report::refusal(source, sheets::numbers::of_refusal(why), place);
         }
     }
 }
@@ -60,7 +60,7 @@ fn check_whole(source: &[u8]) {
             report::kind(kind);
         }
         Checked::Refused(why, place) => {
-            report::refusal(source, grumpy::numbers::of_refusal(why), place);
+            report::refusal(source, sheets::numbers::of_refusal(why), place);
         }
     }
 }

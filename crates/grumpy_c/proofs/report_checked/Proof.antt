@@ -5,7 +5,7 @@ use Rattle.grumpy_c.proofs.report_checked.Statement.{statement}
 use Rattle.grumpy_c.proofs.report_checked.Tie as tie
 use Rattle.grumpy_c.proofs.report_checked.Reads as reads
 use Rattle.grumpy_c.proofs.report_checked.Lts as lts
-use Rattle.grumpy.proofs.numbers.of_refusal.Reads as of-refusal-reads
+use Rattle.sheets.proofs.numbers.of_refusal.Reads as of-refusal-reads
 use Rattle.grumpy_c.proofs.put_three.Reads as put-three-reads
 
 -- src/lib.rt:51:25

@@ -9,7 +9,7 @@ use Rattle.grumpy_c.proofs.report_ran.Statement.{statement}
 use Rattle.grumpy_c.proofs.report_ran.Tie as tie
 use Rattle.grumpy_c.proofs.report_ran.Reads as reads
 use Rattle.grumpy_c.proofs.report_ran.Lts as lts
-use Rattle.grumpy.proofs.numbers.of_refusal.Reads as of-refusal-reads
+use Rattle.sheets.proofs.numbers.of_refusal.Reads as of-refusal-reads
 use Rattle.grumpy.proofs.numbers.of_stop.Reads as of-stop-reads
 use Rattle.grumpy_c.proofs.complement.Reads as complement-reads
 use Rattle.grumpy_c.proofs.put_six.Reads as put-six-reads

@@ -29,12 +29,13 @@ use Rattle.tokens.specs.declared.answer.Flaw.{Flaw}
 use Rattle.reader.specs.Findings as Reader
 use Rattle.reader.specs.declared.Found as found
 use Rattle.checker.specs.Checked as Checker
-use Rattle.checker.specs.declared.Typing as typing
-use Rattle.checker.specs.declared.Reason.{Reason}
-use Rattle.grumpy.specs.Sheets.{wiped, Held, OfProgram, Typed, Standing, Denied, denied-unread, denied-large, denied-fault, OfTokens, Read, OfSource, Examined}
-use Rattle.grumpy.specs.declared.answers.Refusal.the-variants as refusal
-use Rattle.grumpy.specs.declared.sheets.Seen.{Seen}
-use Rattle.grumpy.specs.declared.sheets.Seen.the-variants as seen
+use Rattle.rules.specs.Reasons as Rules
+use Rattle.rules.specs.declared.Typing as typing
+use Rattle.rules.specs.declared.Reason.{Reason}
+use Rattle.sheets.specs.Sheets.{wiped, Held, OfProgram, Typed, Standing, Denied, denied-unread, denied-large, denied-fault, OfTokens, Read, OfSource, Examined}
+use Rattle.sheets.specs.declared.refusals.Refusal.the-variants as refusal
+use Rattle.sheets.specs.declared.Seen.{Seen}
+use Rattle.sheets.specs.declared.Seen.the-variants as seen
 
 -- ---- places
 
@@ -72,7 +73,7 @@ module _ (w w′ : List ℕ) (count defs root : ℕ) where
       → j ≡ place-of w′ count i → Typed w w′ count defs root (seen.Refused (refusal.Types y) j)
   typed-fault r y i j c q e = record {
     told = λ ts p h.
-        (Checker.meant y, i, subst (λ (r : typing.Typing). Checker.Answers r p) q (c .right ts p h), refl, e ∙ place-stands ((checked-holds (c .table) ts p h) .stand) i);
+        (Rules.meant y, i, subst (λ (r : typing.Typing). Checker.Answers r p) q (c .right ts p h), refl, e ∙ place-stands ((checked-holds (c .table) ts p h) .stand) i);
     holds = checked-holds (c .table);
     rest = checked-rest (c .table);
     long = checked-long (c .table);
