@@ -7,10 +7,14 @@
 //! second cases              all case files and all examples of the paper
 //! second table FILE         the file's sheets, each with the answer under it
 //! second deep BYTES         the deepest sheets on a stack of that size
+//! second bench FILE ALLOWANCE REPEATS   the sheet by the clock, that many runs
+//! second bench FILE ALLOWANCE print     what it prints, its value under it
 //! ```
 //!
-//! Where GRUMPY_BOX names a program (see `piped`), each of them but `show` holds
-//! that one against this one; without it this one runs alone.
+//! Where GRUMPY_BOX names a program (see `piped`), each of them but `show` and
+//! `bench` holds that one against this one; without it this one runs alone.
+
+mod bench;
 
 use second::answer::{self, Answer, Lent};
 use second::cases::{self, Case};
@@ -19,6 +23,7 @@ use second::piped::Piped;
 use second::trial::Trial;
 use second::{deep, on_big_stack, paper, shrink, trial};
 use std::collections::BTreeMap;
+use std::io::Write;
 use std::process::ExitCode;
 use std::sync::LazyLock;
 
@@ -33,6 +38,9 @@ fn main() -> ExitCode {
         ["table", file] => on_big_stack(|| table(file)),
         ["show", seed, index] => show(number(seed), number(index)),
         ["deep", bytes] => all_deep(number(bytes) as usize),
+        ["bench", file, allowance, repeats] => {
+            on_big_stack(|| by_the_clock(file, number(allowance), repeats))
+        }
         ["trace", count, seed, start] => series(number(count), number(seed), number(start), true),
         [count, seed] => series(number(count), number(seed), 0, false),
         [count, seed, start] => series(number(count), number(seed), number(start), false),
@@ -47,7 +55,7 @@ fn number(word: &str) -> u64 {
 }
 
 fn usage() -> u64 {
-    eprintln!("second N SEED [START] | trace N SEED START | show SEED INDEX | cases | table FILE | deep BYTES");
+    eprintln!("second N SEED [START] | trace N SEED START | show SEED INDEX | cases | table FILE | deep BYTES | bench FILE ALLOWANCE REPEATS");
     1
 }
 
@@ -232,6 +240,34 @@ fn table(file: &str) -> u64 {
         println!("{sheet}\n{allowance}: {number} {place} {kind} {value} {units}{printed}");
     }
     0
+}
+
+/// Room for the output of any sheet of the bench, as the box has it there.
+const ROOM: usize = 1 << 16;
+
+fn by_the_clock(file: &str, allowance: u64, repeats: &str) -> u64 {
+    let sheet = std::fs::read(file).expect("the file can be read");
+    let lent = Lent {
+        allowance,
+        output: ROOM,
+        ..Lent::default()
+    };
+    let told = match repeats {
+        "print" => bench::printed(&sheet, &lent),
+        _ => bench::timed(&sheet, &lent, number(repeats)).map(String::into_bytes),
+    };
+    match told {
+        Ok(bytes) => {
+            std::io::stdout()
+                .write_all(&bytes)
+                .expect("it can be written");
+            0
+        }
+        Err(problem) => {
+            eprintln!("{file}: {problem}");
+            1
+        }
+    }
 }
 
 /// This interpreter needs its big stack; the other one gets the given one.
