@@ -25,7 +25,8 @@ use Rattle.judge.proofs.SheetLaws.{sheet-headed}
 use Rattle.rules.proofs.PlainLaws.{callee-plain, rowed-plain, wanted-plain, asks-plain}
 use Rattle.judge.proofs.NodeLaws.{first-stops, one-goes, second-stops, two-goes, then-stops, else-stops, if-goes, name-goes, constant-goes}
 use Rattle.judge.proofs.BindLaws.{let-goes, args-end, args-stop, args-go, call-stops, call-goes}
-use Rattle.judge.proofs.ReadyLaws.{ready-row, ready-binds, ready-name, ready-called, ready-bound, ready-args, args-row}
+use Rattle.judge.proofs.ReadyLaws.{ready-row, ready-binds, ready-name, ready-called, ready-bound, ready-args}
+use Rattle.judge.proofs.ReadyArguments.{args-row}
 
 -- the same words after a call
 pub judged-as : {w w′ : List ℕ} {node seen binds : ℕ} {r q : Typing} → r ≡ q → Judged w w′ node seen binds r → Judged w w′ node seen binds q

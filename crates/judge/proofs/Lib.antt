@@ -4,4 +4,5 @@ mod Naming
 mod NodeLaws
 mod BindLaws
 mod ReadyLaws
+mod ReadyArguments
 mod JudgeLaws

@@ -2,3 +2,4 @@ pub mod Digits
 pub mod Feeds
 pub mod Negative
 pub mod Parts
+pub mod Spelling

@@ -1,5 +1,6 @@
-// What the program around the box does with bytes: it tells a number among its arguments, sets the call
-// of a shift under a rate sheet, finds the line and the column of a place, and takes a number's sign off.
+// What the program around the box does with bytes: it tells a number among its arguments and reads one,
+// sets the call of a shift under a rate sheet, finds the line and the column of a place, and takes a
+// number's sign off.
 ghost use mathlib.Core.Path.{_≡_};
 ghost use Prim.Native.Nat.{min};
 ghost use lib.IntN.{natAbs};
@@ -9,6 +10,7 @@ ghost use Rattle.page.specs.Numbers.{is-number};
 
 mod bytes;
 pub mod lines;
+mod numbers;
 mod sheet;
 
 use crate::bytes::is_digit;
@@ -16,6 +18,7 @@ use crate::lines::Spot;
 use crate::lines::feeds_before;
 use crate::lines::line_end;
 use crate::lines::line_start;
+pub use numbers::allowance;
 pub use sheet::Composed;
 pub use sheet::compose;
 

@@ -1,5 +1,4 @@
 // The three tasks.
-use crate::arguments;
 use crate::input;
 use crate::input::Sheet;
 use crate::report;
@@ -84,7 +83,7 @@ pub fn run() {
             report::complain(b"slip: the allowance is no number");
             return;
         }
-        allowance = arguments::allowance(&word[..digits]);
+        allowance = page::allowance(&word[..digits]);
     }
     let Sheet::Bytes(length) = input::load(2, &mut sheet) else {
         return;

@@ -1,6 +1,6 @@
 -- What the borrow checker leaves of `arguments`.
 use mathlib.Core.Path.{_∙_}
-use Rattle.judge.proofs.ReadyLaws.{args-inside, args-rowed, args-first, args-next}
+use Rattle.judge.proofs.ReadyArguments.{args-inside, args-rowed, args-first, args-next}
 use Rattle.judge.proofs.JudgeLaws.{end-judged, stop-judged, more-judged}
 use Prim.Native.Nat.{ℕ}
 use borrow.Author.Needs.{needs}
