@@ -13,14 +13,9 @@ use Rattle.language.specs.Tokens.{Spelling, same, Token, NAME, PAST, past, kind
 use Rattle.language.specs.Trees.{PUTCHAR}
 use Rattle.layout.specs.Table.{token-word}
 use Rattle.layout.specs.Names.{first-from, name-number, payload, Stand}
+use Rattle.layout.proofs.TokenLaws.{same-self}
 
 -- ---- spellings
-
--- a spelling is the same as itself
-pub same-refl : (s : Spelling) → same s s ≡ true
-unfolding same
-same-refl [] = refl
-same-refl (x ∷ s) = rw (eq-eqb x x refl) (same-refl s)
 
 both-true : (a b : Bool) → (a && b) ≡ true → (a ≡ true) × (b ≡ true)
 both-true true true e = (refl, refl)
@@ -42,7 +37,7 @@ same-equal (x ∷ s) (y ∷ t) e =
 -- and those that are not the same differ
 pub same-differ : (s t : Spelling) → same s t ≡ false → s ≡ t → ⊥
 same-differ s t e p =
-    let q : same s t ≡ true = subst (λ (u : Spelling). same s u ≡ true) p (same-refl s) in
+    let q : same s t ≡ true = subst (λ (u : Spelling). same s u ≡ true) p (same-self s) in
     let z : _≡_ {A = ℕ} 0 1 = cc in
     omega arith
 

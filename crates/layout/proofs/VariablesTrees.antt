@@ -6,14 +6,15 @@ use mathlib.Core.Path.{_≡_, refl, sym, ap, ap₂, subst, _∙_}
 use Prim.Native.Nat.{ℕ, zero, suc, _+_, _*_, _≤_, _<_}
 use native.Mathlib.Decide.{ℕ-discrete}
 use native.Mathlib.Omega.{arith}
-use lib.Dec.{eqb, ltb}
+use lib.Dec.{eqb}
 use lib.ListN.{length, getD}
-use borrow.Author.Tests.{eqb-true, eq-eqb, ne-eqb, ltb-true}
+use borrow.Author.Tests.{eqb-true, eq-eqb, ne-eqb}
 use Rattle.language.specs.Sizes.{TOKENS, NODES}
 use Rattle.language.specs.Tokens.{Token, Row, _is_, entry, NAME, NUMBER, LET, WHILE, IF, SEMI, LPAR, LBRACE}
 use Rattle.language.specs.Trees.{Exp, Exps, more, Param, Def, Program}
 use Rattle.layout.specs.Table.{ROWS-AT, FUNCTIONS-AT, VARIABLES-AT, row-word, kind-of, without-variables}
 use Rattle.layout.specs.Names.{Stand}
+use Rattle.layout.proofs.TableLaws.{kind-same}
 use Rattle.layout.proofs.VariablesWords.{length-without, without-before}
 use Rattle.layout.specs.Rows.{CALL, literal-kind, unary-kind, binary-kind}
 use Rattle.layout.specs.Decode.{Shape, a-name, a-number, a-follow, a-group, a-block, a-call, a-let, an-if, a-while, a-constant, a-unary, a-binary, shapes, shape-of, children, build, build-if, tree-at, args-at, Right, RightArgs, ParamsAt, params-none, params-more, FunctionAt, FunctionsAt, functions-none, functions-more, Holds}
@@ -219,21 +220,12 @@ module _ (v w : List ℕ) (alike : (j : ℕ) → j < VARIABLES-AT → getD v j 0
         rw (row-alike i 2 (a .inside) (omega arith), row-alike i 3 (a .inside) (omega arith))
         (ap₂ more (tree-alike f ts _ (a .exp .1)) (args-alike f ts _ (a .next .1)))
 
-  -- the tokens are the same
-  kind-alike : (count i : ℕ) → count ≤ TOKENS → kind-of v count i ≡ kind-of w count i
-  unfolding kind-of
-  kind-alike count i h = go (ltb i count) refl
-    where
-      go : (b : Bool) → ltb i count ≡ b → cond b (getD v (4 * i) 0) 0 ≡ cond b (getD w (4 * i) 0) 0
-      go true e = let l = ltb-true i count e in alike (4 * i) (omega arith)
-      go false e = refl
-
-  -- and stand for the same list
+  -- the tokens stand for the same list
   pub stand-alike : {count : ℕ} {ts : List Token} → Stand w count ts → Stand v count ts
   stand-alike {count} st = record {
     long = st .long;
     few = st .few;
-    kinds = λ i. st .kinds i ∙ sym (kind-alike count i (st .few));
+    kinds = λ i. st .kinds i ∙ kind-same w v count i (λ j l. sym (alike j (omega (arith, st .few))));
     values = λ i h. alike (4 * i + 3) (omega (arith, st .few)) ∙ st .values i h;
     places = λ i h. alike (4 * i + 1) (omega (arith, st .few)) ∙ st .places i h;
   }

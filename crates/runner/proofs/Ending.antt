@@ -4,12 +4,13 @@ use mathlib.Core.Bool.{Bool, true, false}
 use mathlib.Core.List.{List, [], _∷_, _++_, reverse, reverse-cons}
 use Prim.Native.Nat.{ℕ, zero, suc, _+_, _-_, _≤_, _<_}
 use native.Mathlib.Omega.{arith}
-use lib.Dec.{eqb, ltb}
-use lib.ListN.{length, getD, set, take, drop, length-set, length-drop, length-reverse, take-append-drop}
-use lib.Seq.{getD-set-other, getD-drop, take-suc, ext-getD}
-use borrow.Author.Tests.{eqb-true, eqb-false, ltb-true, ltb-false}
+use lib.Dec.{ltb}
+use lib.ListN.{length, getD, take, drop, length-drop, length-reverse, take-append-drop}
+use lib.Seq.{getD-drop, take-suc, ext-getD}
+use borrow.Author.Tests.{ltb-true, ltb-false}
 use Rattle.language.specs.Sizes.{WORK}
 use Rattle.layout.specs.Table.{zeros}
+use Rattle.layout.proofs.Clearing.{zeros-same}
 use Rattle.machine.specs.Outcomes.{bytes, memory, outcome, tally, Kept}
 use Rattle.runner.specs.Contract.{spent, reported, Counts, Tells-of, printed-by}
 use Rattle.machine.specs.declared.state.Tally.{Tally}
@@ -17,26 +18,6 @@ use Rattle.machine.specs.declared.state.Outcome.{Outcome}
 use Rattle.machine.specs.declared.state.Outcome.the-variants.{Gives, Halts}
 
 -- ---- cleared memory
-
-zero-here : (v : List ℕ) (a : ℕ) → getD (set v a 0) a 0 ≡ 0
-zero-here [] a = refl
-zero-here (x ∷ v) zero = refl
-zero-here (x ∷ v) (suc a) = zero-here v a
-
--- memories that are the same outside the words that become 0 are the same then
-pub zeros-same : (n a : ℕ) (v w : List ℕ) → length v ≡ length w → ((k : ℕ) → (a ≤ k → k < a + n → ⊥) → getD v k 0 ≡ getD w k 0)
-    → zeros v a n ≡ zeros w a n
-unfolding zeros
-zeros-same zero a v w e h = ext-getD 0 v w e (λ k l. h k (λ p q. omega arith))
-zeros-same (suc n) a v w e h =
-    zeros-same n (a + 1) (set v a 0) (set w a 0) (length-set v a 0 ∙ e ∙ sym (length-set w a 0)) (λ k l. by k l (eqb k a) refl)
-  where
-    by : (k : ℕ) → (a + 1 ≤ k → k < a + 1 + n → ⊥) → (b : Bool) → eqb k a ≡ b → getD (set v a 0) k 0 ≡ getD (set w a 0) k 0
-    by k l true q =
-        subst (λ (j : ℕ). getD (set v a 0) j 0 ≡ getD (set w a 0) j 0) (sym (eqb-true k a q)) (zero-here v a ∙ sym (zero-here w a))
-    by k l false q =
-        let d = eqb-false k a q in
-        getD-set-other v a k 0 0 d ∙ h k (λ x y. l (omega arith) (omega arith)) ∙ sym (getD-set-other w a k 0 0 d)
 
 -- what a run changed is among the words that are cleared
 pub cleared-same : {m : ℕ} {w o w1 o1 : List ℕ} {top : ℕ} {s t : Tally} → Kept m w o w1 o1 top s t → zeros w1 0 WORK ≡ zeros w 0 WORK
