@@ -95,3 +95,15 @@ pub fn assign(place: u32, work: &mut [u32], n: u32, v: Value, s: Tally) -> Outco
     }
     Outcome::Halts(Stop::CellFreed, place, s)
 }
+
+// The cells born since `live` were live are freed: they are the ones above, and their room is free again.
+pub fn free(t: Tally, live: usize) -> Tally
+    ensures { λ r. ⌜ r ≡ record { units = t .units; births = t .births; cells = live; printed = t .printed } ⌝ }
+{
+    Tally {
+        units: t.units,
+        births: t.births,
+        cells: live,
+        printed: t.printed,
+    }
+}

@@ -1,5 +1,6 @@
 // How far a run has come, where its bindings lie, and how a node ends.
 ghost use mathlib.Core.Path.{_≡_};
+ghost use lib.Dec.{eqb};
 ghost use Rattle.machine.specs.declared.Stop.{Stop};
 ghost use Rattle.machine.specs.Outcomes.{tally};
 use crate::Stop;
@@ -35,4 +36,11 @@ pub fn stuck(place: u32, s: Tally) -> Outcome
     ensures { λ r. ⌜ tally r ≡ s ⌝ }
 {
     Outcome::Halts(Stop::NoUnit, place, s)
+}
+
+// Is no unit left?
+pub fn exhausted(s: Tally) -> bool
+    ensures { λ r. ⌜ r ≡ eqb (s .units) 0 ⌝ }
+{
+    s.units == 0
 }

@@ -1,10 +1,13 @@
 -- A node begins: it has a unit or none, it is too deep or not. And the nodes that have no parts, a literal and a name.
 use mathlib.Core.Path.{_≡_, refl, sym, ap, _∙_}
+use mathlib.Core.Bool.{Bool, true, false}
 use mathlib.Core.List.{List}
 use mathlib.Core.Option.{Option}
 use Prim.Native.Nat.{ℕ, zero, suc, _+_, _-_, _*_, _≤_, _<_}
 use native.Mathlib.Omega.{arith}
+use lib.Dec.{eqb}
 use lib.ListN.{length}
+use borrow.Author.Tests.{eqb-true, eqb-false}
 use Rattle.language.specs.Sizes.{TOKENS}
 use Rattle.language.specs.Tokens.{Token, At, spelling-at, NAME}
 use Rattle.language.specs.Trees.{Exp, Scope, own, nearest}
@@ -32,6 +35,14 @@ use Rattle.runner.proofs.Standing.{nearest-is, carried-own}
 use Rattle.runner.proofs.Steps.{stepped, every}
 
 -- ---- a unit
+
+-- the test that no unit is left, and what it tells
+module _ {u : ℕ} {b : Bool} (e : b ≡ eqb u 0) where
+  pub no-unit-left : b ≡ true → u ≡ 0
+  no-unit-left h = eqb-true u 0 (sym e ∙ h)
+
+  pub unit-left : b ≡ false → u ≡ 0 → ⊥
+  unit-left h = eqb-false u 0 (sym e ∙ h)
 
 charged : (u : ℕ) → (u ≡ 0 → ⊥) → (i : ℕ) (σ : M.State) (k : M.State → M.Outcome) → charge u i σ k ≡ k (with-units (u - 1) σ)
 unfolding charge

@@ -216,7 +216,7 @@ module _ (rec : Sem) (table : List ℕ) (node : ℕ) (tag : row-word table node 
         (λ i l. let q = k .keys i l in let z = room .low i l in omega (arith, q, z)) (λ i l u. k .newer i l u .0))))
 
     -- and frees the cells born in it
-    pub block-goes : Ran (stepped rec) 1 table w o w1 o1 node f s (Gives v cut)
+    block-goes : Ran (stepped rec) 1 table w o w1 o1 node f s (Gives v cut)
     block-goes =
         let k = kept-of e first in
         record {
@@ -239,3 +239,7 @@ module _ (rec : Sem) (table : List ℕ) (node : ℕ) (tag : row-word table node 
           };
           right = goes-right block-begins first e w1 o1 (Gives v cut) (λ d h ts fs env st. block-right ts h fs env);
         }
+
+    -- by whichever way they are freed
+    pub block-frees : (u : Tally) → u ≡ cut → Ran (stepped rec) 1 table w o w1 o1 node f s (Gives v u)
+    block-frees u q = subst (λ (x : Tally). Ran (stepped rec) 1 table w o w1 o1 node f s (Gives v x)) (sym q) block-goes

@@ -13,8 +13,10 @@ use layout::slots;
 use layout::values::Value;
 use machine::Stop;
 use machine::bindings;
+use machine::cells;
 use machine::leaves;
 use machine::operands;
+use machine::state;
 use machine::state::Frame;
 use machine::state::Outcome;
 use machine::state::SLOT;
@@ -33,7 +35,7 @@ pub fn eval(
     ensures { λ r. ⌜ Ran (λ fs. eval fs depth) 0 (now (table .entry)) (now (work .entry)) (now (out .entry)) (now (work .exit)) (now (out .exit)) node frame s r × Spends r (s .units) ⌝ }
 {
     let place = rows::word(table, node, leaves::OWN);
-    if s.units == 0 {
+    if state::exhausted(s) {
         return Outcome::Halts(Stop::NoUnit, place, s);
     }
     let t = Tally {
@@ -118,7 +120,7 @@ fn follow(
     }
 }
 
-// A Block: the cells born since it began are freed, which are those above the ones that were live then.
+// A Block: the cells born since it began are freed.
 fn block(
     table: &[u32],
     work: &mut [u32],
@@ -132,17 +134,12 @@ fn block(
     ensures { λ r. ⌜ Ran (λ fs. step fs (eval fs depth)) 1 (now (table .entry)) (now (work .entry)) (now (out .entry)) (now (work .exit)) (now (out .exit)) node frame s r ⌝ }
 {
     let inner = rows::link(table, node, leaves::FIRST);
-    let cells = s.cells;
+    let live = s.cells;
     let first = eval(table, work, out, inner, depth, frame, s);
     match first {
         Outcome::Halts(why, p, t) => Outcome::Halts(why, p, t),
         Outcome::Gives(v, t) => {
-            let u = Tally {
-                units: t.units,
-                births: t.births,
-                cells,
-                printed: t.printed,
-            };
+            let u = cells::free(t, live);
             Outcome::Gives(v, u)
         }
     }

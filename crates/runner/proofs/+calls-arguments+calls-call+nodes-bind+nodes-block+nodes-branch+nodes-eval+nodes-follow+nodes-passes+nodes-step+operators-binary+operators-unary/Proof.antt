@@ -126,6 +126,7 @@ pub +calls·arguments+calls·call+nodes·bind+nodes·block+nodes·branch+nodes·
     (Nodes·block.eval-requires t)
     (Nodes·block.enum-known-first t)
     (Nodes·block.enum-known-first-2 t)
+    (Nodes·block.free-requires t)
     (Nodes·block.same-length t)
     (Nodes·block.same-length-2 t)
     (Nodes·block.returns t)
@@ -157,6 +158,7 @@ pub +calls·arguments+calls·call+nodes·bind+nodes·block+nodes·branch+nodes·
     (nodes·eval-at t)
     _
     (Nodes·eval.word-requires t)
+    (Nodes·eval.exhausted-requires t)
     (Nodes·eval.returns t)
     (Nodes·eval.sub-t12 t)
     (Nodes·eval.returns-2 t)

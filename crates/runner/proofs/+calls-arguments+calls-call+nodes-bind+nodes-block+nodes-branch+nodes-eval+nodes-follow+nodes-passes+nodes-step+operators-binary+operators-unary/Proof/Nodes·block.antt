@@ -2,7 +2,7 @@
 use lib.Dec.{lit<}
 use Rattle.runner.proofs.Asking.{ready-long, ready-inside, ready-self, ready-first}
 use Rattle.runner.proofs.Shapes.{known-block}
-use Rattle.runner.proofs.Steps.{ran-at, stops, block-begins, block-goes}
+use Rattle.runner.proofs.Steps.{ran-at, stops, block-begins, block-frees}
 use Prim.Native.Nat.{ℕ}
 use borrow.Author.Needs.{needs}
 use native.Mathlib.Omega.{arith}
@@ -26,6 +26,10 @@ pub enum-known-first-2 :
     (t : ℕ) → lts.Need-enum-known-first-2 (nodes·block-claims t) (nodes·block-at t) nodes·block.Post
 enum-known-first-2 t c = search needs
 
+pub free-requires :
+    (t : ℕ) → lts.Need-free-requires (nodes·block-claims t) (nodes·block-at t) nodes·block.Post
+free-requires t c κs = search needs
+
 pub same-length :
     (t : ℕ) → lts.Need-same-length (nodes·block-claims t) (nodes·block-at t) nodes·block.Post
 same-length t c = c .before .before .before .before .before .before .before .eval .ensures .0 .kept .long
@@ -39,12 +43,12 @@ returns t c = stops (block-begins _ _ _ (c .before .before .before .before .befo
 
 pub same-length-3 :
     (t : ℕ) → lts.Need-same-length-3 (nodes·block-claims t) (nodes·block-at t) nodes·block.Post
-same-length-3 t c = c .before .before .before .before .before .before .before .eval .ensures .0 .kept .long
+same-length-3 t c = c .before .before .before .before .before .before .before .before .eval .ensures .0 .kept .long
 
 pub same-length-4 :
     (t : ℕ) → lts.Need-same-length-4 (nodes·block-claims t) (nodes·block-at t) nodes·block.Post
-same-length-4 t c = c .before .before .before .before .before .before .before .eval .ensures .0 .kept .wide
+same-length-4 t c = c .before .before .before .before .before .before .before .before .eval .ensures .0 .kept .wide
 
 pub returns-2 :
     (t : ℕ) → lts.Need-returns-2 (nodes·block-claims t) (nodes·block-at t) nodes·block.Post
-returns-2 t c = block-goes _ _ _ (c .before .before .before .before .before .before .before .before .before .before .before .before .before .before .pre .1 .1) (ran-at (c .before .before .before .before .before .before .before .before .before .before .link .ensures) (c .before .before .before .before .before .before .before .eval .ensures .0)) (c .before .first2 .given .1) ((c .before .before .before .before .before .before .before .before .before .before .before .before .before .before .pre .1 .0) .room)
+returns-2 t c = block-frees _ _ _ (c .before .before .before .before .before .before .before .before .before .before .before .before .before .before .before .pre .1 .1) (ran-at (c .before .before .before .before .before .before .before .before .before .before .before .link .ensures) (c .before .before .before .before .before .before .before .before .eval .ensures .0)) (c .before .before .first2 .given .1) ((c .before .before .before .before .before .before .before .before .before .before .before .before .before .before .before .pre .1 .0) .room) _ (c .free .ensures)

@@ -51,6 +51,8 @@ use Rattle.machine.proofs.operations.apply_binary.Reads as apply-binary-reads
 use Rattle.machine.proofs.operations.apply_unary.Reads as apply-unary-reads
 use Rattle.machine.proofs.operations.settles.Reads as settles-reads
 use Rattle.machine.proofs.output.put_bound.Reads as put-bound-reads
+use Rattle.machine.proofs.cells.free.Reads as free-reads
+use Rattle.machine.proofs.state.exhausted.Reads as exhausted-reads
 use Rattle.machine.proofs.state.stuck.Reads as stuck-reads
 
 -- One more node that may be active is worth more than all rows of a call's arguments; a node that has begun is worth more
@@ -222,13 +224,13 @@ abbrev pub nodes·bind-claims : ℕ → nodes·bind-lts.Claims
 nodes·bind-claims t = (carried-reads.Asked, carried-reads.Learnt, link-reads.Asked, link-reads.Learnt, nodes·eval-below t, nodes·eval.Post, put-reads.Asked, put-reads.Learnt)
 
 abbrev pub nodes·block-claims : ℕ → nodes·block-lts.Claims
-nodes·block-claims t = (link-reads.Asked, link-reads.Learnt, nodes·eval-below t, nodes·eval.Post)
+nodes·block-claims t = (link-reads.Asked, link-reads.Learnt, nodes·eval-below t, nodes·eval.Post, free-reads.Asked, free-reads.Learnt)
 
 abbrev pub nodes·branch-claims : ℕ → nodes·branch-lts.Claims
 nodes·branch-claims t = (link-reads.Asked, link-reads.Learnt, nodes·eval-below t, nodes·eval.Post, is-true-reads.Asked, is-true-reads.Learnt)
 
 abbrev pub nodes·eval-claims : ℕ → nodes·eval-lts.Claims
-nodes·eval-claims t = (word-reads.Asked, word-reads.Learnt, nodes·step-below t, nodes·step.Post)
+nodes·eval-claims t = (word-reads.Asked, word-reads.Learnt, exhausted-reads.Asked, exhausted-reads.Learnt, nodes·step-below t, nodes·step.Post)
 
 abbrev pub nodes·follow-claims : ℕ → nodes·follow-lts.Claims
 nodes·follow-claims t = (link-reads.Asked, link-reads.Learnt, nodes·eval-below t, nodes·eval.Post)
