@@ -1,4 +1,6 @@
 // What the arguments ask for.
+ghost use Rattle.slip.specs.Tasks.{Asks};
+
 pub enum Task {
     Pay,
     Check,
@@ -7,7 +9,9 @@ pub enum Task {
 }
 
 // The task, by the number of words, the program's own name among them, and the first word behind it.
-pub fn asked(count: usize, first: &[u8]) -> Task {
+pub fn asked(count: usize, first: &[u8]) -> Task
+    ensures { λ r. ⌜ Asks count (now (first .entry)) r ⌝ }
+{
     if check::same(first, b"check") {
         return if count == 3 {
             Task::Check
