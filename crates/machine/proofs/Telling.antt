@@ -1,12 +1,11 @@
 -- What is told, carried through the meaning: each way of putting outcomes together keeps it.
-use mathlib.Core.Path.{_≡_, sym, subst}
+use mathlib.Core.Path.{_≡_, refl, sym, subst}
 use mathlib.Core.Bool.{Bool, true, false}
 use mathlib.Core.Option.{Option, none, some}
 use Prim.Native.Nat.{ℕ}
 use lib.Dec.{T}
 use lib.IntN.{ℤ}
-use Rattle.language.specs.State.{Value, number, flag, nothing, cell, State, Stop, Outcome, value, stop, then, want-int, want-bool, want-unit, want-cell, choose, when-some}
-use Rattle.language.proofs.Meaning.CellTypes.{none-some, some-one}
+use Rattle.language.specs.State.{Value, number, flag, nothing, cell, State, Stop, Outcome, value, stop, then, want-int, want-bool, want-unit, want-cell, choose, when-some, stuck}
 use Rattle.machine.specs.Operands.{is-true, as-int, as-flag, as-cell}
 use Rattle.machine.specs.Outcomes.{Tells, tells, anything}
 
@@ -76,56 +75,58 @@ unit-any (flag b) k h = anything
 unit-any nothing k h = h
 unit-any (cell n) k h = anything
 
--- a number
-pub int-some : (v : Value) {z : ℤ} {o : Outcome} (k : ℤ → Outcome) → some z ≡ as-int v → Tells o (k z) → Tells o (want-int v k)
-unfolding want-int
-int-some (number x) {z} {o} k e h = subst (λ (y : ℤ). Tells o (k y)) (some-one e) h
-int-some (flag b) k e h = anything
-int-some nothing k e h = anything
-int-some (cell n) k e h = anything
-
--- no number
-pub int-none : (v : Value) {o : Outcome} (k : ℤ → Outcome) → none ≡ as-int v → Tells o (want-int v k)
-unfolding want-int
-int-none (number x) k e = absurd (none-some e)
-int-none (flag b) k e = anything
-int-none nothing k e = anything
-int-none (cell n) k e = anything
-
--- a truth
-pub bool-some : (v : Value) {b : Bool} {o : Outcome} (k : Bool → Outcome) → some b ≡ as-flag v → Tells o (k b) → Tells o (want-bool v k)
-unfolding want-bool
-bool-some (flag x) {b} {o} k e h = subst (λ (y : Bool). Tells o (k y)) (some-one e) h
-bool-some (number z) k e h = anything
-bool-some nothing k e h = anything
-bool-some (cell n) k e h = anything
-
--- no truth
-pub bool-none : (v : Value) {o : Outcome} (k : Bool → Outcome) → none ≡ as-flag v → Tells o (want-bool v k)
-unfolding want-bool
-bool-none (flag x) k e = absurd (none-some e)
-bool-none (number z) k e = anything
-bool-none nothing k e = anything
-bool-none (cell n) k e = anything
-
--- a cell
-pub cell-some : (v : Value) {n : ℕ} {o : Outcome} (k : ℕ → Outcome) → some n ≡ as-cell v → Tells o (k n) → Tells o (want-cell v k)
-unfolding want-cell
-cell-some (cell x) {n} {o} k e h = subst (λ (y : ℕ). Tells o (k y)) (some-one e) h
-cell-some (number z) k e h = anything
-cell-some (flag b) k e h = anything
-cell-some nothing k e h = anything
-
--- no cell
-pub cell-none : (v : Value) {o : Outcome} (k : ℕ → Outcome) → none ≡ as-cell v → Tells o (want-cell v k)
-unfolding want-cell
-cell-none (cell x) k e = absurd (none-some e)
-cell-none (number z) k e = anything
-cell-none (flag b) k e = anything
-cell-none nothing k e = anything
+-- ---- an operand that is wanted, as one that is looked for among its kind
 
 -- what was looked for is there
 pub when-is : {A : Type 0} {x : Option A} {o : Outcome} (f : A → Outcome) (y : Unit {0} → Outcome) (a : A) → x ≡ some a → Tells o (f a)
     → Tells o (when-some x f y)
 unfolding when-some
 when-is f y a e h = rw e h
+
+-- what was looked for is not
+when-not : {A : Type 0} {x : Option A} {o : Outcome} (f : A → Outcome) → x ≡ none → Tells o (when-some x f λ _. stuck)
+unfolding when-some
+when-not f e = rw e anything
+
+-- a number
+as-number : (v : Value) (k : ℤ → Outcome) → want-int v k ≡ when-some (as-int v) k (λ _. stuck)
+unfolding want-int when-some
+as-number (number z) k = refl
+as-number (flag b) k = refl
+as-number nothing k = refl
+as-number (cell n) k = refl
+
+-- a truth
+as-truth : (v : Value) (k : Bool → Outcome) → want-bool v k ≡ when-some (as-flag v) k (λ _. stuck)
+unfolding want-bool when-some
+as-truth (number z) k = refl
+as-truth (flag b) k = refl
+as-truth nothing k = refl
+as-truth (cell n) k = refl
+
+-- a reference
+as-reference : (v : Value) (k : ℕ → Outcome) → want-cell v k ≡ when-some (as-cell v) k (λ _. stuck)
+unfolding want-cell when-some
+as-reference (number z) k = refl
+as-reference (flag b) k = refl
+as-reference nothing k = refl
+as-reference (cell n) k = refl
+
+-- the operand is of its kind, or it is not
+pub int-some : (v : Value) {z : ℤ} {o : Outcome} (k : ℤ → Outcome) → some z ≡ as-int v → Tells o (k z) → Tells o (want-int v k)
+int-some v {z} k e h = tells-by (as-number v k) (when-is k (λ _. stuck) z (sym e) h)
+
+pub int-none : (v : Value) {o : Outcome} (k : ℤ → Outcome) → none ≡ as-int v → Tells o (want-int v k)
+int-none v k e = tells-by (as-number v k) (when-not k (sym e))
+
+pub bool-some : (v : Value) {b : Bool} {o : Outcome} (k : Bool → Outcome) → some b ≡ as-flag v → Tells o (k b) → Tells o (want-bool v k)
+bool-some v {b} k e h = tells-by (as-truth v k) (when-is k (λ _. stuck) b (sym e) h)
+
+pub bool-none : (v : Value) {o : Outcome} (k : Bool → Outcome) → none ≡ as-flag v → Tells o (want-bool v k)
+bool-none v k e = tells-by (as-truth v k) (when-not k (sym e))
+
+pub cell-some : (v : Value) {n : ℕ} {o : Outcome} (k : ℕ → Outcome) → some n ≡ as-cell v → Tells o (k n) → Tells o (want-cell v k)
+cell-some v {n} k e h = tells-by (as-reference v k) (when-is k (λ _. stuck) n (sym e) h)
+
+pub cell-none : (v : Value) {o : Outcome} (k : ℕ → Outcome) → none ≡ as-cell v → Tells o (want-cell v k)
+cell-none v k e = tells-by (as-reference v k) (when-not k (sym e))

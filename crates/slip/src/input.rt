@@ -1,5 +1,6 @@
 // Reading what the arguments name.
 ghost use Rattle.io.specs.Counts.{Counts};
+ghost use Rattle.slip.specs.Sheets.{Loaded};
 use crate::report::complain;
 
 // The bytes of a sheet, or nothing, when the reason was told.
@@ -23,14 +24,17 @@ fn has_ended(fd: i32) -> bool {
 
 // Reads until the bytes are full or the input ends. A read that fails on the way looks like the end, so
 // one more has to say that it is: no sheet is cut short unnoticed.
-fn read(fd: i32, name: &[u8], bytes: &mut [u8]) -> Sheet {
+fn read(fd: i32, name: &[u8], bytes: &mut [u8]) -> Sheet
+    ensures { λ r. ⌜ Loaded r (now (bytes .exit)) ⌝ }
+{
     let got = libc::read(fd, bytes);
     if got < 0 {
         os::fail(name);
         return Sheet::Nothing;
     }
     if got == 0 {
-        return Sheet::Bytes(0);
+        let none = within(0, bytes);
+        return Sheet::Bytes(none);
     }
     let first = io::count(got, bytes);
     let more = io::read_full(fd, &mut bytes[first..]);
@@ -39,11 +43,14 @@ fn read(fd: i32, name: &[u8], bytes: &mut [u8]) -> Sheet {
         complain(b"slip: the sheet cannot be read to its end");
         return Sheet::Nothing;
     }
-    Sheet::Bytes(length)
+    let all = within(length, bytes);
+    Sheet::Bytes(all)
 }
 
 // Reads the sheet that this argument names.
-pub fn load(argument: usize, bytes: &mut [u8]) -> Sheet {
+pub fn load(argument: usize, bytes: &mut [u8]) -> Sheet
+    ensures { λ r. ⌜ Loaded r (now (bytes .exit)) ⌝ }
+{
     let mut name = io::buffer();
     let length = os::arg(argument, &mut name);
     if os::errno() != 0 {
