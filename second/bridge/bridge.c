@@ -1,17 +1,22 @@
 /* The box behind a pipe, so that it can be held against another interpreter on any machine: the archive
  * is for x86-64, and this small program may run under an emulator.
  *
- * Usage: bridge STACK-BYTES. Every call is made on a thread with a stack of that size.
+ * Usage: bridge STACK-BYTES [paint]. Every call is made on a thread with a stack of exactly that size, below
+ * which nothing can be written. With `paint` the stack is filled with a pattern before each call, to see
+ * afterwards how far down it was written.
  *
  * A request is seven words of 64 bits (service: 0 check, 1 run; the lengths of source, table, work, output
- * and report; the allowance), then these five memories as they are. The answer is two words (the number
- * returned; how many bytes were changed that were not lent), then the four memories that may be written.
- * All in the machine's own order of bytes.
+ * and report; the allowance), then these five memories as they are. The answer is four words (the number
+ * returned; how many bytes were changed that were not lent; with `paint` the bytes of stack that the call
+ * took and those left below it, else 0 and 0), then the four memories that may be written. All in the
+ * machine's own order of bytes.
  */
+#define _GNU_SOURCE
 #include <pthread.h>
 #include <stdio.h>
 #include <stdlib.h>
 #include <string.h>
+#include <sys/mman.h>
 
 #include "../../include/grumpy.h"
 
@@ -73,6 +78,45 @@ static uint64_t call(const uint64_t *asked, struct memory *m) {
   return grumpy_run(source, asked[1], table, asked[2], work, asked[3], out, asked[4], asked[6], report, asked[5]);
 }
 
+/* The stack of the calls, from its lowest word up, and whether it is painted. */
+static uint64_t *stack;
+static size_t stack_bytes;
+static int painted;
+
+#define PAINT 0x9E3779B97F4A7C15u
+
+/* Under the frame that paints there is room for the frame of what fills or looks. */
+#define GAP 512
+
+/* Between two calls, reading and writing the pipe takes no more stack than this. */
+#define PIPES (1 << 16)
+
+__attribute__((noinline)) static void fill(volatile uint64_t *from, const volatile uint64_t *to) {
+  while (from < to) *from++ = PAINT;
+}
+
+__attribute__((noinline)) static uint64_t *lowest_written(uint64_t *top) {
+  uint64_t *at = stack;
+  while (at < top && *at == PAINT) at++;
+  return at;
+}
+
+/* A call on painted stack: how much it took, and how much it left below. Only what may have been written
+ * since the last call is painted again. */
+__attribute__((noinline)) static uint64_t measured(const uint64_t *asked, struct memory *m, uint64_t *taken) {
+  static uint64_t *clean = NULL; /* all below is as it was painted */
+  unsigned char *here = __builtin_frame_address(0);
+  uint64_t *top = (uint64_t *)((uintptr_t)(here - GAP) & ~(uintptr_t)63);
+  uint64_t *used = top - PIPES / sizeof *top;
+  if (used < stack) used = stack;
+  fill(clean == NULL ? stack : clean < used ? clean : used, top);
+  uint64_t number = call(asked, m);
+  clean = lowest_written(top);
+  taken[0] = here - (unsigned char *)clean;
+  taken[1] = (unsigned char *)clean - (unsigned char *)stack;
+  return number;
+}
+
 static void *serve(void *unused) {
   (void)unused;
   static struct memory m[MEMORIES];
@@ -83,7 +127,8 @@ static void *serve(void *unused) {
     before = realloc(before, m[SOURCE].bytes + 1);
     if (!before) fail("no memory");
     memcpy(before, m[SOURCE].all + MARGIN, m[SOURCE].bytes);
-    uint64_t told[2] = {call(asked, m), 0};
+    uint64_t told[4] = {0};
+    told[0] = painted ? measured(asked, m, told + 2) : call(asked, m);
     for (int k = 0; k < MEMORIES; k++) told[1] += touched(&m[k]);
     told[1] += memcmp(before, m[SOURCE].all + MARGIN, m[SOURCE].bytes) != 0;
     put(told, sizeof told);
@@ -95,12 +140,22 @@ static void *serve(void *unused) {
   return NULL;
 }
 
+/* The stack between two stretches that cannot be touched. */
+static void make_stack(size_t bytes) {
+  size_t guard = 1 << 20;
+  unsigned char *all = mmap(NULL, bytes + 2 * guard, PROT_NONE, MAP_PRIVATE | MAP_ANONYMOUS, -1, 0);
+  if (all == MAP_FAILED || mprotect(all + guard, bytes, PROT_READ | PROT_WRITE)) fail("no such stack");
+  stack = (uint64_t *)(all + guard);
+  stack_bytes = bytes;
+}
+
 int main(int count, char **words) {
-  if (count != 2) fail("one word is wanted, the bytes of the stack");
+  painted = count == 3 && strcmp(words[2], "paint") == 0;
+  if (count != 2 + painted) fail("the bytes of the stack are wanted, and maybe `paint`");
+  make_stack(strtoul(words[1], NULL, 10));
   pthread_attr_t how;
   pthread_t thread;
-  if (pthread_attr_init(&how) || pthread_attr_setstacksize(&how, strtoul(words[1], NULL, 10)))
-    fail("no such stack");
+  if (pthread_attr_init(&how) || pthread_attr_setstack(&how, stack, stack_bytes)) fail("no such stack");
   if (pthread_create(&thread, &how, serve, NULL) || pthread_join(thread, NULL)) fail("no thread");
   return 0;
 }

@@ -12,10 +12,13 @@ pub struct Loans<'a> {
     pub output: &'a mut [u8],
 }
 
+/// The number returned, or why there is none to be trusted.
+pub type Told = Result<u32, String>;
+
 /// The two services as they are reached from outside.
 pub trait Other {
-    fn check(&self, source: &[u8], table: &mut [u32], report: &mut [u64]) -> u32;
-    fn run(&self, source: &[u8], loans: Loans, allowance: u64, report: &mut [u64]) -> u32;
+    fn check(&self, source: &[u8], table: &mut [u32], report: &mut [u64]) -> Told;
+    fn run(&self, source: &[u8], loans: Loans, allowance: u64, report: &mut [u64]) -> Told;
 }
 
 pub const CHECK_REPORT: usize = 3;
@@ -75,11 +78,11 @@ pub fn compare(other: &dyn Other, trial: &Trial, answer: &Answer) -> Result<(), 
     compare_run(other, trial, answer).map_err(|e| format!("run: {e}"))
 }
 
-fn compare_check(other: &dyn Other, trial: &Trial) -> Result<(), String> {
+pub fn compare_check(other: &dyn Other, trial: &Trial) -> Result<(), String> {
     let mut chance = Chance::new(trial.fill, 0);
     let mut table = Memory::new(trial.lent.table, || chance.next_word() as u32);
     let mut report = Memory::new(trial.check_report, || chance.next_word());
-    let number = other.check(&trial.sheet, table.lent(), report.lent());
+    let number = other.check(&trial.sheet, table.lent(), report.lent())?;
     let answer = answer::check(&trial.sheet, trial.lent.table);
     let complete = trial.check_report >= CHECK_REPORT;
     if complete {
@@ -91,7 +94,7 @@ fn compare_check(other: &dyn Other, trial: &Trial) -> Result<(), String> {
     table.compare("table")
 }
 
-fn compare_run(other: &dyn Other, trial: &Trial, answer: &Answer) -> Result<(), String> {
+pub fn compare_run(other: &dyn Other, trial: &Trial, answer: &Answer) -> Result<(), String> {
     let mut chance = Chance::new(trial.fill, 1);
     let mut table = Memory::new(trial.lent.table, || chance.next_word() as u32);
     let mut work = Memory::new(trial.lent.work, || chance.next_word() as u32);
@@ -102,7 +105,7 @@ fn compare_run(other: &dyn Other, trial: &Trial, answer: &Answer) -> Result<(), 
         work: work.lent(),
         output: output.lent(),
     };
-    let number = other.run(&trial.sheet, loans, trial.lent.allowance, report.lent());
+    let number = other.run(&trial.sheet, loans, trial.lent.allowance, report.lent())?;
     let complete = trial.run_report >= RUN_REPORT;
     if complete {
         report.want(&run_words(answer));
@@ -153,19 +156,19 @@ mod tests {
     }
 
     impl Other for Mirror {
-        fn check(&self, source: &[u8], table: &mut [u32], report: &mut [u64]) -> u32 {
+        fn check(&self, source: &[u8], table: &mut [u32], report: &mut [u64]) -> Told {
             if report.len() < CHECK_REPORT {
-                return 40;
+                return Ok(40);
             }
             let answer = answer::check(source, table.len());
             leave(table, answer.table, TABLE_WORDS);
             report[..CHECK_REPORT].copy_from_slice(&run_words(&answer)[..CHECK_REPORT]);
-            answer.number
+            Ok(answer.number)
         }
 
-        fn run(&self, source: &[u8], loans: Loans, allowance: u64, report: &mut [u64]) -> u32 {
+        fn run(&self, source: &[u8], loans: Loans, allowance: u64, report: &mut [u64]) -> Told {
             if report.len() < RUN_REPORT {
-                return 40;
+                return Ok(40);
             }
             let Loans {
                 table,
@@ -192,7 +195,7 @@ mod tests {
                 _ => {}
             }
             report[..RUN_REPORT].copy_from_slice(&run_words(&answer));
-            answer.number
+            Ok(answer.number)
         }
     }
 

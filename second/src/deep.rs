@@ -1,74 +1,195 @@
-//! The sheets that drive a recursion over the tree deepest.
+//! The search for the sheet that takes the most stack, for Check and for Run.
+//!
+//! How much a nest takes is nothing that can be read off the paper, so it is
+//! measured: first each layer alone, nested as far as the tokens and the active
+//! nodes allow, then the worst of these with layers put in, put in another's
+//! stead or left out, until nothing makes them worse.
 
-pub fn sheets() -> Vec<(&'static str, Vec<u8>)> {
-    let nested = |open: &str, times: usize, inside: &str, close: &str| {
-        format!("{}{inside}{}", open.repeat(times), close.repeat(times)).into_bytes()
+use crate::layers::{closed, layers, long_calls, Fit, Layer};
+use crate::nests::{sheet, Shape, LISTS};
+use crate::text::MOST_TOKENS;
+use std::collections::HashMap;
+
+/// Which service is to be driven deep.
+#[derive(Clone, Copy, Debug, PartialEq, Eq)]
+pub enum Service {
+    Check,
+    Run,
+}
+
+#[derive(Clone, Debug)]
+struct Candidate {
+    walk: Vec<usize>,
+    shape: Shape,
+}
+
+/// A sheet in the spelling of the case files, and the stack that it took.
+#[derive(Clone, Debug)]
+pub struct Found {
+    pub sheet: String,
+    pub taken: u64,
+}
+
+/// Candidates that are made worse, and how many sheets may be tried in all.
+const CLIMBS: usize = 4;
+const MOST_TRIED: usize = 1500;
+
+pub struct Search<'a> {
+    service: Service,
+    fit: Fit,
+    layers: Vec<Layer>,
+    /// Which layers to try first: those that took the most alone.
+    order: Vec<usize>,
+    measure: &'a mut dyn FnMut(&str) -> u64,
+    tried: HashMap<String, u64>,
+}
+
+/// All sheets that were tried, the worst first. The measure is of one sheet in
+/// the spelling of the case files.
+pub fn search(service: Service, measure: &mut dyn FnMut(&str) -> u64) -> Vec<Found> {
+    let mut layers = layers();
+    let fit = match service {
+        Service::Check => Fit::Read,
+        Service::Run => Fit::Typed,
     };
-    vec![
-        ("groups that just fit", nested("(", 511, "1", ")")),
-        ("blocks that just fit", nested("{", 511, "ref 1", "}")),
-        ("groups never closed", nested("(", 1024, "", "")),
-        ("blocks never closed", nested("{", 1024, "", "")),
-        ("groups and blocks in turn", nested("({", 255, "1", "})")),
-        ("one minus too many", nested("-", 512, "1", "")),
-        ("minus to the last token", nested("-", 1023, "1", "")),
-        ("not to the last token", nested("not ", 1023, "true", "")),
-        ("reading to the last token", nested("!", 1023, "1", "")),
-        (
-            "cells past the limit of types",
-            nested("ref ", 1023, "1", ""),
-        ),
-        ("a long sum", nested("1+", 511, "1", "")),
-        ("a long product", nested("1*", 511, "1", "")),
-        ("a long conjunction", nested("true&&", 511, "true", "")),
-        ("a long disjunction", nested("false||", 511, "false", "")),
-        ("a long sequence", nested("tt;", 511, "1", "")),
-        ("bindings in bodies", nested("let x=1 in ", 204, "x", "")),
-        ("bindings in bindings", nested("let x=", 204, "1", " in x")),
-        (
-            "choices in the else part",
-            nested("if true then 1 else ", 204, "1", ""),
-        ),
-        (
-            "choices in the then part",
-            nested("if true then ", 204, "1", " else 1"),
-        ),
-        (
-            "choices in the test",
-            nested("if ", 204, "true", " then true else false"),
-        ),
-        ("loops in the body", nested("while true{", 255, "tt", "}")),
-        ("loops in the test", nested("while ", 255, "true", "{tt}")),
-        ("calls in arguments", nested("putchar(", 340, "65", ")")),
-        ("calls in later arguments", later_arguments()),
-        ("groups in sums", nested("1+(", 255, "1", ")")),
-        ("minus before groups", nested("-(", 341, "1", ")")),
-        ("only comments in comments", nested("/*", 2047, "", "*/")),
-        ("calls of itself", calls("f(n-1)", 127)),
-        ("calls of itself, one too many", calls("f(n-1)", 200)),
-        ("calls of itself in groups", calls("((((f(n-1)))))", 200)),
-        (
-            "calls of itself with a cell each",
-            calls("(let c=ref n in f(!c-1))", 200),
-        ),
-        ("a body to the last token", function_body()),
-        ("a type to the last token", long_type()),
-    ]
+    if fit == Fit::Read {
+        layers.extend(long_calls());
+    }
+    let mut search = Search {
+        service,
+        fit,
+        order: (0..layers.len()).collect(),
+        layers,
+        measure,
+        tried: HashMap::new(),
+    };
+    search.all();
+    let found = |(sheet, taken)| Found { sheet, taken };
+    let mut all: Vec<Found> = search.tried.into_iter().map(found).collect();
+    all.sort_by(|a, b| (b.taken, &a.sheet).cmp(&(a.taken, &b.sheet)));
+    all
 }
 
-fn later_arguments() -> Vec<u8> {
-    let calls = "f(1,".repeat(200);
-    format!("def f(a:int,b:int):int{{a+b}}{calls}1{}", ")".repeat(200)).into_bytes()
+impl Search<'_> {
+    fn all(&mut self) {
+        for sheet in LISTS {
+            self.measure(sheet.to_string());
+        }
+        let mut alone = self.alone();
+        alone.sort_by_key(|(taken, _)| std::cmp::Reverse(*taken));
+        let mut order: Vec<usize> = alone.iter().map(|(_, c)| c.walk[0]).collect();
+        order.extend(0..self.layers.len());
+        let mut seen = vec![false; self.layers.len()];
+        order.retain(|layer| !std::mem::replace(&mut seen[*layer], true));
+        self.order = order;
+        for (taken, candidate) in alone.into_iter().take(CLIMBS) {
+            self.climb(taken, candidate);
+        }
+    }
+
+    /// Every layer by itself, in every shape.
+    fn alone(&mut self) -> Vec<(u64, Candidate)> {
+        let shapes: &[Shape] = match self.service {
+            Service::Check => &[Shape::Nested, Shape::Open],
+            Service::Run => &[
+                Shape::Nested,
+                Shape::Body {
+                    parameters: 0,
+                    times: 1,
+                },
+                Shape::Body {
+                    parameters: 8,
+                    times: MOST_TOKENS,
+                },
+            ],
+        };
+        let mut found = Vec::new();
+        for layer in 0..self.layers.len() {
+            for shape in shapes.iter().copied() {
+                if let Some(walk) = closed(&self.layers, &[layer], self.fit) {
+                    let candidate = Candidate { walk, shape };
+                    found.push((self.try_out(&candidate), candidate));
+                }
+            }
+        }
+        found
+    }
+
+    fn climb(&mut self, mut most: u64, mut best: Candidate) {
+        loop {
+            let mut better = None;
+            for next in self.neighbours(&best) {
+                if self.tried.len() >= MOST_TRIED {
+                    return;
+                }
+                let taken = self.try_out(&next);
+                if taken > most {
+                    better = Some((taken, next));
+                    break;
+                }
+            }
+            match better {
+                Some((taken, next)) => (most, best) = (taken, next),
+                None => return,
+            }
+        }
+    }
+
+    /// Everything that is one step away.
+    fn neighbours(&self, from: &Candidate) -> Vec<Candidate> {
+        let mut all = Vec::new();
+        let Candidate { walk, shape } = from;
+        if let Shape::Body { .. } = shape {
+            for (parameters, times) in bodies() {
+                let shape = Shape::Body { parameters, times };
+                let walk = walk.clone();
+                all.push(Candidate { walk, shape });
+            }
+        }
+        let mut add = |walk: Vec<usize>| {
+            if let Some(walk) = closed(&self.layers, &walk, self.fit) {
+                all.push(Candidate {
+                    walk,
+                    shape: *shape,
+                });
+            }
+        };
+        for at in 0..walk.len() {
+            let (left, right) = (&walk[..at], &walk[at + 1..]);
+            if walk.len() > 1 {
+                add([left, right].concat());
+            }
+            for layer in &self.order {
+                add([left, &[*layer], right].concat());
+                add([left, &[*layer, walk[at]], right].concat());
+            }
+        }
+        all
+    }
+
+    fn try_out(&mut self, candidate: &Candidate) -> u64 {
+        let sheet = self.sheet(candidate);
+        self.measure(sheet)
+    }
+
+    fn measure(&mut self, sheet: String) -> u64 {
+        if let Some(taken) = self.tried.get(&sheet) {
+            return *taken;
+        }
+        let taken = (self.measure)(&sheet);
+        self.tried.insert(sheet, taken);
+        taken
+    }
+
+    fn sheet(&self, candidate: &Candidate) -> String {
+        let walk: Vec<&Layer> = candidate.walk.iter().map(|l| &self.layers[*l]).collect();
+        sheet(&walk, candidate.shape)
+    }
 }
 
-fn calls(step: &str, count: usize) -> Vec<u8> {
-    format!("def f(n:int):int{{if n<1 then 0 else {step}}}f({count})").into_bytes()
-}
-
-fn function_body() -> Vec<u8> {
-    format!("def f():int{{{}1}}f()", "-".repeat(1011)).into_bytes()
-}
-
-fn long_type() -> Vec<u8> {
-    format!("def f(a:int{}):int{{1}}1", " ref".repeat(1011)).into_bytes()
+/// Numbers of parameters, with how often the walk stands in the body.
+fn bodies() -> Vec<(usize, usize)> {
+    let times = [1, 2, 3, 5, 8, 13, 21, 34, 55, MOST_TOKENS];
+    let all = times.iter().rev().map(|t| (0..=8).rev().map(|p| (p, *t)));
+    all.flatten().collect()
 }

@@ -10,6 +10,8 @@ pub mod damage;
 pub mod deep;
 pub mod forms;
 pub mod grammar;
+pub mod layers;
+pub mod nests;
 pub mod paper;
 pub mod piped;
 pub mod quote;

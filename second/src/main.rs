@@ -6,7 +6,7 @@
 //! second show SEED INDEX    one random trial as a case
 //! second cases              all case files and all examples of the paper
 //! second table FILE         the file's sheets, each with the answer under it
-//! second deep BYTES         the deepest sheets on a stack of that size
+//! second deep BYTES         which sheets take the most stack, of that many bytes
 //! second bench FILE ALLOWANCE REPEATS   the sheet by the clock, that many runs
 //! second bench FILE ALLOWANCE print     what it prints, its value under it
 //! ```
@@ -15,13 +15,14 @@
 //! `bench` holds that one against this one; without it this one runs alone.
 
 mod bench;
+mod stack;
 
 use second::answer::{self, Answer, Lent};
 use second::cases::{self, Case};
 use second::compare::compare;
 use second::piped::Piped;
 use second::trial::Trial;
-use second::{deep, on_big_stack, paper, shrink, trial};
+use second::{on_big_stack, paper, shrink, trial};
 use std::collections::BTreeMap;
 use std::io::Write;
 use std::process::ExitCode;
@@ -37,7 +38,7 @@ fn main() -> ExitCode {
         ["cases"] => on_big_stack(all_cases),
         ["table", file] => on_big_stack(|| table(file)),
         ["show", seed, index] => show(number(seed), number(index)),
-        ["deep", bytes] => all_deep(number(bytes) as usize),
+        ["deep", bytes] => on_big_stack(|| stack::worst(number(bytes) as usize)),
         ["bench", file, allowance, repeats] => {
             on_big_stack(|| by_the_clock(file, number(allowance), repeats))
         }
@@ -267,34 +268,5 @@ fn by_the_clock(file: &str, allowance: u64, repeats: &str) -> u64 {
             eprintln!("{file}: {problem}");
             1
         }
-    }
-}
-
-/// This interpreter needs its big stack; the other one gets the given one.
-fn all_deep(bytes: usize) -> u64 {
-    let mut failed = 0;
-    let sheets = deep::sheets();
-    let count = sheets.len() as u64;
-    for (title, sheet) in sheets {
-        let trial = Trial::of(&sheet, Lent::default());
-        let answer = on_big_stack(|| answer::run(&sheet, &Lent::default()));
-        println!("{title}: {}", cases::show(&answer));
-        if let Err(difference) = deep_verdict(bytes, trial, answer) {
-            println!("# FAILED {title}: {difference}");
-            failed += 1;
-        }
-    }
-    println!("{} passed, {failed} failed", count - failed);
-    failed
-}
-
-fn deep_verdict(bytes: usize, trial: Trial, answer: Answer) -> Result<(), String> {
-    if let Some(other) = Piped::from_environment(bytes) {
-        return on_big_stack(|| compare(&other, &trial, &answer));
-    }
-    let again = second::on_stack(bytes, || answer::run(&trial.sheet, &trial.lent));
-    match again == answer {
-        true => Ok(()),
-        false => Err("another answer on another stack".to_string()),
     }
 }

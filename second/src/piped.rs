@@ -1,21 +1,31 @@
 //! The other implementation behind a pipe: a program that takes calls on its
 //! standard input and answers on its standard output (`bridge/bridge.c`). So it
-//! may be made for another machine than this one and run under an emulator.
+//! may be made for another machine than this one and run under an emulator, and
+//! one that crashes is started again.
 
-use crate::compare::{Loans, Other};
-use std::io::{BufReader, BufWriter, Read, Write};
+use crate::compare::{Loans, Other, Told};
+use std::io::{self, BufReader, BufWriter, Read, Write};
 use std::process::{Child, ChildStdin, ChildStdout, Command, Stdio};
 use std::sync::Mutex;
 
 pub struct Piped {
+    words: Vec<String>,
     pipes: Mutex<Pipes>,
 }
 
 struct Pipes {
-    // Ends when its standard input does.
-    _child: Child,
+    child: Child,
     asked: BufWriter<ChildStdin>,
     told: BufReader<ChildStdout>,
+    stack: Stack,
+}
+
+/// What the last call did with its stack, if that was painted before. A call
+/// that never came back may have taken all of it.
+#[derive(Clone, Copy, Debug, Default, PartialEq, Eq)]
+pub struct Stack {
+    pub taken: u64,
+    pub left: u64,
 }
 
 /// The variable that names the program, its words apart by blanks.
@@ -25,34 +35,79 @@ impl Piped {
     /// The program of the variable, if there is one, its calls made on a stack
     /// of this many bytes.
     pub fn from_environment(stack: usize) -> Option<Piped> {
+        Piped::new(vec![stack.to_string()])
+    }
+
+    /// The same, with each call's stack painted beforehand and measured.
+    pub fn painted(stack: usize) -> Option<Piped> {
+        Piped::new(vec![stack.to_string(), "paint".to_string()])
+    }
+
+    fn new(more: Vec<String>) -> Option<Piped> {
         let line = std::env::var(VARIABLE).ok()?;
-        let mut words = line.split_whitespace();
-        let mut child = Command::new(words.next().expect("a program is named"))
-            .args(words)
-            .arg(stack.to_string())
-            .stdin(Stdio::piped())
-            .stdout(Stdio::piped())
-            .spawn()
-            .expect("the other implementation starts");
-        let asked = BufWriter::new(child.stdin.take().expect("its input"));
-        let told = BufReader::new(child.stdout.take().expect("its output"));
-        let pipes = Mutex::new(Pipes {
-            _child: child,
-            asked,
-            told,
-        });
-        Some(Piped { pipes })
+        let mut words: Vec<String> = line.split_whitespace().map(str::to_string).collect();
+        words.extend(more);
+        let pipes = Mutex::new(Pipes::start(&words));
+        Some(Piped { words, pipes })
+    }
+
+    /// What the last call did with its painted stack.
+    pub fn stack(&self) -> Stack {
+        self.pipes.lock().expect("one call at a time").stack
     }
 
     fn call(
         &self,
         service: u64,
         source: &[u8],
-        loans: Loans,
+        mut loans: Loans,
         allowance: u64,
         report: &mut [u64],
-    ) -> u32 {
+    ) -> Told {
         let mut pipes = self.pipes.lock().expect("one call at a time");
+        let told = pipes
+            .ask(service, source, &loans, allowance, report)
+            .and_then(|()| pipes.hear(&mut loans, report));
+        match told {
+            Ok([number, 0]) => u32::try_from(number).map_err(|_| format!("returned {number}")),
+            Ok([_, spilt]) => Err(format!("{spilt} bytes were changed that were not lent")),
+            Err(_) => {
+                let end = pipes.child.wait().map(|status| status.to_string());
+                *pipes = Pipes::start(&self.words);
+                pipes.stack.taken = u64::MAX;
+                Err(format!("it ended without an answer: {end:?}"))
+            }
+        }
+    }
+}
+
+impl Pipes {
+    fn start(words: &[String]) -> Pipes {
+        let mut child = Command::new(words.first().expect("a program is named"))
+            .args(&words[1..])
+            .stdin(Stdio::piped())
+            .stdout(Stdio::piped())
+            .spawn()
+            .expect("the other implementation starts");
+        let asked = BufWriter::new(child.stdin.take().expect("its input"));
+        let told = BufReader::new(child.stdout.take().expect("its output"));
+        let stack = Stack::default();
+        Pipes {
+            child,
+            asked,
+            told,
+            stack,
+        }
+    }
+
+    fn ask(
+        &mut self,
+        service: u64,
+        source: &[u8],
+        loans: &Loans,
+        allowance: u64,
+        report: &[u64],
+    ) -> io::Result<()> {
         let lengths = [
             source.len(),
             loans.table.len(),
@@ -60,71 +115,61 @@ impl Piped {
             loans.output.len(),
             report.len(),
         ];
-        pipes.ask(&[service]);
-        pipes.ask(&lengths.map(|n| n as u64));
-        pipes.ask(&[allowance]);
-        pipes.send(source);
-        pipes.send_words(loans.table);
-        pipes.send_words(loans.work);
-        pipes.send(loans.output);
-        pipes.ask(report);
-        pipes
-            .asked
-            .flush()
-            .expect("the other implementation listens");
-        let [number, spilt] = [pipes.word(), pipes.word()];
-        pipes.receive_words(loans.table);
-        pipes.receive_words(loans.work);
-        pipes.receive(loans.output);
-        for word in report.iter_mut() {
-            *word = pipes.word();
-        }
-        assert!(spilt == 0, "{spilt} bytes were changed that were not lent");
-        u32::try_from(number).expect("a number of 32 bits")
-    }
-}
-
-impl Pipes {
-    fn send(&mut self, bytes: &[u8]) {
-        self.asked
-            .write_all(bytes)
-            .expect("the other implementation listens");
+        self.send_long(&[service])?;
+        self.send_long(&lengths.map(|n| n as u64))?;
+        self.send_long(&[allowance])?;
+        self.asked.write_all(source)?;
+        self.send_short(loans.table)?;
+        self.send_short(loans.work)?;
+        self.asked.write_all(loans.output)?;
+        self.send_long(report)?;
+        self.asked.flush()
     }
 
-    fn ask(&mut self, words: &[u64]) {
-        for word in words {
-            self.send(&word.to_ne_bytes());
-        }
+    /// The number returned, and how many bytes were changed that were not lent.
+    fn hear(&mut self, loans: &mut Loans, report: &mut [u64]) -> io::Result<[u64; 2]> {
+        let mut told = [0; 4];
+        self.hear_long(&mut told)?;
+        let [number, spilt, taken, left] = told;
+        self.stack = Stack { taken, left };
+        self.hear_short(loans.table)?;
+        self.hear_short(loans.work)?;
+        self.told.read_exact(loans.output)?;
+        self.hear_long(report)?;
+        Ok([number, spilt])
     }
 
-    fn send_words(&mut self, words: &[u32]) {
+    fn send_long(&mut self, words: &[u64]) -> io::Result<()> {
         let bytes: Vec<u8> = words.iter().flat_map(|w| w.to_ne_bytes()).collect();
-        self.send(&bytes);
+        self.asked.write_all(&bytes)
     }
 
-    fn receive(&mut self, bytes: &mut [u8]) {
-        self.told
-            .read_exact(bytes)
-            .expect("the other implementation answers");
+    fn send_short(&mut self, words: &[u32]) -> io::Result<()> {
+        let bytes: Vec<u8> = words.iter().flat_map(|w| w.to_ne_bytes()).collect();
+        self.asked.write_all(&bytes)
     }
 
-    fn word(&mut self) -> u64 {
-        let mut bytes = [0; 8];
-        self.receive(&mut bytes);
-        u64::from_ne_bytes(bytes)
+    fn hear_long(&mut self, words: &mut [u64]) -> io::Result<()> {
+        let mut bytes = vec![0; 8 * words.len()];
+        self.told.read_exact(&mut bytes)?;
+        for (word, eight) in words.iter_mut().zip(bytes.chunks_exact(8)) {
+            *word = u64::from_ne_bytes(eight.try_into().expect("eight bytes"));
+        }
+        Ok(())
     }
 
-    fn receive_words(&mut self, words: &mut [u32]) {
+    fn hear_short(&mut self, words: &mut [u32]) -> io::Result<()> {
         let mut bytes = vec![0; 4 * words.len()];
-        self.receive(&mut bytes);
+        self.told.read_exact(&mut bytes)?;
         for (word, four) in words.iter_mut().zip(bytes.chunks_exact(4)) {
             *word = u32::from_ne_bytes(four.try_into().expect("four bytes"));
         }
+        Ok(())
     }
 }
 
 impl Other for Piped {
-    fn check(&self, source: &[u8], table: &mut [u32], report: &mut [u64]) -> u32 {
+    fn check(&self, source: &[u8], table: &mut [u32], report: &mut [u64]) -> Told {
         let loans = Loans {
             table,
             work: &mut [],
@@ -133,7 +178,7 @@ impl Other for Piped {
         self.call(0, source, loans, 0, report)
     }
 
-    fn run(&self, source: &[u8], loans: Loans, allowance: u64, report: &mut [u64]) -> u32 {
+    fn run(&self, source: &[u8], loans: Loans, allowance: u64, report: &mut [u64]) -> Told {
         self.call(1, source, loans, allowance, report)
     }
 }

@@ -1,0 +1,128 @@
+//! Sheets that are a walk of layers, nested as far as the tokens allow.
+
+use crate::layers::{Kind, Layer};
+use crate::quote;
+use crate::text::{tokens, MOST_TOKENS};
+
+#[derive(Clone, Copy, Debug, PartialEq, Eq)]
+pub enum Shape {
+    /// The walk again and again around a leaf.
+    Nested,
+    /// The same without what closes it: only read, and refused at the end.
+    Open,
+    /// The walk this many times in the body of a function around a call of the
+    /// function itself, which is never over.
+    Body { parameters: usize, times: usize },
+}
+
+/// The sheet of the walk in this shape, in the spelling of the case files.
+pub fn sheet(walk: &[&Layer], shape: Shape) -> String {
+    match shape {
+        Shape::Nested => nested(walk, false),
+        Shape::Open => nested(walk, true),
+        Shape::Body { parameters, times } => body(walk, parameters, times),
+    }
+}
+
+fn count(text: &str) -> usize {
+    let bytes = quote::decode(text).expect("a text of this module");
+    tokens(&bytes).expect("tokens").len()
+}
+
+/// The functions that the walk calls, but for the one named.
+fn definitions(walk: &[&Layer], but: Option<usize>) -> String {
+    let called = |n: &usize| walk.iter().any(|l| l.parameters == Some(*n)) && but != Some(*n);
+    let define = |n: usize| head(&format!("c{n}"), n, Kind::Int) + "1}";
+    (1..=8).filter(called).map(define).collect()
+}
+
+fn head(name: &str, parameters: usize, result: Kind) -> String {
+    let list: Vec<String> = (0..parameters).map(|p| format!("p{p}:int")).collect();
+    let (list, result) = (list.join(","), result.spelling());
+    format!("def {name}({list}):{result}{{")
+}
+
+/// So many times the first text around the inside, and as often the second.
+fn around(before: &str, after: &str, times: usize, inside: &str) -> String {
+    format!("\\{{{times}*{before}\\}}{inside}\\{{{times}*{after}\\}}")
+}
+
+fn befores(walk: &[&Layer]) -> String {
+    walk.iter().map(|l| l.before.as_str()).collect()
+}
+
+fn afters(walk: &[&Layer]) -> String {
+    walk.iter().rev().map(|l| l.after.as_str()).collect()
+}
+
+fn nested(walk: &[&Layer], open: bool) -> String {
+    let definitions = definitions(walk, None);
+    let shut = |layers: &[&Layer]| if open { String::new() } else { afters(layers) };
+    let size = |layers: &[&Layer]| count(&befores(layers)) + count(&shut(layers));
+    let room = MOST_TOKENS - count(&definitions) - 2;
+    let times = room / size(walk);
+    // What is left over is filled with the beginning of the walk.
+    let rest = room - times * size(walk);
+    let more = (0..walk.len()).rev().find(|n| size(&walk[..*n]) <= rest);
+    let more = &walk[..more.unwrap_or(0)];
+    let leaf = more.last().or(walk.last()).map_or("1", |l| l.hole.leaf());
+    let inside = format!("{}{leaf}{}", befores(more), shut(more));
+    definitions + &around(&befores(walk), &shut(walk), times, &inside)
+}
+
+fn body(walk: &[&Layer], parameters: usize, times: usize) -> String {
+    let result = walk[0].outer;
+    // Where the function itself will do for a call of the walk, no other is
+    // defined.
+    let (name, own) = match result {
+        Kind::Int => (format!("c{parameters}"), Some(parameters)),
+        _ => ("f".to_string(), None),
+    };
+    let definitions = definitions(walk, own);
+    let head = head(&name, parameters, result);
+    let again = format!("{name}({})", vec!["1"; parameters].join(","));
+    let fixed = count(&format!("{definitions}{head}{again}}}{again}"));
+    let size = count(&befores(walk)) + count(&afters(walk));
+    let times = times.min((MOST_TOKENS - fixed) / size);
+    let inside = around(&befores(walk), &afters(walk), times, &again);
+    format!("{definitions}{head}{inside}}}{again}")
+}
+
+/// What is long without being a nest of nodes.
+pub const LISTS: [&str; 10] = [
+    "\\{2047*/*\\}\\{2047*/*\\}",
+    "\\{2047*/*\\}\\{2047**/\\}1",
+    "def f(a:int\\{1011* ref\\}):int{1}1",
+    "def f():int\\{1014* ref\\}{1}1",
+    "def f(a:int\\{252*,a:int\\}):int{1}1",
+    "def f(a:int\\{252*,a:int\\}",
+    "\\{102*def f():int{1}\\}1",
+    "\\{33*def f():int{1}\\}\\{512*1+\\}1",
+    "def f():int{\\{1011*-\\}1}f()",
+    "\\{1023*1 \\}1",
+];
+
+#[cfg(test)]
+mod tests {
+    use super::*;
+    use crate::answer::{self, Lent};
+    use crate::layers::{closed, layers, Fit};
+    use crate::on_big_stack;
+
+    /// A nest that is refused is not run, and measures nothing.
+    #[test]
+    fn typed_walks_are_run() {
+        let all = layers();
+        let (parameters, times) = (8, MOST_TOKENS);
+        for shape in [Shape::Nested, Shape::Body { parameters, times }] {
+            for index in 0..all.len() {
+                let walk = closed(&all, &[index], Fit::Typed).expect("closed");
+                let walk: Vec<&Layer> = walk.iter().map(|l| &all[*l]).collect();
+                let text = sheet(&walk, shape);
+                let bytes = quote::decode(&text).expect("a text of this module");
+                let number = on_big_stack(|| answer::run(&bytes, &Lent::default()).number);
+                assert!(number == 0 || number >= 50, "{number} of {text}");
+            }
+        }
+    }
+}
