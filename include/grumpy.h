@@ -1,8 +1,8 @@
 /* The box: reads, checks and runs a rate sheet written in Grumpy.
  *
- * Two functions. They keep nothing between calls, ask for no memory of their own but the stack, and
- * call nothing from outside. They may be called from several threads at once, each with memory of its
- * own.
+ * Two functions. They keep nothing between calls, ask for no memory of their own but the stack, of which
+ * GRUMPY_STACK bytes are enough, and call nothing from outside but memset. They may be called from several
+ * threads at once, each with memory of its own.
  *
  * Lent memory. The caller lends `table` and, to grumpy_run, `work`, of at least the words named below;
  * what they hold before the call does not matter. After the call the required words are zero and all
@@ -43,6 +43,10 @@ extern "C" {
 #define GRUMPY_WORK 16384
 #define GRUMPY_CHECK_REPORT 3
 #define GRUMPY_RUN_REPORT 6
+
+/* bytes of stack that a thread which calls these functions should have: measured on the worst sheets that a
+ * search has found, not proved */
+#define GRUMPY_STACK 2097152
 
 /* the largest source in bytes, and the largest allowance in units */
 #define GRUMPY_SOURCE 8192

@@ -60,7 +60,8 @@ fn nested(walk: &[&Layer], open: bool) -> String {
     let shut = |layers: &[&Layer]| if open { String::new() } else { afters(layers) };
     let size = |layers: &[&Layer]| count(&befores(layers)) + count(&shut(layers));
     let room = MOST_TOKENS - count(&definitions) - 2;
-    let times = room / size(walk);
+    // A walk that only closes something has nothing to leave open.
+    let times = room.checked_div(size(walk)).unwrap_or(0);
     // What is left over is filled with the beginning of the walk.
     let rest = room - times * size(walk);
     let more = (0..walk.len()).rev().find(|n| size(&walk[..*n]) <= rest);
