@@ -31,8 +31,8 @@ pub struct Found {
 }
 
 /// Candidates that are made worse, and how many sheets may be tried in all.
-const CLIMBS: usize = 4;
-const MOST_TRIED: usize = 1500;
+const CLIMBS: usize = 6;
+const MOST_TRIED: usize = 2000;
 
 pub struct Search<'a> {
     service: Service,
@@ -93,14 +93,10 @@ impl Search<'_> {
             Service::Check => &[Shape::Nested, Shape::Open],
             Service::Run => &[
                 Shape::Nested,
-                Shape::Body {
-                    parameters: 0,
-                    times: 1,
-                },
-                Shape::Body {
-                    parameters: 8,
-                    times: MOST_TOKENS,
-                },
+                Shape::body(0, 1),
+                Shape::body(8, 1),
+                Shape::body(0, MOST_TOKENS),
+                Shape::body(8, MOST_TOKENS),
             ],
         };
         let mut found = Vec::new();
@@ -141,8 +137,7 @@ impl Search<'_> {
         let Candidate { walk, shape } = from;
         if let Shape::Body { .. } = shape {
             for (parameters, times) in bodies() {
-                let shape = Shape::Body { parameters, times };
-                let walk = walk.clone();
+                let (walk, shape) = (walk.clone(), Shape::body(parameters, times));
                 all.push(Candidate { walk, shape });
             }
         }

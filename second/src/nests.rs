@@ -15,6 +15,12 @@ pub enum Shape {
     Body { parameters: usize, times: usize },
 }
 
+impl Shape {
+    pub fn body(parameters: usize, times: usize) -> Shape {
+        Shape::Body { parameters, times }
+    }
+}
+
 /// The sheet of the walk in this shape, in the spelling of the case files.
 pub fn sheet(walk: &[&Layer], shape: Shape) -> String {
     match shape {
@@ -60,7 +66,7 @@ fn nested(walk: &[&Layer], open: bool) -> String {
     let shut = |layers: &[&Layer]| if open { String::new() } else { afters(layers) };
     let size = |layers: &[&Layer]| count(&befores(layers)) + count(&shut(layers));
     let room = MOST_TOKENS - count(&definitions) - 2;
-    // A walk that only closes something has nothing to leave open.
+    // An open walk of nothing but left sides has no tokens.
     let times = room.checked_div(size(walk)).unwrap_or(0);
     // What is left over is filled with the beginning of the walk.
     let rest = room - times * size(walk);
@@ -114,8 +120,7 @@ mod tests {
     #[test]
     fn typed_walks_are_run() {
         let all = layers();
-        let (parameters, times) = (8, MOST_TOKENS);
-        for shape in [Shape::Nested, Shape::Body { parameters, times }] {
+        for shape in [Shape::Nested, Shape::body(8, MOST_TOKENS)] {
             for index in 0..all.len() {
                 let walk = closed(&all, &[index], Fit::Typed).expect("closed");
                 let walk: Vec<&Layer> = walk.iter().map(|l| &all[*l]).collect();

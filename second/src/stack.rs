@@ -7,6 +7,9 @@ use second::piped::Piped;
 use second::quote;
 use second::trial::Trial;
 
+/// Failures shown; later ones are only counted.
+const MOST_SHOWN: u64 = 10;
+
 /// A call has to leave this much of the stack, which is the caller's share.
 const MARGIN: u64 = 16_384;
 
@@ -25,7 +28,9 @@ pub fn worst(bytes: usize) -> u64 {
             let (verdict, taken) = one(&other, service, sheet);
             if let Err(difference) = verdict {
                 failed += 1;
-                println!("# FAILED {service:?}: {difference}\n| {sheet}");
+                if failed <= MOST_SHOWN {
+                    println!("# FAILED {service:?}: {difference}\n| {sheet}");
+                }
             }
             taken
         };
@@ -58,9 +63,10 @@ fn one(other: &Piped, service: Service, sheet: &str) -> (Result<(), String>, u64
 fn tell(service: Service, found: &[Found]) {
     let count = found.len();
     let Some(worst) = found.first() else { return };
-    println!(
-        "{service:?}: the worst of {count} sheets takes {} bytes",
-        worst.taken
-    );
+    let taken = match worst.taken {
+        u64::MAX => "more than all".to_string(),
+        taken => format!("{taken} bytes"),
+    };
+    println!("{service:?}: the worst of {count} sheets takes {taken}");
     println!("| {}", worst.sheet);
 }
