@@ -12,20 +12,21 @@ use Rattle.language.specs.Types.{Sig, with-def}
 use Rattle.language.specs.Faults as Faults
 use Rattle.language.specs.Meaning.{type-number}
 use Rattle.language.proofs.Types.TypeNumbers.{number-refs}
-use Rattle.language.proofs.Types.Verdict.{Res, ok, bad, after, need, after-ok, after-bad, need-yes, need-no}
-use Rattle.language.proofs.Types.Checker.{unbound, infer, take-params, check-def}
+use Rattle.language.proofs.Executable.Checks.{Res, ok, bad, after, need, after-ok, after-bad, need-yes, need-no}
+use Rattle.language.proofs.Executable.Checker.{unbound, infer, take-params, check-def}
+use Rattle.layout.specs.Types.{OVER}
 use Rattle.layout.specs.Table.{row-word, function-row, without-variables}
 use Rattle.layout.specs.Rows.{below}
 use Rattle.layout.specs.Decode.{tree-at, Right, ParamsAt, params-none, params-more, FunctionAt}
 use Rattle.layout.proofs.NameLaws.{name-inside}
 use Rattle.layout.proofs.VariablesWords.{row-without, function-without}
-use Rattle.rules.specs.Reasons.{meant}
+use Rattle.numbers.specs.Meanings.{reason-meant}
 use Rattle.rules.specs.Sight.{Variables, Sheet}
 use Rattle.rules.specs.Asked.{Tells}
 use Rattle.judge.specs.Judged.{Kept, Ready, Judged}
 use Rattle.checker.specs.Ruled.{Rules, check-head, check-body, Headings, Taken, Next, Headlines, Fresh, Bodied, Fitting, Listed, Ruled}
-use Rattle.rules.specs.declared.Reason.{Reason}
-use Rattle.rules.specs.declared.Reason.the-variants.{TooManyRefs, WrongBody}
+use Rattle.numbers.specs.declared.Reason.{Reason}
+use Rattle.numbers.specs.declared.Reason.the-variants.{TooManyRefs, WrongBody}
 use Rattle.rules.specs.declared.Typing.{Typing}
 use Rattle.rules.specs.declared.Typing.the-variants as Typing
 use Rattle.checker.specs.declared.programs.Verdict.{Verdict}
@@ -56,20 +57,20 @@ module _ {w : List ℕ} {k row : ℕ} (b : Bodied w k row) {at result : ℕ} (ea
     result-is = er ∙ sym (row-without w row 3 (b .inside) (omega arith)) ∙ here .result
 
     -- a result's type that is allowed
-    shallow : result < 128 → refs (d .result) ≤ REFS
+    shallow : result < OVER → refs (d .result) ≤ REFS
     shallow l = let m = number-refs (d .result) in let q = result-is in omega (arith, m .0)
 
   -- a result's type with too many `ref`
-  pub deep-fits : 128 ≤ result → Fitting w w k row (Verdict.Wrong TooManyRefs at)
+  pub deep-fits : OVER ≤ result → Fitting w w k row (Verdict.Wrong TooManyRefs at)
   deep-fits l = record {
     kept = kept-self w 0;
     right = λ ts f Δ Γ d n e vs.
         let m = number-refs (d .result) in
         let q = result-is n e in
-        need-no _ _ _ _ (λ x. omega (arith, m .1)) ∙ ap (bad (meant TooManyRefs)) (sym (at-is n e));
+        need-no _ _ _ _ (λ x. omega (arith, m .1)) ∙ ap (bad (reason-meant TooManyRefs)) (sym (at-is n e));
   }
 
-  module _ (few : result < 128) {root count : ℕ} (eo : root ≡ row-word w row 4) (ec : count ≡ row-word w row 2) {w′ : List ℕ} {q : Typing}
+  module _ (few : result < OVER) {root count : ℕ} (eo : root ≡ row-word w row 4) (ec : count ≡ row-word w row 2) {w′ : List ℕ} {q : Typing}
       (j : Judged w w′ root (k + 1) count q) where
     -- what is told of the body
     body-told : {ts : List Token} {f : ℕ} {Δ : Scope Sig} {Γ : Scope Ty} {d : Def} → Next ts f (without-variables w) k Δ d
@@ -118,7 +119,7 @@ module _ {w : List ℕ} {k row : ℕ} (b : Bodied w k row) {at result : ℕ} (ea
         right = λ ts f Δ Γ d n o vs.
             let u = type-told (tells-as e (body-told n o vs)) in
             need-yes _ _ _ _ (shallow n o few) (after-ok _ (u .1) (need-no _ _ _ _ (isnt-type (u .0) (d .result) (u .2) (result-is n o) s)))
-            ∙ ap (bad (meant WrongBody)) (sym (at-is n o));
+            ∙ ap (bad (reason-meant WrongBody)) (sym (at-is n o));
       }
 
 -- ---- the whole function

@@ -10,18 +10,20 @@ use Rattle.language.specs.Tokens.{Token}
 use Rattle.language.specs.Trees.{Def, Scope, nearest, size}
 use Rattle.language.specs.Types.{Sig, with-def}
 use Rattle.language.specs.Faults as Faults
-use Rattle.language.proofs.Types.Verdict.{bad, need-yes, need-no}
+use Rattle.language.proofs.Executable.Checks.{bad, need-yes, need-no}
 use Rattle.layout.specs.Table.{row-word, without-variables}
 use Rattle.layout.proofs.VariablesWords.{row-without, function-without}
-use Rattle.rules.specs.Reasons.{meant}
-use Rattle.rules.specs.Sight.{Headed, function-name, Functions, functions-given, functions-more, Sheet, callee-in, Means}
+use Rattle.numbers.specs.Meanings.{reason-meant}
+use Rattle.layout.specs.Functions.{Headed, function-name}
+use Rattle.layout.proofs.FunctionLaws.{function-named}
+use Rattle.rules.specs.Sight.{Functions, functions-given, functions-more, Sheet, callee-in, Means}
 use Rattle.checker.specs.Ruled.{check-head, Next, Headlines, Fresh}
-use Rattle.rules.specs.declared.Reason.the-variants.{TooManyFunctions, FunctionTwice}
+use Rattle.numbers.specs.declared.Reason.the-variants.{TooManyFunctions, FunctionTwice}
 use Rattle.rules.specs.declared.sight.Callee.{Callee}
 use Rattle.rules.specs.declared.sight.Callee.the-variants as Callee
 use Rattle.checker.specs.declared.programs.Verdict.{Verdict}
 use Rattle.checker.specs.declared.programs.Verdict.the-variants as Verdict
-use Rattle.judge.proofs.SheetLaws.{name-of, sheet-headed, callee-means}
+use Rattle.judge.proofs.SheetLaws.{sheet-headed, callee-means}
 use Rattle.rules.proofs.PlainLaws.{name-plain, callee-plain}
 use Rattle.checker.proofs.ParameterLaws.{unbound-none, unbound-some}
 
@@ -78,7 +80,7 @@ module _ {w : List ℕ} {k row : ℕ} (h : Headlines w k row) {at : ℕ} (ea : a
   many-fresh l = record {
     right = λ ts f Δ d n.
         let s = functions-size (n .before) in
-        need-no _ _ _ _ (λ x. omega arith) ∙ ap (bad (meant TooManyFunctions)) (sym (def-at n));
+        need-no _ _ _ _ (λ x. omega arith) ∙ ap (bad (reason-meant TooManyFunctions)) (sym (def-at n));
   }
 
   module _ (few : k < FUNCTIONS) {name : ℕ} {c : Callee} (en : name ≡ function-name w k) (ec : c ≡ callee-in w name k) where
@@ -87,7 +89,7 @@ module _ {w : List ℕ} {k row : ℕ} (h : Headlines w k row) {at : ℕ} (ea : a
         → Means f ts (without-variables w) c (nearest (d .called) Δ)
     means {ts} {f} {Δ} {d} n =
         let p = without-variables w in
-        let a = callee-means (sheet-before n) (name-of (n .stand) k (n .here)) in
+        let a = callee-means (sheet-before n) (function-named (n .stand) (n .here)) in
         let e : callee-in p (function-name p k) k ≡ c =
         callee-plain w (function-name p k) k (sheet-headed (sheet-before n))
         ∙ ap (λ (x : ℕ). callee-in w x k) (name-plain w (next-headed n k (omega arith)) ∙ sym en) ∙ sym ec in

@@ -12,19 +12,20 @@ use Rattle.language.specs.Faults as Faults
 use Rattle.language.specs.Faults.{no-binding}
 use Rattle.language.specs.Meaning.{type-number}
 use Rattle.language.proofs.Types.TypeNumbers.{number-refs}
-use Rattle.language.proofs.Types.Verdict.{Res, ok, bad, told, need-yes, need-no}
-use Rattle.language.proofs.Types.Checker.{unbound, take-params}
-use Rattle.layout.specs.Table.{token-word, row-word, put-variable, without-variables}
-use Rattle.layout.specs.Names.{Stand}
+use Rattle.language.proofs.Executable.Checks.{Res, ok, bad, told, need-yes, need-no}
+use Rattle.language.proofs.Executable.Checker.{unbound, take-params}
+use Rattle.layout.specs.Types.{OVER}
+use Rattle.layout.specs.Table.{token-value, row-word, put-variable, without-variables}
+use Rattle.layout.specs.Names.{Stand, Named}
 use Rattle.layout.specs.Decode.{ParamsAt, params-more}
-use Rattle.layout.proofs.NameLaws.{Named, named-at}
+use Rattle.layout.proofs.NameLaws.{named-at}
 use Rattle.layout.proofs.VariablesWords.{row-without, token-without}
-use Rattle.rules.specs.Reasons.{meant}
+use Rattle.numbers.specs.Meanings.{reason-meant}
 use Rattle.rules.specs.Sight.{Variables, variables-none, variables-more, find-variable, found}
 use Rattle.judge.specs.Judged.{looked}
 use Rattle.checker.specs.Ruled.{ParameterAt, Bound}
-use Rattle.rules.specs.declared.Reason.the-variants.{TooManyParameters, ParameterTwice, TooManyRefs}
-use Rattle.rules.specs.declared.Reason.{Reason}
+use Rattle.numbers.specs.declared.Reason.the-variants.{TooManyParameters, ParameterTwice, TooManyRefs}
+use Rattle.numbers.specs.declared.Reason.{Reason}
 use Rattle.rules.specs.declared.sight.Found.{Found}
 use Rattle.rules.specs.declared.sight.Found.the-variants as Found
 use Rattle.checker.specs.declared.programs.Verdict.{Verdict}
@@ -93,17 +94,17 @@ module _ {w : List ℕ} {row : ℕ} (r : ParameterAt w row) {at : ℕ} (ea : at 
     kept = kept-self w k;
     right = λ ts count Γ q qs st ps vs.
         let s = variables-size vs in
-        need-no _ _ _ _ (λ h. omega arith) ∙ ap (bad (meant TooManyParameters)) (sym (own ps));
+        need-no _ _ _ _ (λ h. omega arith) ∙ ap (bad (reason-meant TooManyParameters)) (sym (own ps));
   }
 
-  module _ {k : ℕ} (few : k < PARAMETERS) {token name : ℕ} (et : token ≡ row-word w row 1) (en : name ≡ token-word w token 3) where
+  module _ {k : ℕ} (few : k < PARAMETERS) {token name : ℕ} (et : token ≡ row-word w row 1) (en : name ≡ token-value w token) where
     named : {ts : List Token} {count : ℕ} {q : Param} {qs : List Param} → Stand (without-variables w) count ts
         → ParamsAt ts (without-variables w) row (q ∷ qs) → Named ts name (q .called)
     named {ts} {q = q} st (params-more a n c t h) =
         let e = sym (row-without w row 1 (r .inside) (omega arith)) ∙ a in
-        let d : token-word (without-variables w) (q .at) 3 ≡ name =
-        ap (λ (i : ℕ). token-word (without-variables w) i 3) (sym e) ∙ token-without w (row-word w row 1) 3 (r .name) (omega arith)
-        ∙ sym (en ∙ ap (λ (i : ℕ). token-word w i 3) et) in
+        let d : token-value (without-variables w) (q .at) ≡ name =
+        ap (λ (i : ℕ). token-value (without-variables w) i) (sym e) ∙ token-without w (row-word w row 1) 3 (r .name) (omega arith)
+        ∙ sym (en ∙ ap (λ (i : ℕ). token-value w i) et) in
         subst (λ (s : Name). Named ts name s) (sym c)
         (subst (λ (z : ℕ). Named ts z (spelling-at ts (q .at))) d (named-at st (q .at) n))
 
@@ -116,12 +117,12 @@ module _ {w : List ℕ} {row : ℕ} (r : ParameterAt w row) {at : ℕ} (ea : at 
         right = λ ts count Γ q qs st ps vs.
             let s = variables-size vs in
             let h = found-some (stand-few st) (named st ps) vs (sym eb ∙ ap found e) in
-            need-yes _ _ _ _ (omega arith) (unbound-some _ _ _ (h .1)) ∙ ap (bad (meant ParameterTwice)) (sym (own ps));
+            need-yes _ _ _ _ (omega arith) (unbound-some _ _ _ (h .1)) ∙ ap (bad (reason-meant ParameterTwice)) (sym (own ps));
       }
 
       module _ (new : b ≡ Found.Nowhere) {number : ℕ} (ed : number ≡ row-word w row 2) where
         -- too many `ref`
-        pub deep-bound : 128 ≤ number → Bound w w row k (Verdict.Wrong TooManyRefs at)
+        pub deep-bound : OVER ≤ number → Bound w w row k (Verdict.Wrong TooManyRefs at)
         unfolding take-params
         deep-bound l = record {
           kept = kept-self w k;
@@ -131,11 +132,11 @@ module _ {w : List ℕ} {row : ℕ} (r : ParameterAt w row) {at : ℕ} (ea : at 
               let m = number-refs (q .type) in
               let d = deep ed ps in
               need-yes _ _ _ _ (omega arith) (unbound-none _ _ _ h (need-no _ _ _ _ (λ x. omega (arith, m .1))))
-              ∙ ap (bad (meant TooManyRefs)) (sym (own ps));
+              ∙ ap (bad (reason-meant TooManyRefs)) (sym (own ps));
         }
 
         -- one more variable
-        pub fine-bound : {v : List ℕ} → number < 128 → v ≡ put-variable w k name number → Bound w v row k Verdict.Fine
+        pub fine-bound : {v : List ℕ} → number < OVER → v ≡ put-variable w k name number → Bound w v row k Verdict.Fine
         unfolding take-params
         fine-bound {v} l ev = subst (λ (v : List ℕ). Bound w v row k Verdict.Fine) (sym ev) record {
           kept = kept-put w k name number (omega arith);

@@ -11,9 +11,9 @@ use Rattle.language.specs.Trees.{Ty, Exp, Def, Program, Scope, empty}
 use Rattle.language.specs.Types.{Sig, with-def, given, HasType}
 use Rattle.language.specs.Faults as Faults
 use Rattle.language.specs.Faults.{HasFault}
-use Rattle.language.proofs.Types.Verdict.{Res, after-ok, after-bad, Says, says, faults}
-use Rattle.language.proofs.Types.Checker.{infer, check-def, check-from, check}
-use Rattle.language.proofs.Types.CheckerSound.{check-sound}
+use Rattle.language.proofs.Executable.Checks.{Res, after-ok, after-bad, Says, says, faults}
+use Rattle.language.proofs.Executable.Checker.{infer, check-def, check-from, check}
+use Rattle.language.proofs.Executable.CheckerSound.{check-sound}
 use Rattle.layout.specs.Table.{without-variables}
 use Rattle.layout.specs.Rows.{below}
 use Rattle.layout.specs.Decode.{tree-at, Right, FunctionsAt, functions-more, Holds}
@@ -24,7 +24,7 @@ use Rattle.rules.specs.Sight as Sight
 use Rattle.rules.specs.Asked.{Tells, tells-type, tells-fault}
 use Rattle.judge.specs.Judged.{Kept, Ready, Judged}
 use Rattle.checker.specs.Ruled.{Rules, Next, Listed, Ruled, Concluded}
-use Rattle.rules.specs.declared.Reason.{Reason}
+use Rattle.numbers.specs.declared.Reason.{Reason}
 use Rattle.rules.specs.declared.Typing.{Typing}
 use Rattle.rules.specs.declared.Typing.the-variants as Typing
 use Rattle.checker.specs.declared.programs.Verdict.{Verdict}

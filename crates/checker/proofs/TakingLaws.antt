@@ -6,8 +6,8 @@ use native.Mathlib.Omega.{arith}
 use lib.ListN.{length}
 use Rattle.language.specs.Tokens.{Token}
 use Rattle.language.specs.Trees.{Ty, Param, Def, Scope, empty, push}
-use Rattle.language.proofs.Types.Verdict.{ok}
-use Rattle.language.proofs.Types.Checker.{take-params}
+use Rattle.language.proofs.Executable.Checks.{ok}
+use Rattle.language.proofs.Executable.Checker.{take-params}
 use Rattle.layout.specs.Table.{row-word, without-variables}
 use Rattle.layout.specs.Names.{Stand}
 use Rattle.layout.specs.Decode.{ParamsAt, params-more, FunctionAt}
@@ -15,7 +15,7 @@ use Rattle.layout.proofs.VariablesWords.{row-without}
 use Rattle.rules.specs.Sight.{Variables, variables-none}
 use Rattle.judge.specs.Judged.{Kept}
 use Rattle.checker.specs.Ruled.{ParameterAt, BoundIs, Bound, Headings, Taken}
-use Rattle.rules.specs.declared.Reason.{Reason}
+use Rattle.numbers.specs.declared.Reason.{Reason}
 use Rattle.checker.specs.declared.programs.Verdict.{Verdict}
 use Rattle.checker.specs.declared.programs.Verdict.the-variants as Verdict
 use Rattle.judge.proofs.KeptLaws.{kept-self, kept-then, kept-fewer, kept-row}

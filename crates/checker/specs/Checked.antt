@@ -9,7 +9,7 @@ use Rattle.language.specs.Faults.{HasFault}
 use Rattle.language.specs.Meaning.{type-number}
 use Rattle.layout.specs.Table.{without-variables}
 use Rattle.layout.specs.Decode.{Holds}
-use Rattle.rules.specs.Reasons.{meant}
+use Rattle.numbers.specs.Meanings.{reason-meant}
 use Rattle.rules.specs.declared.Typing.{Typing}
 use Rattle.rules.specs.declared.Typing.the-variants as Typing
 
@@ -22,7 +22,7 @@ pub record Checkable (w : List ℕ) (count defs root : ℕ) : Type 0 where
 -- what the answer says of the program p: its type, by the type's number, or its first fault and the token that this is told at
 abbrev pub Answers : Typing → Program → Type 0
 Answers (Typing.«Type» n) p = (t : Ty) × HasType p t × (n ≡ type-number t)
-Answers (Typing.Fault r i) p = HasFault p (meant r) i
+Answers (Typing.Fault r i) p = HasFault p (reason-meant r) i
 
 -- the answer is right of every program that the table held, and the variables are cleared
 pub record Checked (w w′ : List ℕ) (count defs root : ℕ) (r : Typing) : Type 0 where

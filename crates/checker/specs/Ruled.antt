@@ -9,13 +9,14 @@ use Rattle.language.specs.Tokens.{Token}
 use Rattle.language.specs.Trees.{Ty, refs, Ty-discrete, Param, Def, Program, Scope, empty, push, nearest, size}
 use Rattle.language.specs.Types.{Sig, with-def}
 use Rattle.language.specs.Faults.{too-many-refs, too-many-functions, function-twice, wrong-body}
-use Rattle.language.proofs.Types.Verdict.{Res, ok, bad, after, need}
-use Rattle.language.proofs.Types.Checker.{unbound, infer, take-params, check-def, check}
-use Rattle.layout.specs.Table.{row-word, function-row, without-variables}
+use Rattle.language.proofs.Executable.Checks.{Res, ok, bad, after, need}
+use Rattle.language.proofs.Executable.Checker.{unbound, infer, take-params, check-def, check}
+use Rattle.layout.specs.Table.{OWN, ARITY, BODY, row-word, function-row, without-variables}
 use Rattle.layout.specs.Names.{Stand}
+use Rattle.layout.specs.Functions.{Headed}
 use Rattle.layout.specs.Decode.{ParamsAt, FunctionAt, Holds}
-use Rattle.rules.specs.Reasons.{meant}
-use Rattle.rules.specs.Sight.{Variables, Functions, Headed}
+use Rattle.numbers.specs.Meanings.{reason-meant}
+use Rattle.rules.specs.Sight.{Variables, Functions}
 use Rattle.rules.specs.Asked.{Tells}
 use Rattle.judge.specs.Judged.{Kept, Ready}
 use Rattle.rules.specs.declared.Typing.{Typing}
@@ -25,7 +26,7 @@ use Rattle.checker.specs.declared.programs.Verdict.the-variants as Verdi
 -- the verdict on something: P where it is fine, and else why it is not
 abbrev pub Rules : {A : Type 0} → Verdict → Res A → (A → Type 0) → Type 0
 Rules {A} Verdict.Fine x P = (a : A) × (x ≡ ok a) × P a
-Rules (Verdict.Wrong r i) x P = x ≡ bad (meant r) i
+Rules (Verdict.Wrong r i) x P = x ≡ bad (reason-meant r) i
 
 -- ---- parameters
 
@@ -33,13 +34,13 @@ Rules (Verdict.Wrong r i) x P = x ≡ bad (meant r) i
 pub record ParameterAt (w : List ℕ) (row : ℕ) : Type 0 where
   pub long : TABLE ≤ length w
   pub inside : row < NODES
-  pub name : row-word w row 1 < TOKENS
+  pub name : row-word w row OWN < TOKENS
 
 -- it is bound as variable k, and the others follow; or that ends them all
 abbrev pub BoundIs : List Token → List ℕ → ℕ → Scope Ty → Param → List Param → Verdict → Type 0
 BoundIs ts w k Γ q qs Verdict.Fine =
     Variables ts w (k + 1) (push (q .called) (q .type) Γ) × (take-params (q ∷ qs) Γ ≡ take-params qs (push (q .called) (q .type) Γ))
-BoundIs ts w k Γ q qs (Verdict.Wrong r i) = take-params (q ∷ qs) Γ ≡ bad (meant r) i
+BoundIs ts w k Γ q qs (Verdict.Wrong r i) = take-params (q ∷ qs) Γ ≡ bad (reason-meant r) i
 
 -- parameter k, at row `row`, behind the parameters Γ
 pub record Bound (w w′ : List ℕ) (row k : ℕ) (r : Verdict) : Type 0 where
@@ -51,8 +52,8 @@ pub record Bound (w w′ : List ℕ) (row k : ℕ) (r : Verdict) : Type 0 where
 -- all parameters of the function at row `row`
 pub record Headings (w : List ℕ) (row : ℕ) : Type 0 where
   pub long : TABLE ≤ length w
-  pub last : row + row-word w row 2 < NODES
-  pub names : (k : ℕ) → k < row-word w row 2 → row-word w (row + k + 1) 1 < TOKENS
+  pub last : row + row-word w row ARITY < NODES
+  pub names : (k : ℕ) → k < row-word w row ARITY → row-word w (row + k + 1) OWN < TOKENS
 
 -- all are taken, or the first that is wrong is told
 pub record Taken (w w′ : List ℕ) (row : ℕ) (r : Verdict) : Type 0 where
@@ -101,7 +102,7 @@ pub record Bodied (w : List ℕ) (k row : ℕ) : Type 0 where
   pub long : TABLE ≤ length w
   pub inside : row < NODES
   pub few : k < TOKENS
-  pub ready : Ready w (row-word w row 4) (k + 1) (row-word w row 2)
+  pub ready : Ready w (row-word w row BODY) (k + 1) (row-word w row ARITY)
 
 -- its result's type is allowed, and its body has that type
 pub record Fitting (w w′ : List ℕ) (k row : ℕ) (r : Verdict) : Type 0 where

@@ -8,14 +8,14 @@ use language::FUNCTIONS;
 use language::PARAMETERS;
 use layout::functions;
 use layout::rows;
-use layout::tokens;
+use layout::token;
+use layout::types;
 use layout::variables;
-use rules::Reason;
+use numbers::Reason;
 use rules::Typing;
 use rules::sight;
 use rules::sight::Callee;
 use rules::sight::Found;
-use rules::types;
 
 pub enum Verdict {
     Fine,
@@ -27,17 +27,17 @@ fn parameter(table: &mut [u32], row: usize, k: usize) -> Verdict
     requires { ⌜ ParameterAt (now table) row ⌝ }
     ensures { λ r. ⌜ Bound (now (table .entry)) (now (table .exit)) row k r ⌝ }
 {
-    let at = rows::word(table, row, 1);
+    let at = rows::word(table, row, rows::OWN);
     if PARAMETERS <= k {
         return Verdict::Wrong(Reason::TooManyParameters, at);
     }
-    let token = rows::link(table, row, 1);
-    let name = tokens::value(table, token);
+    let token = rows::link(table, row, rows::OWN);
+    let name = token::value(table, token);
     let before = sight::variable(table, k, name);
     match before {
         Found::Is(_) => Verdict::Wrong(Reason::ParameterTwice, at),
         Found::Nowhere => {
-            let number = rows::word(table, row, 2);
+            let number = rows::word(table, row, rows::TYPE);
             if number < types::OVER {
                 variables::put(table, k, name, number);
                 return Verdict::Fine;
@@ -52,7 +52,7 @@ fn parameters(table: &mut [u32], row: usize) -> Verdict
     requires { ⌜ Headings (now table) row ⌝ }
     ensures { λ r. ⌜ Taken (now (table .entry)) (now (table .exit)) row r ⌝ }
 {
-    let count = rows::link(table, row, 2);
+    let count = rows::link(table, row, rows::ARITY);
     let mut k = 0;
     while k < count {
         let bound = parameter(table, row + k + 1, k);
@@ -73,12 +73,12 @@ fn fresh(table: &[u32], k: usize, row: usize) -> Verdict
     requires { ⌜ Headlines (now table) k row ⌝ }
     ensures { λ r. ⌜ Fresh (now (table .entry)) k r ⌝ }
 {
-    let at = rows::word(table, row, 1);
+    let at = rows::word(table, row, rows::OWN);
     if FUNCTIONS <= k {
         return Verdict::Wrong(Reason::TooManyFunctions, at);
     }
     let named = at + 1;
-    let name = sight::name_of(table, k);
+    let name = functions::name(table, k);
     let other = sight::called(table, k, name);
     match other {
         Callee::Function(_) => Verdict::Wrong(Reason::FunctionTwice, named),
@@ -92,13 +92,13 @@ fn body(table: &mut [u32], k: usize, row: usize) -> Verdict
     requires { ⌜ Bodied (now table) k row ⌝ }
     ensures { λ r. ⌜ Fitting (now (table .entry)) (now (table .exit)) k row r ⌝ }
 {
-    let at = rows::word(table, row, 1);
-    let count = rows::link(table, row, 2);
-    let result = rows::word(table, row, 3);
+    let at = rows::word(table, row, rows::OWN);
+    let count = rows::link(table, row, rows::ARITY);
+    let result = rows::word(table, row, rows::RESULT);
     if types::OVER <= result {
         return Verdict::Wrong(Reason::TooManyRefs, at);
     }
-    let root = rows::link(table, row, 4);
+    let root = rows::link(table, row, rows::BODY);
     let typed = expressions::type_at(table, root, k + 1, count);
     match typed {
         Typing::Fault(r, i) => Verdict::Wrong(r, i),

@@ -80,12 +80,12 @@ fn show(sheet: &[u8], allowance: u64) {
 fn report(answer: Ran, out: &[u8]) {
     match answer {
         Ran::Value {
-            kind,
+            type_number,
             value,
             units,
             printed,
         } => {
-            three(0, 0, kind);
+            three(0, 0, type_number);
             signed(value);
             field(units as u64);
             bytes(out, printed);
@@ -93,27 +93,27 @@ fn report(answer: Ran, out: &[u8]) {
         Ran::Stopped {
             why,
             place,
-            kind,
+            type_number,
             units,
             printed,
         } => {
-            three(grumpy::numbers::of_stop(why), place, kind);
+            three(numbers::of_stop(why), place, type_number);
             field(0);
             field(units as u64);
             bytes(out, printed);
         }
         Ran::Refused(why, place) => {
-            three(sheets::numbers::of_refusal(why), place, 0);
+            three(numbers::of_refusal(why), place, 0);
             field(0);
             field(0);
         }
     }
 }
 
-fn three(number: u32, place: usize, kind: u32) {
+fn three(number: u32, place: usize, type_number: u32) {
     field(number as u64);
     field(place as u64);
-    field(kind as u64);
+    field(type_number as u64);
 }
 
 fn field(n: u64) {

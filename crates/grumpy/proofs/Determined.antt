@@ -1,105 +1,58 @@
 -- The contracts determine the answers: no two answers of check or of run, and no two memories or outputs, meet them for the
--- same input. An answer can be told from its row and report.
+-- same input. An answer can be told from its report.
 use mathlib.Core.List.{List}
-use mathlib.Core.Path.{_≡_, refl, sym, ap, ap₂, _∙_}
+use mathlib.Core.Path.{_≡_, refl, sym, ap, _∙_}
 use Prim.Native.Nat.{ℕ}
-use Rattle.language.specs.State as State
-use Rattle.language.specs.Numbers.{Row, passed, short-memory, large-allowance, long-source, text, no-reading, many-nodes, types, stopped}
-use Rattle.language.specs.Answers.{CheckReport, Check, RunReport, Run}
+use Rattle.language.specs.Numbers.{Told, passed, refused, stopped}
+use Rattle.language.specs.Answers.{from-text, CheckReport, Check, RunReport, Run}
+use Rattle.language.proofs.Answers.Origins.{text-lawful}
 use Rattle.language.proofs.Answers.OneAnswer.{one-check, one-run}
-use Rattle.tokens.specs.declared.answer.Flaw as flaw
-use Rattle.rules.specs.declared.Reason as reason
-use Rattle.machine.specs.Outcomes.{why}
-use Rattle.machine.specs.declared.Stop as halt
-use Rattle.sheets.specs.declared.refusals.Refusal as refused
-use Rattle.rules.proofs.ReasonLaws.{reason-of, reason-back}
-use Rattle.sheets.proofs.OneRefusal.{flaw-of, flaw-back}
-use Rattle.grumpy.specs.Reports.{checked-row, checked-report, ran-row, ran-report}
-use Rattle.grumpy.specs.declared.answers.Checked as checked
-use Rattle.grumpy.specs.declared.answers.Ran as ran
+use Rattle.numbers.proofs.Apart.{refusal-of, refusal-back, stop-of, stop-back}
+use Rattle.numbers.specs.declared.Refusal.{Refusal}
+use Rattle.numbers.specs.declared.Stop.{Stop}
+use Rattle.grumpy.specs.Reports.{checked-report, ran-report}
+use Rattle.grumpy.specs.declared.answers.Checked.{Checked}
+use Rattle.grumpy.specs.declared.answers.Ran.{Ran}
 
--- ---- the code's names for the written stops
+-- ---- answers from reports
 
-abbrev stop-of : State.Stop → halt.Stop
-stop-of State.Stop.no-unit = halt.the-variants.NoUnit
-stop-of State.Stop.too-deep = halt.the-variants.TooDeep
-stop-of State.Stop.out-of-range = halt.the-variants.OutOfRange
-stop-of State.Stop.zero-divisor = halt.the-variants.ZeroDivisor
-stop-of State.Stop.cell-freed = halt.the-variants.CellFreed
-stop-of State.Stop.cells-full = halt.the-variants.CellsFull
-stop-of State.Stop.not-a-byte = halt.the-variants.NotAByte
-stop-of State.Stop.output-full = halt.the-variants.OutputFull
+-- check tells no stop
+abbrev checked-by : Told → CheckReport ℕ → Checked
+checked-by passed r = Checked.Passed (r .type)
+checked-by (refused y) r = Checked.Refused (refusal-of y) (r .place)
+checked-by (stopped w) r = Checked.Passed 0
 
-stop-back : (s : halt.Stop) → stop-of (why s) ≡ s
-stop-back halt.the-variants.NoUnit = refl
-stop-back halt.the-variants.TooDeep = refl
-stop-back halt.the-variants.OutOfRange = refl
-stop-back halt.the-variants.ZeroDivisor = refl
-stop-back halt.the-variants.CellFreed = refl
-stop-back halt.the-variants.CellsFull = refl
-stop-back halt.the-variants.NotAByte = refl
-stop-back halt.the-variants.OutputFull = refl
+abbrev checked-of : CheckReport ℕ → Checked
+checked-of r = checked-by (r .told) r
 
--- ---- answers from rows and reports
+checked-back : (r : Checked) → checked-of (checked-report r) ≡ r
+checked-back (Checked.Passed t) = refl
+checked-back (Checked.Refused y i) = ap (λ (y : Refusal). Checked.Refused y i) (refusal-back y)
 
-abbrev checked-of : Row → CheckReport → checked.Checked
-checked-of passed r = checked.the-variants.Passed (r .type)
-checked-of short-memory r = checked.the-variants.Refused refused.the-variants.ShortMemory (r .place)
-checked-of large-allowance r = checked.the-variants.Refused refused.the-variants.LargeAllowance (r .place)
-checked-of long-source r = checked.the-variants.Refused refused.the-variants.LongSource (r .place)
-checked-of (text f) r = checked.the-variants.Refused (refused.the-variants.Text (flaw-of f)) (r .place)
-checked-of no-reading r = checked.the-variants.Refused refused.the-variants.NoReading (r .place)
-checked-of many-nodes r = checked.the-variants.Refused refused.the-variants.ManyNodes (r .place)
-checked-of (types w) r = checked.the-variants.Refused (refused.the-variants.Types (reason-of w)) (r .place)
-checked-of (stopped w) r = checked.the-variants.Passed 0
+abbrev ran-by : Told → RunReport ℕ → Ran
+ran-by passed r = Ran.Value (r .type) (r .value) (r .units) (r .printed)
+ran-by (refused y) r = Ran.Refused (refusal-of y) (r .place)
+ran-by (stopped w) r = Ran.Stopped (stop-of w) (r .place) (r .type) (r .units) (r .printed)
 
-checked-back : (r : checked.Checked) → checked-of (checked-row r) (checked-report r) ≡ r
-checked-back (checked.the-variants.Passed t) = refl
-checked-back (checked.the-variants.Refused refused.the-variants.ShortMemory i) = refl
-checked-back (checked.the-variants.Refused refused.the-variants.LargeAllowance i) = refl
-checked-back (checked.the-variants.Refused refused.the-variants.LongSource i) = refl
-checked-back (checked.the-variants.Refused (refused.the-variants.Text f) i) =
-    ap (λ (f : flaw.Flaw). checked.the-variants.Refused (refused.the-variants.Text f) i) (flaw-back f)
-checked-back (checked.the-variants.Refused refused.the-variants.NoReading i) = refl
-checked-back (checked.the-variants.Refused refused.the-variants.ManyNodes i) = refl
-checked-back (checked.the-variants.Refused (refused.the-variants.Types w) i) =
-    ap (λ (w : reason.Reason). checked.the-variants.Refused (refused.the-variants.Types w) i) (reason-back w)
+abbrev ran-of : RunReport ℕ → Ran
+ran-of r = ran-by (r .told) r
 
-abbrev ran-of : Row → RunReport → ran.Ran
-ran-of passed r = ran.the-variants.Value (r .type) (r .value) (r .units) (r .printed)
-ran-of short-memory r = ran.the-variants.Refused refused.the-variants.ShortMemory (r .place)
-ran-of large-allowance r = ran.the-variants.Refused refused.the-variants.LargeAllowance (r .place)
-ran-of long-source r = ran.the-variants.Refused refused.the-variants.LongSource (r .place)
-ran-of (text f) r = ran.the-variants.Refused (refused.the-variants.Text (flaw-of f)) (r .place)
-ran-of no-reading r = ran.the-variants.Refused refused.the-variants.NoReading (r .place)
-ran-of many-nodes r = ran.the-variants.Refused refused.the-variants.ManyNodes (r .place)
-ran-of (types w) r = ran.the-variants.Refused (refused.the-variants.Types (reason-of w)) (r .place)
-ran-of (stopped w) r = ran.the-variants.Stopped (stop-of w) (r .place) (r .type) (r .units) (r .printed)
-
-ran-back : (r : ran.Ran) → ran-of (ran-row r) (ran-report r) ≡ r
-ran-back (ran.the-variants.Value t v u n) = refl
-ran-back (ran.the-variants.Stopped w i t u n) = ap (λ (w : halt.Stop). ran.the-variants.Stopped w i t u n) (stop-back w)
-ran-back (ran.the-variants.Refused refused.the-variants.ShortMemory i) = refl
-ran-back (ran.the-variants.Refused refused.the-variants.LargeAllowance i) = refl
-ran-back (ran.the-variants.Refused refused.the-variants.LongSource i) = refl
-ran-back (ran.the-variants.Refused (refused.the-variants.Text f) i) =
-    ap (λ (f : flaw.Flaw). ran.the-variants.Refused (refused.the-variants.Text f) i) (flaw-back f)
-ran-back (ran.the-variants.Refused refused.the-variants.NoReading i) = refl
-ran-back (ran.the-variants.Refused refused.the-variants.ManyNodes i) = refl
-ran-back (ran.the-variants.Refused (refused.the-variants.Types w) i) =
-    ap (λ (w : reason.Reason). ran.the-variants.Refused (refused.the-variants.Types w) i) (reason-back w)
+ran-back : (r : Ran) → ran-of (ran-report r) ≡ r
+ran-back (Ran.Value t v u n) = refl
+ran-back (Ran.Stopped w i t u n) = ap (λ (w : Stop). Ran.Stopped w i t u n) (stop-back w)
+ran-back (Ran.Refused y i) = ap (λ (y : Refusal). Ran.Refused y i) (refusal-back y)
 
 -- ---- one answer
 
-pub check-determined : {source table : List ℕ} {t′ u′ : List ℕ} (r q : checked.Checked) → Check source table (checked-row r) (checked-report r) t′
-    → Check source table (checked-row q) (checked-report q) u′ → (r ≡ q) × (t′ ≡ u′)
-check-determined r q a b =
-    let e = one-check a b in
-    (sym (checked-back r) ∙ ap₂ checked-of (e .0) (e .1) ∙ checked-back q, e .2)
+pub check-determined : {source table t′ u′ : List ℕ} (r q : Checked) → Check (from-text source) table (checked-report r) t′
+    → Check (from-text source) table (checked-report q) u′ → (r ≡ q) × (t′ ≡ u′)
+check-determined {source} r q a b =
+    let e = one-check (text-lawful source) a b in
+    (sym (checked-back r) ∙ ap checked-of (e .0) ∙ checked-back q, e .1)
 
-pub run-determined : {source table work output : List ℕ} {allowance : ℕ} {t′ w′ o′ t″ w″ o″ : List ℕ} (r q : ran.Ran)
-    → Run source table work output allowance (ran-row r) (ran-report r) t′ w′ o′
-    → Run source table work output allowance (ran-row q) (ran-report q) t″ w″ o″ → (r ≡ q) × (t′ ≡ t″) × (w′ ≡ w″) × (o′ ≡ o″)
-run-determined r q a b =
-    let e = one-run a b in
-    (sym (ran-back r) ∙ ap₂ ran-of (e .0) (e .1) ∙ ran-back q, e .2, e .3, e .4)
+pub run-determined : {source table work output : List ℕ} {allowance : ℕ} {t′ w′ o′ t″ w″ o″ : List ℕ} (r q : Ran)
+    → Run (from-text source) table work output allowance (ran-report r) t′ w′ o′
+    → Run (from-text source) table work output allowance (ran-report q) t″ w″ o″ → (r ≡ q) × (t′ ≡ t″) × (w′ ≡ w″) × (o′ ≡ o″)
+run-determined {source} r q a b =
+    let e = one-run (text-lawful source) a b in
+    (sym (ran-back r) ∙ ap ran-of (e .0) ∙ ran-back q, e .1, e .2, e .3)

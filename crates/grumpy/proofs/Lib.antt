@@ -1,3 +1,4 @@
+pub mod Leaving
 pub mod Runs
 pub mod Services
 pub mod Determined

@@ -1,185 +1,155 @@
 -- From a sheet that was examined to the answers of the two services.
-use mathlib.Core.List.{List, [], reverse}
+use mathlib.Core.List.{List, []}
 use mathlib.Core.Logic.{_⊎_}
-use mathlib.Core.Path.{_≡_, refl, sym, ap, subst, _∙_}
+use mathlib.Core.Option.{some}
+use mathlib.Core.Path.{_≡_, refl, sym, subst, _∙_}
 use Prim.Native.Nat.{ℕ, _≤_, _<_}
-use lib.IntN.{ℤ, pos}
 use lib.ListN.{length}
-use Rattle.language.specs.Sizes.{TABLE, WORK, ALLOWANCE}
-use Rattle.language.specs.Trees.{Ty}
-use Rattle.language.specs.State as M
-use Rattle.language.specs.State.{value}
-use Rattle.language.specs.Meaning.{value-number, type-number}
-use Rattle.language.specs.Numbers.{Row, passed, stopped, short-memory, large-allowance, number}
-use Rattle.language.specs.Answers.{Refused, too-long, flawed, unread, too-large, faulty, left, cleared, check-report, Checked, check-short, check-refused, check-passed, Check, RunReport, Lent, Enough, refusal, after-run, Ran, run-short, run-large, run-refused, run-value, run-stop, Run}
+use Rattle.language.specs.Sizes.{TOKENS, TABLE, WORK, ALLOWANCE}
+use Rattle.language.specs.Tokens.{Token}
+use Rattle.language.specs.Trees.{Ty, Program}
+use Rattle.language.specs.Meaning.{run, type-number}
+use Rattle.language.specs.Numbers.{passed, refused, short-memory, large-allowance}
+use Rattle.language.specs.Answers as Answers
+use Rattle.language.specs.Answers.{from-text, Passes, ending, left, cleared, check-report, CheckReport, Checked, check-short, check-refused, check-passed, Check, Lent, Enough, refusal, run-short, run-large, run-refused, run-ended, Run}
+use Rattle.language.proofs.Answers.Origins.{text-lawful}
+use Rattle.numbers.specs.declared.Refusal.{Refusal}
+use Rattle.numbers.specs.declared.Stop.{Stop}
 use Rattle.layout.specs.Table.{zeros}
+use Rattle.layout.specs.Names.{Stand}
 use Rattle.layout.proofs.Wiped.{zeros-cleared}
-use Rattle.language.proofs.Text.SmallNumbers.{split-small}
 use Rattle.runner.specs.Contract as Runner
-use Rattle.machine.specs.Outcomes.{why}
-use Rattle.grumpy.specs.Reports.{checked-row, checked-report, ran-row, ran-report}
-use Rattle.sheets.specs.Sheets.{Passing, OfSource, Examined}
-use Rattle.grumpy.specs.Outcomes.{Counts, OfRun, Executed, Finishable, Answered, Finished}
-use Rattle.sheets.specs.declared.refusals.Refusal as refused
+use Rattle.sheets.specs.Sheets.{byte-of, OfSource, Examined}
+use Rattle.sheets.specs.declared.Seen.{Seen}
+use Rattle.sheets.proofs.Layers.{byte-stands}
+use Rattle.grumpy.specs.Reports.{checked-report, ran-report}
+use Rattle.grumpy.specs.Outcomes.{ending-meant, printed-in, Executed, ran-of, Runnable, Reported, Answered}
 use Rattle.grumpy.specs.declared.answers.Checked as checked
-use Rattle.grumpy.specs.declared.answers.Ran as ran
-use Rattle.sheets.specs.declared.Seen as seen
-
--- after a source was looked at, the required words are zero
-refused-leaves : {source : List ℕ} {w : Row} {i : ℕ} → Refused source w i → (n : ℕ) (words : List ℕ) → left w n words ≡ cleared n words
-unfolding left
-refused-leaves (too-long h) n words = refl
-refused-leaves (flawed h a) n words = refl
-refused-leaves (unread h a b) n words = refl
-refused-leaves (too-large h a b c) n words = refl
-refused-leaves (faulty h a b c d) n words = refl
-
-passed-leaves : (n : ℕ) (words : List ℕ) → left passed n words ≡ cleared n words
-unfolding left
-passed-leaves n words = refl
-
-stopped-leaves : (y : M.Stop) (n : ℕ) (words : List ℕ) → left (stopped y) n words ≡ cleared n words
-unfolding left
-stopped-leaves y n words = refl
-
-large-leaves : (n : ℕ) (words : List ℕ) → left large-allowance n words ≡ cleared n words
-unfolding left
-large-leaves n words = refl
-
-short-leaves : (n : ℕ) (words : List ℕ) → left short-memory n words ≡ words
-unfolding left
-short-leaves n words = refl
+use Rattle.grumpy.specs.declared.answers.Ran.{Ran}
+use Rattle.grumpy.specs.declared.outcomes.Ending.{Ending}
+use Rattle.grumpy.proofs.Leaving.{checked-left, ran-left}
 
 -- ---- check
 
-pub check-is-short : (source w : List ℕ) → length w < TABLE → Check source w short-memory (check-report short-memory 0 0) w
-check-is-short source w h = record { answer = check-short h; table-left = sym (short-leaves TABLE w) }
+pub check-is-short : (source w : List ℕ) → length w < TABLE → Check (from-text source) w (check-report (refused short-memory) 0 0) w
+unfolding left
+check-is-short source w h = record { answer = check-short h; table-left = refl }
 
-module _ (source w w₁ w₂ : List ℕ) (s : seen.Seen) (x : Examined source w w₁ s) (h : TABLE ≤ length w) (e : w₂ ≡ zeros w₁ 0 TABLE) where
+module _ (source w w₁ w₂ : List ℕ) (s : Seen) (x : Examined source w w₁ s) (h : TABLE ≤ length w) (e : w₂ ≡ zeros w₁ 0 TABLE) where
   cleared-table : w₂ ≡ cleared TABLE w
   cleared-table = e ∙ x .rest ∙ zeros-cleared TABLE w h
 
-  pub check-is-passed : (c d r k : ℕ) → s ≡ seen.the-variants.Sheet c d r k
-      → Check source w (checked-row (checked.the-variants.Passed k)) (checked-report (checked.the-variants.Passed k)) w₂
-  check-is-passed c d r k q =
+  check-is : (r : CheckReport ℕ) → Checked (from-text source) (length w) r → Check (from-text source) w r w₂
+  check-is r a = record { answer = a; table-left = cleared-table ∙ sym (checked-left (text-lawful source) h a TABLE w) }
+
+  pub check-is-passed : (c d r t : ℕ) → s ≡ Seen.Passes c d r t → Check (from-text source) w (checked-report (checked.the-variants.Passed t)) w₂
+  check-is-passed c d r t q =
       let p = subst (OfSource source w₁) q (x .told) in
-      record {
-        answer = subst (λ (n : ℕ). Checked source (length w) passed (check-report passed 0 n)) (sym (p .numbered)) (check-passed h (p .passes));
-        table-left = cleared-table ∙ sym (passed-leaves TABLE w);
-      }
+      check-is _ (subst (λ (n : ℕ). Checked (from-text source) (length w) (check-report passed 0 n)) (sym (p .numbered)) (check-passed h (p .passes)))
 
-  pub check-is-refused : (y : refused.Refusal) (i : ℕ) → s ≡ seen.the-variants.Refused y i
-      → Check source w (checked-row (checked.the-variants.Refused y i)) (checked-report (checked.the-variants.Refused y i)) w₂
-  check-is-refused y i q =
-      let p = subst (OfSource source w₁) q (x .told) in
-      record { answer = check-refused h p; table-left = cleared-table ∙ sym (refused-leaves p TABLE w) }
+  pub check-is-refused : (y : Refusal) (i : ℕ) → s ≡ Seen.Refused y i → Check (from-text source) w (checked-report (checked.the-variants.Refused y i)) w₂
+  check-is-refused y i q = check-is _ (check-refused h (subst (OfSource source w₁) q (x .told)))
 
--- ---- finishing
+-- ---- what comes of a sheet that was examined
 
-pub finishable-sheet : (w work : List ℕ) (allowance c d q k : ℕ) (s : seen.Seen) → Finishable w work allowance s → s ≡ seen.the-variants.Sheet c d q k
+pub runnable-sheet : (w work : List ℕ) (allowance c d q t : ℕ) (s : Seen) → Runnable w work allowance s → s ≡ Seen.Passes c d q t
     → Runner.Sheet w work c d q allowance
-finishable-sheet w work allowance c d q k s x z = subst (Finishable w work allowance) z x
+runnable-sheet w work allowance c d q t s x z = subst (Runnable w work allowance) z x
 
-pub finishable-refused : (w work : List ℕ) (allowance : ℕ) (y : refused.Refusal) (i : ℕ) (s : seen.Seen) → Finishable w work allowance s
-    → s ≡ seen.the-variants.Refused y i → WORK ≤ length work
-finishable-refused w work allowance y i s x z = subst (Finishable w work allowance) z x
+pub runnable-refused : (w work : List ℕ) (allowance : ℕ) (y : Refusal) (i : ℕ) (s : Seen) → Runnable w work allowance s → s ≡ Seen.Refused y i
+    → WORK ≤ length work
+runnable-refused w work allowance y i s x z = subst (Runnable w work allowance) z x
 
--- an examined sheet can be finished
-pub examined-finishable : (source w w₁ work : List ℕ) (allowance : ℕ) (s : seen.Seen) → Examined source w w₁ s → WORK ≤ length work → allowance ≤ ALLOWANCE
-    → Finishable w₁ work allowance s
-examined-finishable source w w₁ work allowance (seen.the-variants.Sheet c d q k) x h f =
+-- its place can be looked up
+pub runnable-long : (w work : List ℕ) (allowance c d q t : ℕ) (s : Seen) → Runnable w work allowance s → s ≡ Seen.Passes c d q t
+    → (TABLE ≤ length w) × (c ≤ TOKENS)
+runnable-long w work allowance c d q t s x z =
+    let y = runnable-sheet w work allowance c d q t s x z in
+    (y .holds .long, y .holds .stand .few)
+
+-- an examined sheet can be run
+pub examined-runnable : (source w w₁ work : List ℕ) (allowance : ℕ) (s : Seen) → Examined source w w₁ s → WORK ≤ length work → allowance ≤ ALLOWANCE
+    → Runnable w₁ work allowance s
+examined-runnable source w w₁ work allowance (Seen.Passes c d q t) x h f =
     let p = x .told in
     record {
       ts = p .tokens;
       program = p .program;
       type = p .type;
       holds = p .holds;
-      typed = p .passes .typed;
-      written = λ i _. split-small (p .passes .splits) i;
+      typed = p .passes .proper .typed;
       long = h;
       allowed = f;
     }
-examined-finishable source w w₁ work allowance (seen.the-variants.Refused y i) x h f = h
+examined-runnable source w w₁ work allowance (Seen.Refused y i) x h f = h
 
--- the report of a run that ended, from its counts
-ended-report : (w : Row) (i k : ℕ) (t : Ty) (v z : ℤ) (kind u n allowance : ℕ) (out out′ : List ℕ) (σ : M.State) → Counts kind allowance out out′ k u n σ
-    → kind ≡ type-number t → v ≡ z
-    → _≡_ {A = RunReport} (after-run w i t z allowance σ) record { number = number w; place = i; type = k; value = v; units = u; printed = n }
-ended-report w i k t v z kind u n allowance out out′ σ c a b = rw (c .type, c .units, c .printed, a, b) refl
+pub ran-stopped : (w : List ℕ) (count end t j : ℕ) (y : Stop) (i u n : ℕ) (e : Ending) → e ≡ Ending.Stopped y i u n → j ≡ byte-of w count end i
+    → Ran.Stopped y j t u n ≡ ran-of w count end t e
+ran-stopped w count end t j y i u n e q k = rw (q, k) refl
 
-module _ (source : List ℕ) (l : Lent) (w out out′ : List ℕ) (c d q kind allowance : ℕ) (p : Passing source w c d q kind) (e : Enough l)
-    (o : l .output ≡ length out) (m : l .allowance ≡ allowance) (f : allowance ≤ ALLOWANCE) where
-  of-run : (r : ran.Ran) → OfRun (p .tokens) (p .program) kind allowance out out′ r → Answered source l out out′ r
-  of-run (ran.the-variants.Value k v u n) x = record {
-    printed = reverse (x .state .printed);
-    ran = subst (λ (r : RunReport). Ran source l passed r (reverse (x .state .printed)))
-        (ended-report passed 0 k (p .type) v (value-number (x .held)) kind u n (l .allowance) out out′ (x .state) (rw m (x .counts)) (p .numbered) (x .value))
-        (run-value {v = x .held} {s = x .state} e (rw m f) (p .passes) (rw (m, o) (x .runs)));
-    output = x .counts .output;
-    leaves = passed-leaves;
-  }
-  of-run (ran.the-variants.Stopped y i k u n) x = record {
-    printed = reverse (x .state .printed);
-    ran = subst (λ (r : RunReport). Ran source l (stopped (why y)) r (reverse (x .state .printed)))
-        (ap (λ (j : ℕ). after-run (stopped (why y)) j (p .type) (pos 0) (l .allowance) (x .state)) (sym (x .place))
-        ∙ ended-report (stopped (why y)) i k (p .type) (pos 0) (pos 0) kind u n (l .allowance) out out′ (x .state) (rw m (x .counts)) (p .numbered) refl)
-        (run-stop {w = why y} {i = x .at} {s = x .state} e (rw m f) (p .passes) (rw (m, o) (x .runs)));
-    output = x .counts .output;
-    leaves = stopped-leaves (why y);
-  }
-  of-run (ran.the-variants.Refused y i) x = absurd x
+-- the answer for a program that ended is what is told of its end
+ended-ran : (source w : List ℕ) (l : Lent) {ts : List Token} {p : Program} {t : Ty} (count n : ℕ) (bs : List ℕ) (e : Ending)
+    → Enough l → l .allowance ≤ ALLOWANCE → Passes (from-text source) ts p t
+    → ending (l .allowance) (run p (l .allowance) (l .output)) ≡ some (ending-meant e bs) → Stand w count ts → n ≡ type-number t → printed-in e ≡ length bs
+    → Answers.Ran (from-text source) l (ran-report (ran-of w count (length source) n e)) bs
+ended-ran source w l count n bs (Ending.Value v u k) g f p x s a b = rw (a, b) (run-ended g f p x)
+ended-ran source w l count n bs (Ending.Stopped y i u k) g f p x s a b = rw (a, b, byte-stands source s i) (run-ended g f p x)
 
-pub finished-sheet : (w work out work′ out′ : List ℕ) (c d q kind allowance : ℕ) (s : seen.Seen) (r : ran.Ran)
-    → Executed w work out work′ out′ c d q kind allowance r → s ≡ seen.the-variants.Sheet c d q kind → Finished w work out work′ out′ allowance s r
-finished-sheet w work out work′ out′ c d q kind allowance s r x z = record {
-  told = λ source l y e o m f.
+pub answered-sheet : (source w work out work′ out′ : List ℕ) (c d q t allowance : ℕ) (s : Seen) (e : Ending) (r : Ran)
+    → Executed w work out work′ out′ c d q allowance e → s ≡ Seen.Passes c d q t → r ≡ ran-of w c (length source) t e
+    → Answered source w work out work′ out′ allowance s r
+answered-sheet source w work out work′ out′ c d q t allowance s e r x z k = record {
+  told = λ l y g o m f.
       let p = subst (OfSource source w) z y in
-      of-run source l w out out′ c d q kind allowance p e o m f r (x .told (p .tokens) (p .program) (p .type) (p .holds) (p .passes .typed));
+      let b = x .told (p .tokens) (p .program) (p .type) (p .holds) (p .passes .proper .typed) in
+      record {
+        printed = b .printed;
+        ran = rw k (ended-ran source w l c t (b .printed) e g (rw m f) (p .passes) (rw (m, o) (b .ends)) (p .holds .stand) (p .numbered) (b .counted));
+        output = b .output;
+      };
   cleared = x .cleared;
 }
 
-pub finished-refused : (w work out work′ out′ : List ℕ) (allowance : ℕ) (s : seen.Seen) (y : refused.Refusal) (i : ℕ) (r : ran.Ran)
-    → r ≡ ran.the-variants.Refused y i → work′ ≡ zeros work 0 WORK → out′ ≡ out → s ≡ seen.the-variants.Refused y i
-    → Finished w work out work′ out′ allowance s r
-finished-refused w work out work′ out′ allowance s y i r q x k z = record {
-  told = λ source l a e o m f.
+pub answered-refused : (source w work out work′ out′ : List ℕ) (allowance : ℕ) (s : Seen) (y : Refusal) (i : ℕ) (r : Ran)
+    → r ≡ Ran.Refused y i → work′ ≡ zeros work 0 WORK → out′ ≡ out → s ≡ Seen.Refused y i → Answered source w work out work′ out′ allowance s r
+answered-refused source w work out work′ out′ allowance s y i r q x k z = record {
+  told = λ l a e o m f.
       let p = subst (OfSource source w) z a in
-      subst (Answered source l out out′) (sym q) record { printed = []; ran = run-refused e (rw m f) p; output = k; leaves = refused-leaves p };
+      subst (Reported source l out out′) (sym q) record { printed = []; ran = run-refused e (rw m f) p; output = k };
   cleared = x;
 }
 
 -- ---- run
 
 pub run-is-short : (source w work out : List ℕ) (allowance : ℕ) → (length w < TABLE) ⊎ (length work < WORK)
-    → Run source w work out allowance short-memory (refusal short-memory 0) w work out
-run-is-short source w work out allowance h = record {
-  printed = [];
-  answer = run-short h;
-  table-left = sym (short-leaves TABLE w);
-  work-left = sym (short-leaves WORK work);
-  output-left = refl;
-}
+    → Run (from-text source) w work out allowance (refusal short-memory 0) w work out
+unfolding left
+run-is-short source w work out allowance h =
+    record { printed = []; answer = run-short h; table-left = refl; work-left = refl; output-left = refl }
 
 pub run-is-large : (source w work out w′ work′ : List ℕ) (allowance : ℕ) → TABLE ≤ length w → WORK ≤ length work → ALLOWANCE < allowance
-    → w′ ≡ zeros w 0 TABLE → work′ ≡ zeros work 0 WORK → Run source w work out allowance large-allowance (refusal large-allowance 0) w′ work′ out
+    → w′ ≡ zeros w 0 TABLE → work′ ≡ zeros work 0 WORK → Run (from-text source) w work out allowance (refusal large-allowance 0) w′ work′ out
+unfolding left
 run-is-large source w work out w′ work′ allowance a b h e f = record {
   printed = [];
   answer = run-large record { table = a; work = b } h;
-  table-left = e ∙ zeros-cleared TABLE w a ∙ sym (large-leaves TABLE w);
-  work-left = f ∙ zeros-cleared WORK work b ∙ sym (large-leaves WORK work);
+  table-left = e ∙ zeros-cleared TABLE w a;
+  work-left = f ∙ zeros-cleared WORK work b;
   output-left = refl;
 }
 
-pub run-is-finished : (source w work out w₁ w₂ work′ out′ : List ℕ) (allowance : ℕ) (s : seen.Seen) (r : ran.Ran)
-    → TABLE ≤ length w → WORK ≤ length work → allowance ≤ ALLOWANCE → Examined source w w₁ s → Finished w₁ work out work′ out′ allowance s r
-    → w₂ ≡ zeros w₁ 0 TABLE → Run source w work out allowance (ran-row r) (ran-report r) w₂ work′ out′
-run-is-finished source w work out w₁ w₂ work′ out′ allowance s r a b h x y e =
+pub run-is-answered : (source w work out w₁ w₂ work′ out′ : List ℕ) (allowance : ℕ) (s : Seen) (r : Ran)
+    → TABLE ≤ length w → WORK ≤ length work → allowance ≤ ALLOWANCE → Examined source w w₁ s → Answered source w₁ work out work′ out′ allowance s r
+    → w₂ ≡ zeros w₁ 0 TABLE → Run (from-text source) w work out allowance (ran-report r) w₂ work′ out′
+run-is-answered source w work out w₁ w₂ work′ out′ allowance s r a b h x y e =
     let l : Lent = record { table = length w; work = length work; output = length out; allowance = allowance } in
-    let z = y .told source l (x .told) record { table = a; work = b } refl refl h in
+    let n : Enough l = record { table = a; work = b } in
+    let z = y .told l (x .told) n refl refl h in
+    let k = ran-left (text-lawful source) n (z .ran) in
     record {
       printed = z .printed;
       answer = z .ran;
-      table-left = cleared-table source w w₁ w₂ s x a e ∙ sym (z .leaves TABLE w);
-      work-left = y .cleared ∙ zeros-cleared WORK work b ∙ sym (z .leaves WORK work);
+      table-left = cleared-table source w w₁ w₂ s x a e ∙ sym (k TABLE w);
+      work-left = y .cleared ∙ zeros-cleared WORK work b ∙ sym (k WORK work);
       output-left = z .output;
     }

@@ -1,73 +1,71 @@
 -- What comes of a sheet that was examined, run or refused: vocabulary for the contracts inside this crate.
-use mathlib.Core.List.{List, _++_, reverse}
+use mathlib.Core.List.{List, _++_}
+use mathlib.Core.Option.{some}
 use mathlib.Core.Path.{_≡_}
-use Prim.Native.Nat.{ℕ, _-_, _≤_}
-use lib.IntN.{ℤ}
+use Prim.Native.Nat.{ℕ, _≤_}
+use lib.IntN.{pos}
 use lib.ListN.{length, drop}
 use Rattle.language.specs.Sizes.{WORK, ALLOWANCE}
-use Rattle.language.specs.Tokens.{Token, place-at}
+use Rattle.language.specs.Tokens.{Token}
 use Rattle.language.specs.Trees.{Ty, Program}
 use Rattle.language.specs.Types.{HasType}
-use Rattle.language.specs.State.{Value, State, Stop, value, stop}
-use Rattle.language.specs.Meaning.{run, value-number}
-use Rattle.language.specs.Answers.{Lent, Enough, Ran, left, cleared}
+use Rattle.language.specs.State.{Outcome}
+use Rattle.language.specs.Meaning.{run}
+use Rattle.language.specs.Numbers.{passed, stopped}
+use Rattle.language.specs.Answers as Answers
+use Rattle.language.specs.Answers.{from-text, nowhere, at, ending, Lent, Enough}
+use Rattle.numbers.specs.Meanings.{stop-meant}
 use Rattle.layout.specs.Table.{zeros}
 use Rattle.layout.specs.Decode.{Holds}
-use Rattle.machine.specs.Outcomes.{why}
 use Rattle.runner.specs.Contract as Runner
-use Rattle.sheets.specs.Sheets.{OfSource}
+use Rattle.sheets.specs.Sheets.{byte-of, OfSource}
 use Rattle.sheets.specs.declared.Seen.{Seen}
-use Rattle.sheets.specs.declared.Seen.the-variants as seen
-use Rattle.grumpy.specs.Reports.{ran-row, ran-report}
-use Rattle.grumpy.specs.declared.answers.Ran as ran
+use Rattle.grumpy.specs.Reports.{ran-report}
+use Rattle.grumpy.specs.declared.answers.Ran.{Ran}
+use Rattle.grumpy.specs.declared.outcomes.Ending.{Ending}
 
 -- ---- a program that is run
 
--- what an answer reports of the state that the run ended in: type, units, bytes printed, and the output
-pub record Counts (kind allowance : ℕ) (out out′ : List ℕ) (k u n : ℕ) (σ : State) : Type 0 where
-  pub type : k ≡ kind
-  pub units : u ≡ allowance - σ .units
-  pub printed : n ≡ length (σ .printed)
-  pub output : out′ ≡ reverse (σ .printed) ++ drop (length (reverse (σ .printed))) out
+-- the end of a program that the code's is, with the bytes printed
+abbrev pub ending-meant : Ending → List ℕ → Answers.Ending
+ending-meant (Ending.Value v u n) bs = record { told = passed; spot = nowhere; value = v; units = u; printed = bs }
+ending-meant (Ending.Stopped y i u n) bs = record { told = stopped (stop-meant y); spot = at i; value = pos 0; units = u; printed = bs }
 
-pub record EndsInValue (p : Program) (kind allowance : ℕ) (out out′ : List ℕ) (k : ℕ) (v : ℤ) (u n : ℕ) : Type 0 where
-  pub held : Value
-  pub state : State
-  pub runs : run p allowance (length out) ≡ value held state
-  pub value : v ≡ value-number held
-  pub counts : Counts kind allowance out out′ k u n state
+abbrev pub printed-in : Ending → ℕ
+printed-in (Ending.Value v u n) = n
+printed-in (Ending.Stopped y i u n) = n
 
-pub record EndsInStop (ts : List Token) (p : Program) (kind allowance : ℕ) (out out′ : List ℕ) (y : Stop) (i k u n : ℕ) : Type 0 where
-  pub at : ℕ
-  pub state : State
-  pub runs : run p allowance (length out) ≡ stop y at state
-  pub place : i ≡ place-at ts at
-  pub counts : Counts kind allowance out out′ k u n state
+-- the outcome m is told so, and so is the output
+pub record Told (m : Outcome) (allowance : ℕ) (out out′ : List ℕ) (r : Ending) : Type 0 where
+  pub printed : List ℕ
+  pub ends : ending allowance m ≡ some (ending-meant r printed)
+  pub counted : printed-in r ≡ length printed
+  pub output : out′ ≡ printed ++ drop (length printed) out
 
--- the answer is the outcome of the program p, a reading of ts
-abbrev pub OfRun : List Token → Program → ℕ → ℕ → List ℕ → List ℕ → ran.Ran → Type 0
-OfRun ts p kind allowance out out′ (ran.the-variants.Value k v u n) = EndsInValue p kind allowance out out′ k v u n
-OfRun ts p kind allowance out out′ (ran.the-variants.Stopped y i k u n) = EndsInStop ts p kind allowance out out′ (why y) i k u n
-OfRun ts p kind allowance out out′ (ran.the-variants.Refused y i) = ⊥
-
-pub record Executed (table work out work′ out′ : List ℕ) (count defs root kind allowance : ℕ) (r : ran.Ran) : Type 0 where
-  pub told : (ts : List Token) (p : Program) (t : Ty) → Holds ts table count defs root p → HasType p t → OfRun ts p kind allowance out out′ r
+pub record Executed (table work out work′ out′ : List ℕ) (count defs root allowance : ℕ) (r : Ending) : Type 0 where
+  pub told : (ts : List Token) (p : Program) (t : Ty) → Holds ts table count defs root p → HasType p t
+      → Told (run p allowance (length out)) allowance out out′ r
   pub cleared : work′ ≡ zeros work 0 WORK
 
--- ---- a sheet that was examined, finished: what `run` answers, with memory and allowance in order
+-- the answer for a program whose type has the number t, from the words of a table and the byte that the source ends at
+abbrev pub ran-of : List ℕ → ℕ → ℕ → ℕ → Ending → Ran
+ran-of w count end t (Ending.Value v u n) = Ran.Value t v u n
+ran-of w count end t (Ending.Stopped y i u n) = Ran.Stopped y (byte-of w count end i) t u n
 
-abbrev pub Finishable : List ℕ → List ℕ → ℕ → Seen → Type 0
-Finishable table work allowance (seen.Sheet c d r k) = Runner.Sheet table work c d r allowance
-Finishable table work allowance (seen.Refused y i) = WORK ≤ length work
+-- ---- a sheet that was examined
 
--- the answer for a source that came to s
-pub record Answered (source : List ℕ) (l : Lent) (out out′ : List ℕ) (r : ran.Ran) : Type 0 where
+abbrev pub Runnable : List ℕ → List ℕ → ℕ → Seen → Type 0
+Runnable table work allowance (Seen.Passes c d r t) = Runner.Sheet table work c d r allowance
+Runnable table work allowance (Seen.Refused y i) = WORK ≤ length work
+
+-- the report and the output are those of the written run of a source
+pub record Reported (source : List ℕ) (l : Lent) (out out′ : List ℕ) (r : Ran) : Type 0 where
   pub printed : List ℕ
-  pub ran : Ran source l (ran-row r) (ran-report r) printed
+  pub ran : Answers.Ran (from-text source) l (ran-report r) printed
   pub output : out′ ≡ printed ++ drop (length printed) out
-  pub leaves : (n : ℕ) (words : List ℕ) → left (ran-row r) n words ≡ cleared n words
 
-pub record Finished (table work out work′ out′ : List ℕ) (allowance : ℕ) (s : Seen) (r : ran.Ran) : Type 0 where
-  pub told : (source : List ℕ) (l : Lent) → OfSource source table s → Enough l → l .output ≡ length out → l .allowance ≡ allowance
-      → allowance ≤ ALLOWANCE → Answered source l out out′ r
+-- with memory and allowance in order
+pub record Answered (source table work out work′ out′ : List ℕ) (allowance : ℕ) (s : Seen) (r : Ran) : Type 0 where
+  pub told : (l : Lent) → OfSource source table s → Enough l → l .output ≡ length out → l .allowance ≡ allowance → allowance ≤ ALLOWANCE
+      → Reported source l out out′ r
   pub cleared : work′ ≡ zeros work 0 WORK

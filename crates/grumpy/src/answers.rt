@@ -1,6 +1,6 @@
 // What the services answer. `specs/Reports.antt` gives the paper's numbers for each case.
-use machine::Stop;
-use sheets::refusals::Refusal;
+use numbers::Refusal;
+use numbers::Stop;
 
 // A type's number, or a refusal and the byte it is told at.
 pub enum Checked {
@@ -8,11 +8,11 @@ pub enum Checked {
     Refused(Refusal, usize),
 }
 
-// A value as it is reported, or a stop and the byte it is told at, each with the program's type, the
-// units used and the bytes printed; or a refusal.
+// A value as it is reported, or a stop and the byte it is told at, each with the number of the program's
+// type, the units used and the bytes printed; or a refusal.
 pub enum Ran {
     Value {
-        kind: u32,
+        type_number: u32,
         value: i64,
         units: u32,
         printed: usize,
@@ -20,7 +20,7 @@ pub enum Ran {
     Stopped {
         why: Stop,
         place: usize,
-        kind: u32,
+        type_number: u32,
         units: u32,
         printed: usize,
     },

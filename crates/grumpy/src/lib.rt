@@ -1,11 +1,10 @@
 // The two services of the box. Check reads a sheet and answers its type or a refusal; run checks it
-// again and runs it. Both take any bytes, any lent memory and any allowance, and answer a row of the
-// table of numbers; what they leave in lent memory follows from the row.
-ghost use Rattle.language.specs.Answers.{Check, Run};
-ghost use Rattle.grumpy.specs.Reports.{checked-row, checked-report, ran-row, ran-report};
+// again and runs it. Both take any bytes, any lent memory and any allowance, and tell what the table of
+// numbers has; what they leave in lent memory follows from that.
+ghost use Rattle.language.specs.Answers.{from-text, Check, Run};
+ghost use Rattle.grumpy.specs.Reports.{checked-report, ran-report};
 
 pub mod answers;
-pub mod numbers;
 mod outcomes;
 
 use crate::answers::Checked;
@@ -14,11 +13,11 @@ use language::ALLOWANCE;
 use language::TABLE;
 use language::WORK;
 use layout::memory;
+use numbers::Refusal;
 use sheets::Seen;
-use sheets::refusals::Refusal;
 
 pub fn check(source: &[u8], table: &mut [u32]) -> Checked
-    ensures { λ r. ⌜ Check (now (source .entry)) (now (table .entry)) (checked-row r) (checked-report r) (now (table .exit)) ⌝ }
+    ensures { λ r. ⌜ Check (from-text (now (source .entry))) (now (table .entry)) (checked-report r) (now (table .exit)) ⌝ }
 {
     if table.len() < TABLE {
         return Checked::Refused(Refusal::ShortMemory, 0);
@@ -26,12 +25,12 @@ pub fn check(source: &[u8], table: &mut [u32]) -> Checked
     let seen = sheets::examine(source, table);
     memory::clear(table, 0, TABLE);
     match seen {
-        Seen::Sheet {
+        Seen::Passes {
             count: _,
             defs: _,
             root: _,
-            kind,
-        } => Checked::Passed(kind),
+            type_number,
+        } => Checked::Passed(type_number),
         Seen::Refused(why, place) => Checked::Refused(why, place),
     }
 }
@@ -44,7 +43,7 @@ pub fn run(
     out: &mut [u8],
     allowance: u64,
 ) -> Ran
-    ensures { λ r. ⌜ Run (now (source .entry)) (now (table .entry)) (now (work .entry)) (now (out .entry)) allowance (ran-row r) (ran-report r) (now (table .exit)) (now (work .exit)) (now (out .exit)) ⌝ }
+    ensures { λ r. ⌜ Run (from-text (now (source .entry))) (now (table .entry)) (now (work .entry)) (now (out .entry)) allowance (ran-report r) (now (table .exit)) (now (work .exit)) (now (out .exit)) ⌝ }
 {
     if table.len() < TABLE {
         return Ran::Refused(Refusal::ShortMemory, 0);
@@ -58,7 +57,7 @@ pub fn run(
         return Ran::Refused(Refusal::LargeAllowance, 0);
     }
     let seen = sheets::examine(source, table);
-    let answer = outcomes::finish(table, work, out, seen, allowance as u32);
+    let answer = outcomes::run_or_refuse(source, table, work, out, seen, allowance as u32);
     memory::clear(table, 0, TABLE);
     answer
 }

@@ -2,19 +2,36 @@
 ghost use mathlib.Core.Path.{_≡_};
 ghost use Prim.Native.Nat.{_≤_};
 ghost use lib.ListN.{length};
-ghost use Rattle.language.specs.Sizes.{WORK};
+ghost use Rattle.language.specs.Sizes.{TOKENS, TABLE, WORK};
 ghost use Rattle.language.specs.Meaning.{value-number};
 ghost use Rattle.layout.specs.Table.{zeros};
 ghost use Rattle.layout.specs.Values.{meant};
 ghost use Rattle.runner.specs.Contract.{Sheet};
-ghost use Rattle.grumpy.specs.Outcomes.{Executed, Finishable, Finished};
+ghost use Rattle.grumpy.specs.Outcomes.{Executed, ran-of, Runnable, Answered};
 use crate::answers::Ran;
 use language::WORK;
 use layout::memory;
 use layout::values::Value;
+use numbers::Refusal;
+use numbers::Stop;
 use runner::Done;
 use sheets::Seen;
-use sheets::refusals::Refusal;
+
+// How a program ends: a value as it is reported, or a stop and the token it is told at; with the units
+// used and the bytes printed.
+enum Ending {
+    Value {
+        value: i64,
+        units: u32,
+        printed: usize,
+    },
+    Stopped {
+        why: Stop,
+        at: u32,
+        units: u32,
+        printed: usize,
+    },
+}
 
 // The number that is reported for a value.
 fn reported(v: Value) -> i64
@@ -36,11 +53,10 @@ fn execute(
     count: usize,
     defs: usize,
     root: usize,
-    kind: u32,
     allowance: u32,
-) -> Ran
+) -> Ending
     requires { ⌜ Sheet (now table) (now work) count defs root allowance ⌝ }
-    ensures { λ r. ⌜ Executed (now (table .entry)) (now (work .entry)) (now (out .entry)) (now (work .exit)) (now (out .exit)) count defs root kind allowance r ⌝ }
+    ensures { λ r. ⌜ Executed (now (table .entry)) (now (work .entry)) (now (out .entry)) (now (work .exit)) (now (out .exit)) count defs root allowance r ⌝ }
 {
     match runner::run(table, work, out, count, defs, root, allowance) {
         Done::Value(v, spent) => {
@@ -48,8 +64,7 @@ fn execute(
             let used = allowance - left;
             let printed = spent.printed;
             let value = reported(v);
-            Ran::Value {
-                kind,
+            Ending::Value {
                 value,
                 units: used,
                 printed,
@@ -59,13 +74,45 @@ fn execute(
             let rest = spent.left;
             let units = allowance - rest;
             let bytes = spent.printed;
-            let byte = sheets::place(table, count, at);
-            Ran::Stopped {
+            Ending::Stopped {
                 why,
-                place: byte,
-                kind,
+                at,
                 units,
                 printed: bytes,
+            }
+        }
+    }
+}
+
+// The answer for a program of this type that ended so, in a source that ends at byte `end`.
+fn answer(table: &[u32], count: usize, end: usize, type_number: u32, ending: Ending) -> Ran
+    requires { ⌜ (TABLE ≤ length (now table)) × (count ≤ TOKENS) ⌝ }
+    ensures { λ r. ⌜ r ≡ ran-of (now (table .entry)) count end «type_number» ending ⌝ }
+{
+    match ending {
+        Ending::Value {
+            value,
+            units,
+            printed,
+        } => Ran::Value {
+            type_number,
+            value,
+            units,
+            printed,
+        },
+        Ending::Stopped {
+            why,
+            at,
+            units,
+            printed,
+        } => {
+            let place = sheets::place(table, count, end, at);
+            Ran::Stopped {
+                why,
+                place,
+                type_number,
+                units,
+                printed,
             }
         }
     }
@@ -83,17 +130,27 @@ fn refuse(work: &mut [u32], out: &mut [u8], why: Refusal, place: usize) -> Ran
 }
 
 // What comes of a sheet that was examined: it runs, or it is refused.
-pub fn finish(table: &[u32], work: &mut [u32], out: &mut [u8], seen: Seen, allowance: u32) -> Ran
-    requires { ⌜ Finishable (now table) (now work) allowance seen ⌝ }
-    ensures { λ r. ⌜ Finished (now (table .entry)) (now (work .entry)) (now (out .entry)) (now (work .exit)) (now (out .exit)) allowance seen r ⌝ }
+pub fn run_or_refuse(
+    source: &[u8],
+    table: &[u32],
+    work: &mut [u32],
+    out: &mut [u8],
+    seen: Seen,
+    allowance: u32,
+) -> Ran
+    requires { ⌜ Runnable (now table) (now work) allowance seen ⌝ }
+    ensures { λ r. ⌜ Answered (now (source .entry)) (now (table .entry)) (now (work .entry)) (now (out .entry)) (now (work .exit)) (now (out .exit)) allowance seen r ⌝ }
 {
     match seen {
-        Seen::Sheet {
+        Seen::Passes {
             count,
             defs,
             root,
-            kind,
-        } => execute(table, work, out, count, defs, root, kind, allowance),
+            type_number,
+        } => {
+            let ending = execute(table, work, out, count, defs, root, allowance);
+            answer(table, count, source.len(), type_number, ending)
+        }
         Seen::Refused(why, place) => refuse(work, out, why, place),
     }
 }

@@ -7,16 +7,16 @@ use lib.IntN.{ℤ, pos}
 use lib.ListN.{length, set, length-set}
 use mir.Syntax.{w64}
 use mir.Val.{ofZ}
-use Rattle.language.specs.Numbers.{number, stop-number}
-use Rattle.language.specs.Answers.{Check, Run}
+use Rattle.language.specs.Numbers.{number, refusal-number, stop-number}
+use Rattle.language.specs.Answers.{from-text, CheckReport, Check, RunReport, Run}
+use Rattle.language.proofs.Answers.Origins.{text-lawful}
 use Rattle.language.proofs.Answers.OneAnswer.{one-check, one-run}
-use Rattle.machine.specs.Outcomes.{why}
-use Rattle.machine.specs.declared.Stop.{Stop}
-use Rattle.sheets.specs.Refusals.{refusal-row}
-use Rattle.sheets.specs.declared.refusals.Refusal.{Refusal}
-use Rattle.grumpy.specs.Reports.{checked-row, checked-report, ran-row, ran-report}
-use Rattle.grumpy.specs.declared.answers.Checked as checked
-use Rattle.grumpy.specs.declared.answers.Ran as ran
+use Rattle.numbers.specs.Meanings.{refusal-meant, stop-meant}
+use Rattle.numbers.specs.declared.Refusal.{Refusal}
+use Rattle.numbers.specs.declared.Stop.{Stop}
+use Rattle.grumpy.specs.Reports.{checked-report, ran-report}
+use Rattle.grumpy.specs.declared.answers.Checked.{Checked}
+use Rattle.grumpy.specs.declared.answers.Ran.{Ran}
 use Rattle.grumpy_c.specs.Reports.{three, six, check-words, run-words, ToldChecked, ToldRan, CheckedC, check-no-report, check-reported, RanC, run-no-report, run-reported}
 
 -- ---- lengths
@@ -29,37 +29,37 @@ three-long w v n i t x h e =
 
 -- ---- the cases
 
-pub told-passed : (a : checked.Checked) (w w′ : List ℕ) (k : ℕ) → a ≡ checked.the-variants.Passed k → w′ ≡ three w 0 0 k → ToldChecked a w w′ 0
-told-passed a w w′ k e h = subst (λ (a : checked.Checked). ToldChecked a w w′ 0) (sym e) (refl, h)
+pub told-passed : (a : Checked) (w w′ : List ℕ) (k : ℕ) → a ≡ Checked.Passed k → w′ ≡ three w 0 0 k → ToldChecked a w w′ 0
+told-passed a w w′ k e h = subst (λ (a : Checked). ToldChecked a w w′ 0) (sym e) (refl, h)
 
-pub told-refused : (a : checked.Checked) (w w′ : List ℕ) (y : Refusal) (i n : ℕ) → a ≡ checked.the-variants.Refused y i → n ≡ number (refusal-row y)
+pub told-refused : (a : Checked) (w w′ : List ℕ) (y : Refusal) (i n : ℕ) → a ≡ Checked.Refused y i → n ≡ refusal-number (refusal-meant y)
     → w′ ≡ three w n i 0 → ToldChecked a w w′ n
 told-refused a w w′ y i n e m h =
-    subst (λ (a : checked.Checked). ToldChecked a w w′ n) (sym e) (m, h ∙ ap (λ (n : ℕ). three w n i 0) m)
+    subst (λ (a : Checked). ToldChecked a w w′ n) (sym e) (m, h ∙ ap (λ (n : ℕ). three w n i 0) m)
 
-pub told-value : (a : ran.Ran) (w w′ : List ℕ) (k : ℕ) (v : ℤ) (u p b : ℕ) → a ≡ ran.the-variants.Value k v u p → b ≡ ofZ w64 v
+pub told-value : (a : Ran) (w w′ : List ℕ) (k : ℕ) (v : ℤ) (u p b : ℕ) → a ≡ Ran.Value k v u p → b ≡ ofZ w64 v
     → w′ ≡ six w 0 0 k b u p → ToldRan a w w′ 0
 told-value a w w′ k v u p b e m h =
-    subst (λ (a : ran.Ran). ToldRan a w w′ 0) (sym e) (refl, h ∙ ap (λ (b : ℕ). six w 0 0 k b u p) m)
+    subst (λ (a : Ran). ToldRan a w w′ 0) (sym e) (refl, h ∙ ap (λ (b : ℕ). six w 0 0 k b u p) m)
 
-pub told-stopped : (a : ran.Ran) (w w′ : List ℕ) (y : Stop) (i k u p n : ℕ) → a ≡ ran.the-variants.Stopped y i k u p → n ≡ stop-number (why y)
+pub told-stopped : (a : Ran) (w w′ : List ℕ) (y : Stop) (i k u p n : ℕ) → a ≡ Ran.Stopped y i k u p → n ≡ stop-number (stop-meant y)
     → w′ ≡ six w n i k 0 u p → ToldRan a w w′ n
 told-stopped a w w′ y i k u p n e m h =
-    subst (λ (a : ran.Ran). ToldRan a w w′ n) (sym e) (m, h ∙ ap (λ (n : ℕ). six w n i k 0 u p) m)
+    subst (λ (a : Ran). ToldRan a w w′ n) (sym e) (m, h ∙ ap (λ (n : ℕ). six w n i k 0 u p) m)
 
-pub told-not-run : (a : ran.Ran) (w w′ : List ℕ) (y : Refusal) (i n : ℕ) → a ≡ ran.the-variants.Refused y i → n ≡ number (refusal-row y)
+pub told-not-run : (a : Ran) (w w′ : List ℕ) (y : Refusal) (i n : ℕ) → a ≡ Ran.Refused y i → n ≡ refusal-number (refusal-meant y)
     → w′ ≡ six w n i 0 0 0 0 → ToldRan a w w′ n
 told-not-run a w w′ y i n e m h =
-    subst (λ (a : ran.Ran). ToldRan a w w′ n) (sym e) (m, h ∙ ap (λ (n : ℕ). six w n i 0 0 0 0) m)
+    subst (λ (a : Ran). ToldRan a w w′ n) (sym e) (m, h ∙ ap (λ (n : ℕ). six w n i 0 0 0 0) m)
 
 -- ---- the contracts
 
-pub checked-c : (source table report table′ report′ : List ℕ) (a : checked.Checked) (n : ℕ) → 3 ≤ length report
-    → Check source table (checked-row a) (checked-report a) table′ → ToldChecked a report report′ n → CheckedC source table report table′ report′ n
+pub checked-c : (source table report table′ report′ : List ℕ) (a : Checked) (n : ℕ) → 3 ≤ length report
+    → Check (from-text source) table (checked-report a) table′ → ToldChecked a report report′ n → CheckedC source table report table′ report′ n
 checked-c source table report table′ report′ a n h c t = check-reported h c (t .0) (t .1)
 
-pub ran-c : (source table work out report table′ work′ out′ report′ : List ℕ) (allowance : ℕ) (a : ran.Ran) (n : ℕ) → 6 ≤ length report
-    → Run source table work out allowance (ran-row a) (ran-report a) table′ work′ out′ → ToldRan a report report′ n
+pub ran-c : (source table work out report table′ work′ out′ report′ : List ℕ) (allowance : ℕ) (a : Ran) (n : ℕ) → 6 ≤ length report
+    → Run (from-text source) table work out allowance (ran-report a) table′ work′ out′ → ToldRan a report report′ n
     → RanC source table work out allowance report table′ work′ out′ report′ n
 ran-c source table work out report table′ work′ out′ report′ allowance a n h c t = run-reported h c (t .0) (t .1)
 
@@ -70,9 +70,9 @@ pub check-determined : {source table report t′ r′ t″ r″ : List ℕ} {m n
 check-determined (check-no-report h a b c) (check-no-report k d e f) = (a ∙ sym d, b ∙ sym e, c ∙ sym f)
 check-determined (check-no-report h a b c) (check-reported k d e f) = absurd (omega arith)
 check-determined (check-reported h a b c) (check-no-report k d e f) = absurd (omega arith)
-check-determined {report = report} (check-reported h a b c) (check-reported k d e f) =
-    let x = one-check a d in
-    (b ∙ ap (λ r. r .number) (x .1) ∙ sym e, x .2, c ∙ ap (check-words report) (x .1) ∙ sym f)
+check-determined {source} {report = report} (check-reported h a b c) (check-reported k d e f) =
+    let x = one-check (text-lawful source) a d in
+    (b ∙ ap (λ (r : CheckReport ℕ). number (r .told)) (x .0) ∙ sym e, x .1, c ∙ ap (check-words report) (x .0) ∙ sym f)
 
 pub run-determined : {source table work out : List ℕ} {allowance : ℕ} {report t′ w′ o′ r′ t″ w″ o″ r″ : List ℕ} {m n : ℕ}
     → RanC source table work out allowance report t′ w′ o′ r′ m → RanC source table work out allowance report t″ w″ o″ r″ n
@@ -80,6 +80,6 @@ pub run-determined : {source table work out : List ℕ} {allowance : ℕ} {repor
 run-determined (run-no-report h a b c d e) (run-no-report k f g i j l) = (a ∙ sym f, b ∙ sym g, c ∙ sym i, d ∙ sym j, e ∙ sym l)
 run-determined (run-no-report h a b c d e) (run-reported k f g i) = absurd (omega arith)
 run-determined (run-reported h a b c) (run-no-report k f g i j l) = absurd (omega arith)
-run-determined {report = report} (run-reported h a b c) (run-reported k d e f) =
-    let x = one-run a d in
-    (b ∙ ap (λ r. r .number) (x .1) ∙ sym e, x .2, x .3, x .4, c ∙ ap (run-words report) (x .1) ∙ sym f)
+run-determined {source} {report = report} (run-reported h a b c) (run-reported k d e f) =
+    let x = one-run (text-lawful source) a d in
+    (b ∙ ap (λ (r : RunReport ℕ). number (r .told)) (x .0) ∙ sym e, x .1, x .2, x .3, c ∙ ap (run-words report) (x .0) ∙ sym f)

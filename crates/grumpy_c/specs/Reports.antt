@@ -6,11 +6,11 @@ use lib.IntN.{ℤ}
 use lib.ListN.{length, set}
 use mir.Syntax.{w64}
 use mir.Val.{ofZ}
-use Rattle.language.specs.Numbers.{Row, short-memory, number}
-use Rattle.language.specs.Answers.{CheckReport, Check, RunReport, Run}
+use Rattle.language.specs.Numbers.{short-memory, refusal-number, number}
+use Rattle.language.specs.Answers.{from-text, CheckReport, Check, RunReport, Run}
 use Rattle.grumpy.specs.Reports.{checked-report, ran-report}
-use Rattle.grumpy.specs.declared.answers.Checked as checked
-use Rattle.grumpy.specs.declared.answers.Ran as ran
+use Rattle.grumpy.specs.declared.answers.Checked.{Checked}
+use Rattle.grumpy.specs.declared.answers.Ran.{Ran}
 
 -- the first three words; the first six
 unfoldable pub three : List ℕ → ℕ → ℕ → ℕ → List ℕ
@@ -19,29 +19,29 @@ three w n i t = set (set (set w 0 n) 1 i) 2 t
 unfoldable pub six : List ℕ → ℕ → ℕ → ℕ → ℕ → ℕ → ℕ → List ℕ
 six w n i t v u p = set (set (set (three w n i t) 3 v) 4 u) 5 p
 
--- a report in words; the value in two's complement
-abbrev pub check-words : List ℕ → CheckReport → List ℕ
-check-words w r = three w (r .number) (r .place) (r .type)
+-- a report in words, the number of what is told first; the value in two's complement
+abbrev pub check-words : List ℕ → CheckReport ℕ → List ℕ
+check-words w r = three w (number (r .told)) (r .place) (r .type)
 
-abbrev pub run-words : List ℕ → RunReport → List ℕ
-run-words w r = six w (r .number) (r .place) (r .type) (ofZ w64 (r .value)) (r .units) (r .printed)
+abbrev pub run-words : List ℕ → RunReport ℕ → List ℕ
+run-words w r = six w (number (r .told)) (r .place) (r .type) (ofZ w64 (r .value)) (r .units) (r .printed)
 
 -- an answer, told in words and by its number
-abbrev pub ToldChecked : checked.Checked → List ℕ → List ℕ → ℕ → Type 0
-ToldChecked a w w′ n = (n ≡ checked-report a .number) × (w′ ≡ check-words w (checked-report a))
+abbrev pub ToldChecked : Checked → List ℕ → List ℕ → ℕ → Type 0
+ToldChecked a w w′ n = (n ≡ number (checked-report a .told)) × (w′ ≡ check-words w (checked-report a))
 
-abbrev pub ToldRan : ran.Ran → List ℕ → List ℕ → ℕ → Type 0
-ToldRan a w w′ n = (n ≡ ran-report a .number) × (w′ ≡ run-words w (ran-report a))
+abbrev pub ToldRan : Ran → List ℕ → List ℕ → ℕ → Type 0
+ToldRan a w w′ n = (n ≡ number (ran-report a .told)) × (w′ ≡ run-words w (ran-report a))
 
 -- The contract of `grumpy_check`: where the report is long enough, the contract of check, told in words.
 pub data CheckedC (source table report table′ report′ : List ℕ) (n : ℕ) : Type 0 where
-  check-no-report : length report < 3 → n ≡ number short-memory → table′ ≡ table → report′ ≡ report → CheckedC source table report table′ report′ n
-  check-reported : {w : Row} {r : CheckReport} → 3 ≤ length report → Check source table w r table′ → n ≡ r .number → report′ ≡ check-words report r
+  check-no-report : length report < 3 → n ≡ refusal-number short-memory → table′ ≡ table → report′ ≡ report → CheckedC source table report table′ report′ n
+  check-reported : {r : CheckReport ℕ} → 3 ≤ length report → Check (from-text source) table r table′ → n ≡ number (r .told) → report′ ≡ check-words report r
       → CheckedC source table report table′ report′ n
 
 -- The contract of `grumpy_run`.
 pub data RanC (source table work out : List ℕ) (allowance : ℕ) (report table′ work′ out′ report′ : List ℕ) (n : ℕ) : Type 0 where
-  run-no-report : length report < 6 → n ≡ number short-memory → table′ ≡ table → work′ ≡ work → out′ ≡ out → report′ ≡ report
+  run-no-report : length report < 6 → n ≡ refusal-number short-memory → table′ ≡ table → work′ ≡ work → out′ ≡ out → report′ ≡ report
       → RanC source table work out allowance report table′ work′ out′ report′ n
-  run-reported : {w : Row} {r : RunReport} → 6 ≤ length report → Run source table work out allowance w r table′ work′ out′ → n ≡ r .number
+  run-reported : {r : RunReport ℕ} → 6 ≤ length report → Run (from-text source) table work out allowance r table′ work′ out′ → n ≡ number (r .told)
       → report′ ≡ run-words report r → RanC source table work out allowance report table′ work′ out′ report′ n

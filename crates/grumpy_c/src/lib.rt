@@ -22,28 +22,28 @@ fn complement(v: i64) -> u64
     }
 }
 
-fn put_three(report: &mut [u64], number: u32, place: usize, kind: u32)
+fn write_check_report(report: &mut [u64], number: u32, place: usize, type_number: u32)
     requires { ⌜ 3 ≤ length (now report) ⌝ }
-    ensures { λ _. ⌜ now (report .exit) ≡ three (now (report .entry)) number place kind ⌝ }
+    ensures { λ _. ⌜ now (report .exit) ≡ three (now (report .entry)) number place «type_number» ⌝ }
 {
     report[0] = number as u64;
     report[1] = place as u64;
-    report[2] = kind as u64;
+    report[2] = type_number as u64;
 }
 
-fn put_six(
+fn write_run_report(
     report: &mut [u64],
     number: u32,
     place: usize,
-    kind: u32,
+    type_number: u32,
     value: u64,
     units: u32,
     printed: usize,
 )
     requires { ⌜ 6 ≤ length (now report) ⌝ }
-    ensures { λ _. ⌜ now (report .exit) ≡ six (now (report .entry)) number place kind value units printed ⌝ }
+    ensures { λ _. ⌜ now (report .exit) ≡ six (now (report .entry)) number place «type_number» value units printed ⌝ }
 {
-    put_three(report, number, place, kind);
+    write_check_report(report, number, place, type_number);
     report[3] = value;
     report[4] = units as u64;
     report[5] = printed as u64;
@@ -54,13 +54,13 @@ fn report_checked(report: &mut [u64], answer: Checked) -> u32
     ensures { λ r. ⌜ ToldChecked answer (now (report .entry)) (now (report .exit)) r ⌝ }
 {
     match answer {
-        Checked::Passed(kind) => {
-            put_three(report, 0, 0, kind);
+        Checked::Passed(type_number) => {
+            write_check_report(report, 0, 0, type_number);
             0
         }
         Checked::Refused(why, place) => {
-            let number = sheets::numbers::of_refusal(why);
-            put_three(report, number, place, 0);
+            let number = numbers::of_refusal(why);
+            write_check_report(report, number, place, 0);
             number
         }
     }
@@ -72,29 +72,29 @@ fn report_ran(report: &mut [u64], answer: Ran) -> u32
 {
     match answer {
         Ran::Value {
-            kind,
+            type_number,
             value,
             units,
             printed,
         } => {
             let bits = complement(value);
-            put_six(report, 0, 0, kind, bits, units, printed);
+            write_run_report(report, 0, 0, type_number, bits, units, printed);
             0
         }
         Ran::Stopped {
             why,
             place,
-            kind,
+            type_number,
             units,
             printed,
         } => {
-            let number = grumpy::numbers::of_stop(why);
-            put_six(report, number, place, kind, 0, units, printed);
+            let number = numbers::of_stop(why);
+            write_run_report(report, number, place, type_number, 0, units, printed);
             number
         }
         Ran::Refused(why, place) => {
-            let number = sheets::numbers::of_refusal(why);
-            put_six(report, number, place, 0, 0, 0, 0);
+            let number = numbers::of_refusal(why);
+            write_run_report(report, number, place, 0, 0, 0, 0);
             number
         }
     }

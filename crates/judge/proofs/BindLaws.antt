@@ -14,18 +14,19 @@ use Rattle.language.specs.Tokens.{Token, entry, LET, spelling-at}
 use Rattle.language.specs.Trees.{Ty, last, more, push, nearest}
 use Rattle.language.specs.Faults as Faults
 use Rattle.language.specs.Meaning.{type-number}
-use Rattle.language.proofs.Types.Verdict.{Res, ok, bad, after-ok, after-bad}
-use Rattle.language.proofs.Types.Checker.{infer, infers}
-use Rattle.layout.specs.Table.{token-word, row-word, put-variable, without-variables}
+use Rattle.language.proofs.Executable.Checks.{Res, ok, bad, after-ok, after-bad}
+use Rattle.language.proofs.Executable.Checker.{infer, infers}
+use Rattle.layout.specs.Table.{token-value, row-word, put-variable, without-variables}
 use Rattle.layout.specs.Rows.{CALL}
 use Rattle.layout.specs.Decode.{a-call, a-let, shape-of, children, build, tree-at, args-at, RightArgs}
-use Rattle.layout.proofs.NameLaws.{Named, named-at}
+use Rattle.layout.specs.Names.{Named}
+use Rattle.layout.proofs.NameLaws.{named-at}
 use Rattle.layout.proofs.VariablesWords.{without-put-variable}
-use Rattle.rules.specs.Reasons.{meant}
+use Rattle.numbers.specs.Meanings.{reason-meant}
 use Rattle.rules.specs.Sight.{callee-in, Means, wanted-in}
 use Rattle.rules.specs.Asked.{Children, AsksCall, suits}
 use Rattle.judge.specs.Judged.{Kept, Told, ToldAll, TellsAll, tells-types, tells-wrong}
-use Rattle.rules.specs.declared.Reason.{Reason}
+use Rattle.numbers.specs.declared.Reason.{Reason}
 use Rattle.rules.specs.declared.Typing.{Typing}
 use Rattle.rules.specs.declared.Typing.the-variants as Typing
 use Rattle.rules.specs.declared.sight.Callee.{Callee}
@@ -46,7 +47,7 @@ let-children k e s h = let d : some a-let ≡ some s = ap shape-of (sym e) ∙ h
 module _ {p w w′ : List ℕ} {node seen binds : ℕ} (same : p ≡ without-variables w′) (kept : Kept w w′ binds) (long : TABLE ≤ length w′)
     (room : binds < TOKENS) where
   -- its body's answer is its own, where the body sees what is bound
-  pub let-goes : {x n : ℕ} {r : Typing} → row-word p node 0 ≡ LET → x ≡ token-word p (row-word p node 1 + 1) 3
+  pub let-goes : {x n : ℕ} {r : Typing} → row-word p node 0 ≡ LET → x ≡ token-value p (row-word p node 1 + 1)
       → Told p w (row-word p node 2) seen binds (Typing.«Type» n)
       → Told (without-variables (put-variable w′ binds x n)) (put-variable w′ binds x n) (row-word p node 3) seen (binds + 1) r
       → Told p w node seen binds r
@@ -75,7 +76,7 @@ types-are : {w : List ℕ} {c : Callee} {k : ℕ} {b : Bool} {n : ℕ} {s : Bool
     → s ≡ (b && suits w c k ts) → TellsAll w c k b (Passed.Typed n s) x
 types-are {w} {c} {k} {b} {n} {s} ts e p q = subst (λ (x : Res (List Ty)). TellsAll w c k b (Passed.Typed n s) x) (sym e) (tells-types p q)
 
-wrong-is : {w : List ℕ} {c : Callee} {k : ℕ} {b : Bool} {r : Reason} {i : ℕ} {x : Res (List Ty)} → x ≡ bad (meant r) i
+wrong-is : {w : List ℕ} {c : Callee} {k : ℕ} {b : Bool} {r : Reason} {i : ℕ} {x : Res (List Ty)} → x ≡ bad (reason-meant r) i
     → TellsAll w c k b (Passed.Wrong r i) x
 wrong-is {w} {c} {k} {b} {r} {i} e = subst (λ (x : Res (List Ty)). TellsAll w c k b (Passed.Wrong r i) x) (sym e) (tells-wrong refl)
 
@@ -84,7 +85,7 @@ types-told : {w : List ℕ} {c : Callee} {k : ℕ} {b : Bool} {n : ℕ} {s : Boo
 types-told (tells-types {ts = ts} p q) = (ts, refl, p, q)
 
 wrong-told : {w : List ℕ} {c : Callee} {k : ℕ} {b : Bool} {r : Reason} {i : ℕ} {x : Res (List Ty)}
-    → TellsAll w c k b (Passed.Wrong r i) x → x ≡ bad (meant r) i
+    → TellsAll w c k b (Passed.Wrong r i) x → x ≡ bad (reason-meant r) i
 wrong-told (tells-wrong {i = i} p) = ap (λ q. bad q i) (sym p)
 
 and-true : (b : Bool) → b ≡ (b && true)
@@ -161,7 +162,7 @@ module _ {p w : List ℕ} {node seen binds : ℕ} (kind : row-word p node 0 ≡ 
       { depth = st .depth; sheet = st .sheet; whole = nd .args kind .1; scope = st .scope })))
 
   -- and when all have types the call asks
-  pub call-goes : {x n i : ℕ} {s : Bool} {r : Typing} → x ≡ token-word p (row-word p node 1) 3 → c ≡ callee-in p x seen
+  pub call-goes : {x n i : ℕ} {s : Bool} {r : Typing} → x ≡ token-value p (row-word p node 1) → c ≡ callee-in p x seen
       → i ≡ row-word p node 1
       → ToldAll p w (row-word p node 2) seen binds c 0 true (Passed.Typed n s) → AsksCall p c n s i r → Told p w node seen binds r
   unfolding build shape-of entry

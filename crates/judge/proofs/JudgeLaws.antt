@@ -8,13 +8,13 @@ use lib.Dec.{eqb}
 use lib.ListN.{length}
 use Rattle.language.specs.Sizes.{TABLE}
 use Rattle.language.specs.Tokens.{NAME, LET}
-use Rattle.layout.specs.Table.{token-word, row-word, put-variable, without-variables}
+use Rattle.layout.specs.Table.{token-value, row-word, put-variable, without-variables}
 use Rattle.layout.specs.Rows.{CALL}
 use Rattle.layout.proofs.VariablesWords.{token-without}
 use Rattle.rules.specs.Sight.{find-variable, callee-in, Rowed, wanted-in}
 use Rattle.rules.specs.Asked.{Children, Constant, AsksOne, AsksTwo, AsksIf, AsksCall}
 use Rattle.judge.specs.Judged.{looked, Ready, Told, Judged, ReadyAll, ToldAll, JudgedAll}
-use Rattle.rules.specs.declared.Reason.{Reason}
+use Rattle.numbers.specs.declared.Reason.{Reason}
 use Rattle.rules.specs.declared.Typing.{Typing}
 use Rattle.rules.specs.declared.Typing.the-variants as Typing
 use Rattle.rules.specs.declared.sight.Callee.{Callee}
@@ -51,14 +51,14 @@ module _ {w : List ℕ} {node seen binds : ℕ} (r : Ready w node seen binds) wh
 
   -- a name
   pub name-judged : {q : Typing} → row-word w node 0 ≡ NAME
-      → q ≡ looked (find-variable w (token-word w (row-word w node 1) 3) binds) (row-word w node 1) → Judged w w node seen binds q
+      → q ≡ looked (find-variable w (token-value w (row-word w node 1)) binds) (row-word w node 1) → Judged w w node seen binds q
   name-judged k e =
       let l = ready-name r k in
       let d = ready-row r 1 (omega arith) in
       judged-as (sym e) record {
         kept = kept-self w binds;
         right = name-goes (ready-row r 0 (omega arith) ∙ k) (sym d)
-            (sym (ap (λ (i : ℕ). token-word p i 3) d ∙ token-without w (row-word w node 1) 3 l (omega arith)));
+            (sym (ap (λ (i : ℕ). token-value p i) d ∙ token-without w (row-word w node 1) 3 l (omega arith)));
       }
 
   -- a constant
@@ -154,7 +154,7 @@ module _ {w : List ℕ} {node seen binds : ℕ} (r : Ready w node seen binds) wh
       -- ---- let
 
       -- a `let` has its body's answer
-      pub let-judged : {x j₂ : ℕ} {v w₂ : List ℕ} {q : Typing} → row-word w node 0 ≡ LET → x ≡ token-word w (row-word w node 1 + 1) 3
+      pub let-judged : {x j₂ : ℕ} {v w₂ : List ℕ} {q : Typing} → row-word w node 0 ≡ LET → x ≡ token-value w (row-word w node 1 + 1)
           → v ≡ put-variable w₁ binds x m → j₂ ≡ row-word w node 3 → Judged v w₂ j₂ seen (binds + 1) q → Judged w w₂ node seen binds q
       let-judged {x} {v = v} {w₂ = w₂} {q = q} kind ex ev ej₂ g =
           let l = ready-bound r kind in
@@ -164,13 +164,13 @@ module _ {w : List ℕ} {node seen binds : ℕ} (r : Ready w node seen binds) wh
             kept = kept-then (h .kept) (kept-then (kept-put w₁ binds x m (ready-binds r)) (kept-fewer (omega arith) (a .kept)));
             right = let-goes (sym (h .kept .rest)) (h .kept) (omega (arith, r .long, h .kept .long)) (ready-binds r) (ready-row r 0
                 (omega arith) ∙ kind)
-                (ex ∙ sym (ap (λ (i : ℕ). token-word p (i + 1) 3) d
+                (ex ∙ sym (ap (λ (i : ℕ). token-value p (i + 1)) d
                 ∙ token-without w (row-word w node 1 + 1) 3 l (omega arith))) first-told (a .right);
           }
 
   -- ---- a call
 
-  module _ (kind : row-word w node 0 ≡ CALL) {x row : ℕ} {c : Callee} (ex : x ≡ token-word w (row-word w node 1) 3)
+  module _ (kind : row-word w node 0 ≡ CALL) {x row : ℕ} {c : Callee} (ex : x ≡ token-value w (row-word w node 1))
       (ec : c ≡ callee-in w x seen)
       (er : row ≡ row-word w node 2) {w₁ : List ℕ} {s : Passed} (h : JudgedAll w w₁ row seen binds c 0 true s) where
     kind-plain : row-word p node 0 ≡ CALL
@@ -198,7 +198,7 @@ module _ {w : List ℕ} {node seen binds : ℕ} (r : Ready w node seen binds) wh
         let d = ready-row r 1 (omega arith) in
         record {
           kept = h .kept;
-          right = call-goes kind-plain (ex ∙ sym (ap (λ (i : ℕ). token-word p i 3) d
+          right = call-goes kind-plain (ex ∙ sym (ap (λ (i : ℕ). token-value p i) d
               ∙ token-without w (row-word w node 1) 3 l (omega arith)))
               (ec ∙ sym (callee-plain w x seen (sheet-headed (r .stands .sheet)))) (plain 1 (omega arith) ei) (args-told e)
               (subst (λ (v : List ℕ). AsksCall v c n b i q) (h .kept .rest) (asks-plain w₁ c i rowed asks));

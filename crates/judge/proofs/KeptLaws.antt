@@ -11,10 +11,10 @@ use Rattle.language.specs.Tokens.{Token}
 use Rattle.language.specs.Trees.{Name, Ty, Scope, push}
 use Rattle.language.specs.Types.{Sig}
 use Rattle.language.specs.Meaning.{type-number}
-use Rattle.language.proofs.Types.Checker.{infer, infers}
+use Rattle.language.proofs.Executable.Checker.{infer, infers}
 use Rattle.layout.specs.Table.{VARIABLES-AT, row-word, put-variable, without-variables}
 use Rattle.layout.specs.Decode.{tree-at, args-at}
-use Rattle.layout.proofs.NameLaws.{Named}
+use Rattle.layout.specs.Names.{Named}
 use Rattle.layout.proofs.VariablesWords.{row-without, length-put-variable, without-put-variable, put-variable-name, put-variable-kind, put-variable-before}
 use Rattle.rules.specs.Sight.{Variables, variables-none, variables-more}
 use Rattle.rules.specs.Asked.{Tells}

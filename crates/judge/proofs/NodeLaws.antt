@@ -9,17 +9,18 @@ use Rattle.language.specs.Tokens.{Token, entry, NAME, LET, spelling-at}
 use Rattle.language.specs.Trees.{Ty, Exp, Exps, Scope}
 use Rattle.language.specs.Types.{Sig}
 use Rattle.language.specs.Meaning.{type-number}
-use Rattle.language.proofs.Types.Verdict.{ok, after-ok, after-bad}
-use Rattle.language.proofs.Types.Checker.{infer}
-use Rattle.layout.specs.Table.{token-word, row-word}
+use Rattle.language.proofs.Executable.Checks.{ok, after-ok, after-bad}
+use Rattle.language.proofs.Executable.Checker.{infer}
+use Rattle.layout.specs.Table.{token-value, row-word}
 use Rattle.layout.specs.Rows.{CALL}
 use Rattle.layout.specs.Decode.{Shape, a-name, a-follow, a-group, a-block, a-call, a-let, an-if, a-while, a-unary, a-binary, shape-of, children, build, build-if, tree-at, args-at, Node, Right, RightArgs}
-use Rattle.layout.proofs.NameLaws.{Named, named-at}
+use Rattle.layout.specs.Names.{Named}
+use Rattle.layout.proofs.NameLaws.{named-at}
 use Rattle.layout.proofs.VariablesTrees.{shape-kind, kind-of-shape}
 use Rattle.rules.specs.Sight.{find-variable}
 use Rattle.rules.specs.Asked.{Tells, Children, Constant, AsksOne, AsksTwo, AsksIf}
 use Rattle.judge.specs.Judged.{Stands, looked, Told}
-use Rattle.rules.specs.declared.Reason.{Reason}
+use Rattle.numbers.specs.declared.Reason.{Reason}
 use Rattle.rules.specs.declared.Typing.{Typing}
 use Rattle.rules.specs.declared.Typing.the-variants as Typing
 use Rattle.rules.proofs.TellLaws.{type-is, fault-is, type-told, fault-told}
@@ -199,7 +200,7 @@ module _ {p w : List ℕ} {node seen binds : ℕ} where
   -- ---- a name, a constant
 
   -- a name is looked up
-  pub name-goes : {x i : ℕ} → row-word p node 0 ≡ NAME → i ≡ row-word p node 1 → x ≡ token-word p (row-word p node 1) 3
+  pub name-goes : {x i : ℕ} → row-word p node 0 ≡ NAME → i ≡ row-word p node 1 → x ≡ token-value p (row-word p node 1)
       → Told p w node seen binds (looked (find-variable w x binds) i)
   unfolding infer build shape-of entry
   name-goes k ei ex =

@@ -7,13 +7,15 @@ use lib.ListN.{length}
 use Rattle.language.specs.Sizes.{TOKENS, NODES, TABLE}
 use Rattle.language.specs.Tokens.{Token, entry, NAME, LET, At, spelling-at}
 use Rattle.language.specs.Trees.{Exp, Exps, push}
-use Rattle.layout.specs.Table.{token-word, row-word, put-variable, without-variables}
+use Rattle.layout.specs.Table.{token-value, row-word, put-variable, without-variables}
 use Rattle.layout.specs.Rows.{CALL, below, under}
 use Rattle.layout.specs.Decode.{Shape, a-name, a-number, a-follow, a-group, a-block, a-call, a-let, an-if, a-while, a-constant, a-unary, a-binary, shape-of, children, build, tree-at, args-at, Node, Right, RightArgs}
-use Rattle.layout.proofs.NameLaws.{Named, named-at, name-inside}
+use Rattle.layout.specs.Names.{Named}
+use Rattle.layout.proofs.NameLaws.{named-at, name-inside}
 use Rattle.layout.proofs.VariablesWords.{row-without, token-without, length-put-variable, without-put-variable}
 use Rattle.layout.proofs.VariablesTrees.{right-inside}
-use Rattle.rules.specs.Sight.{Headed, Sheet, Rowed, callee-in}
+use Rattle.layout.specs.Functions.{Headed}
+use Rattle.rules.specs.Sight.{Sheet, Rowed, callee-in}
 use Rattle.rules.specs.Asked.{Children}
 use Rattle.judge.specs.Judged.{Kept, Ready, Told, ReadyAll}
 use Rattle.rules.specs.declared.Typing.the-variants as Typing
@@ -117,12 +119,12 @@ module _ {w : List ℕ} {node seen binds : ℕ} (r : Ready w node seen binds) wh
       ∙ e)) in let b = ready-row 1 (omega arith) in omega arith
 
   -- a name's number, by its token
-  pub called-number : {token x : ℕ} → token ≡ row-word w node 1 → x ≡ token-word w token 3 → x ≡ token-word w (row-word w node 1) 3
-  called-number e d = d ∙ ap (λ (i : ℕ). token-word w i 3) e
+  pub called-number : {token x : ℕ} → token ≡ row-word w node 1 → x ≡ token-value w token → x ≡ token-value w (row-word w node 1)
+  called-number e d = d ∙ ap (λ (i : ℕ). token-value w i) e
 
   -- and by the token behind it
-  pub bound-number : {token x : ℕ} → token ≡ row-word w node 1 → x ≡ token-word w (token + 1) 3 → x ≡ token-word w (row-word w node 1 + 1) 3
-  bound-number e d = d ∙ ap (λ (i : ℕ). token-word w (i + 1) 3) e
+  pub bound-number : {token x : ℕ} → token ≡ row-word w node 1 → x ≡ token-value w (token + 1) → x ≡ token-value w (row-word w node 1 + 1)
+  bound-number e d = d ∙ ap (λ (i : ℕ). token-value w (i + 1)) e
 
   -- the functions in sight
   pub ready-headed : (k : ℕ) → k < seen → Headed w k
@@ -174,18 +176,18 @@ module _ {w : List ℕ} {node seen binds : ℕ} (r : Ready w node seen binds) wh
           child 4 (ready-row 4 (omega arith) ∙ sym e) (ready-parts .row .third d) (ready-parts .third d)
 
     -- what a `let` binds, by its name's number
-    bound-named : {x : ℕ} → row-word w node 0 ≡ LET → x ≡ token-word w (row-word w node 1 + 1) 3
+    bound-named : {x : ℕ} → row-word w node 0 ≡ LET → x ≡ token-value w (row-word w node 1 + 1)
         → Named (r .tokens) x (spelling-at (r .tokens) (row-word p node 1 + 1))
     bound-named {x} kind ex =
         let l = ready-bound kind in
-        let e : token-word p (row-word p node 1 + 1) 3 ≡ x =
-        ap (λ (i : ℕ). token-word p (i + 1) 3) (ready-row 1 (omega arith)) ∙ token-without w (row-word w node 1 + 1) 3 l (omega arith)
+        let e : token-value p (row-word p node 1 + 1) ≡ x =
+        ap (λ (i : ℕ). token-value p (i + 1)) (ready-row 1 (omega arith)) ∙ token-without w (row-word w node 1 + 1) 3 l (omega arith)
         ∙ sym ex in
         subst (λ (z : ℕ). Named (r .tokens) z (spelling-at (r .tokens) (row-word p node 1 + 1))) e
         (named-at (r .stands .sheet .stand) (row-word p node 1 + 1) (ready-parts .row .bound (ready-row 0 (omega arith) ∙ kind)))
 
     -- its body can be checked, with one variable more
-    pub ready-body : {x n j : ℕ} {v : List ℕ} → row-word w node 0 ≡ LET → x ≡ token-word w (row-word w node 1 + 1) 3
+    pub ready-body : {x n j : ℕ} {v : List ℕ} → row-word w node 0 ≡ LET → x ≡ token-value w (row-word w node 1 + 1)
         → Told p w (row-word p node 2) seen binds (Typing.«Type» n) → v ≡ put-variable w′ binds x n → j ≡ row-word w node 3
         → (j < node) × Ready v j seen (binds + 1)
     ready-body {x} {n} kind ex h ev ej =
@@ -217,15 +219,15 @@ module _ {w : List ℕ} {node seen binds : ℕ} (r : Ready w node seen binds) wh
         )
 
   -- the arguments of a call can be checked
-  pub ready-args : {x row : ℕ} {c : Callee} → row-word w node 0 ≡ CALL → x ≡ token-word w (row-word w node 1) 3
+  pub ready-args : {x row : ℕ} {c : Callee} → row-word w node 0 ≡ CALL → x ≡ token-value w (row-word w node 1)
       → c ≡ callee-in w x seen → row ≡ row-word w node 2
       → (row ≤ node) × ReadyAll w row seen binds c 0
   ready-args {x} {c = c} kind ex ec er =
       let q = ready-parts in
       let k = ready-row 0 (omega arith) ∙ kind in
       let l = ready-called kind in
-      let e : token-word p (row-word p node 1) 3 ≡ x =
-      ap (λ (i : ℕ). token-word p i 3) (ready-row 1 (omega arith)) ∙ token-without w (row-word w node 1) 3 l (omega arith) ∙ sym ex in
+      let e : token-value p (row-word p node 1) ≡ x =
+      ap (λ (i : ℕ). token-value p i) (ready-row 1 (omega arith)) ∙ token-without w (row-word w node 1) 3 l (omega arith) ∙ sym ex in
       let nm = subst (λ (z : ℕ). Named (r .tokens) z (spelling-at (r .tokens) (row-word p node 1))) e
       (named-at (r .stands .sheet .stand) (row-word p node 1) (q .row .called k)) in
       let h = q .row .args k in

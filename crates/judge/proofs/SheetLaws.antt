@@ -8,17 +8,19 @@ use native.Mathlib.Decide.{ℕ-discrete}
 use native.Mathlib.Omega.{arith}
 use lib.ListN.{length}
 use Rattle.language.specs.Sizes.{TOKENS}
-use Rattle.language.specs.Tokens.{Token, same, spelling-at}
+use Rattle.language.specs.Tokens.{Token, same}
 use Rattle.language.specs.Trees.{Name, Ty, int, Def, Scope, nearest, PUTCHAR}
 use Rattle.language.specs.Types.{Sig, sig}
 use Rattle.language.specs.Faults.{no-binding}
 use Rattle.language.specs.Meaning.{type-number}
-use Rattle.language.proofs.Types.Verdict.{told}
-use Rattle.layout.specs.Table.{function-row, token-word, variable-kind}
-use Rattle.layout.specs.Names.{Stand}
+use Rattle.language.proofs.Executable.Checks.{told}
+use Rattle.layout.specs.Table.{function-row, variable-kind}
+use Rattle.layout.specs.Names.{Stand, Named}
+use Rattle.layout.specs.Functions.{Headed, find-function}
 use Rattle.layout.specs.Decode.{FunctionAt}
-use Rattle.layout.proofs.NameLaws.{Named, named-same, putchar-number, named-at, name-inside}
-use Rattle.rules.specs.Sight.{Variables, variables-none, variables-more, find-variable, Headed, function-name, Functions, functions-given, functions-more, Sheet, callee-in, Means, Rowed}
+use Rattle.layout.proofs.NameLaws.{named-same, putchar-number}
+use Rattle.layout.proofs.FunctionLaws.{function-named, function-headed}
+use Rattle.rules.specs.Sight.{Variables, variables-none, variables-more, find-variable, Functions, functions-given, functions-more, Sheet, callee-by, callee-in, Means, Rowed}
 use Rattle.rules.specs.Asked.{Tells, tells-type, tells-fault}
 use Rattle.judge.specs.Judged.{looked}
 use Rattle.rules.specs.declared.sight.Callee.{Callee}
@@ -44,34 +46,21 @@ module _ {ts : List Token} (few : length ts ≤ TOKENS) {w : List ℕ} {x : ℕ}
 
 -- ---- functions
 
--- a function's name, by its number
 module _ {ts : List Token} {f : ℕ} {w : List ℕ} {count : ℕ} (stand : Stand w count ts) where
-  -- the number that a function's name has
-  pub name-of : (n : ℕ) {d : Def} → FunctionAt f ts w (function-row w n) d → Named ts (function-name w n) (d .called)
-  name-of n {d} a =
-      let h = named-at stand (d .at + 1) (a .name) in
-      subst (λ (s : Name). Named ts (function-name w n) s) (sym (a .called))
-      (subst (λ (j : ℕ). Named ts (token-word w (j + 1) 3) (spelling-at ts (d .at + 1))) (sym (a .at)) h)
-
-  head-of : {n : ℕ} {d : Def} → n < TOKENS → FunctionAt f ts w (function-row w n) d → Headed w n
-  head-of {n} {d} l a =
-      let h = name-inside ts (d .at + 1) (a .name) in
-      record { few = l; row = a .inside; name = omega (arith, a .at, stand .long, stand .few) }
-
   -- every function in sight has a row, and its name is a token
   headed : {n : ℕ} {Δ : Scope Sig} → n ≤ TOKENS → Functions f ts w n Δ → (k : ℕ) → k < n → Headed w k
   headed l functions-given k h = absurd (omega arith)
   headed l (functions-more {n = n} e a r) k h = go (ℕ-discrete k n) λ m. headed (omega arith) r k m
     where
       go : Dec (k ≡ n) → (k < n → Headed w k) → Headed w k
-      go (yes q) ih = subst (λ (j : ℕ). Headed w j) (sym q) (head-of (omega arith) a)
+      go (yes q) ih = subst (λ (j : ℕ). Headed w j) (sym q) (function-headed stand n a (omega arith))
       go (no q) ih = ih (omega arith)
 
-means-step : {f : ℕ} {ts : List Token} {w : List ℕ} (b : Bool) (r : ℕ) (d : Def) (c : Callee) (o : Option Sig) → FunctionAt f ts w r d
-    → Means f ts w c o
-    → Means f ts w (cond b (Callee.Function r) c) (cond b (some (sig d)) o)
-means-step true r d c o a h = (d, a, refl)
-means-step false r d c o a h = h
+means-step : {f : ℕ} {ts : List Token} {w : List ℕ} (x : ℕ) (b : Bool) (r : ℕ) (d : Def) (c : Option ℕ) (o : Option Sig) → FunctionAt f ts w r d
+    → Means f ts w (callee-by x c) o
+    → Means f ts w (callee-by x (cond b (some r) c)) (cond b (some (sig d)) o)
+means-step x true r d c o a h = (d, a, refl)
+means-step x false r d c o a h = h
 
 means-given : (f : ℕ) (ts : List Token) (w : List ℕ) (b : Bool)
     → Means f ts w (cond b Callee.Putchar Callee.Nobody) (cond b (some record { takes = int ∷ []; gives = int }) none)
@@ -85,10 +74,10 @@ stand-few stand = omega (arith, stand .long, stand .few)
 module _ {ts : List Token} {f : ℕ} {w : List ℕ} {count : ℕ} (stand : Stand w count ts) {x : ℕ} {y : Name} (called : Named ts x y) where
   -- whom a call means is what is nearest under its name
   callee-functions : {n : ℕ} {Δ : Scope Sig} → Functions f ts w n Δ → Means f ts w (callee-in w x n) (nearest y Δ)
-  unfolding callee-in nearest
+  unfolding callee-in find-function nearest
   callee-functions functions-given = rw (putchar-number (stand-few stand) called) (means-given f ts w (same y PUTCHAR))
   callee-functions (functions-more {n = n} {d = d} e a r) =
-      rw (e, named-same (stand-few stand) called (name-of stand n a)) (means-step (same y (d .called)) (function-row w n) d _ _ a
+      rw (e, named-same (stand-few stand) called (function-named stand a)) (means-step x (same y (d .called)) (function-row w n) d _ _ a
       (callee-functions r))
 
 -- a callee that is in sight has rows for all its parameters

@@ -11,16 +11,16 @@ use Rattle.language.specs.Tokens.{Token}
 use Rattle.language.specs.Trees.{Ty, Scope}
 use Rattle.language.specs.Types.{Sig}
 use Rattle.language.specs.Faults as Faults
-use Rattle.language.proofs.Types.Verdict.{Res, ok, bad}
-use Rattle.language.proofs.Types.Checker.{infer, infers}
-use Rattle.layout.specs.Table.{token-word, row-word, variable-name, variable-kind, without-variables}
+use Rattle.language.proofs.Executable.Checks.{Res, ok, bad}
+use Rattle.language.proofs.Executable.Checker.{infer, infers}
+use Rattle.layout.specs.Table.{OWN, token-value, row-word, variable-name, variable-kind, without-variables}
 use Rattle.layout.specs.Rows.{below, under}
 use Rattle.layout.specs.Decode.{tree-at, args-at, Right, RightArgs}
-use Rattle.rules.specs.Reasons.{meant}
+use Rattle.numbers.specs.Meanings.{reason-meant}
 use Rattle.rules.specs.Sight.{Variables, find-variable, Sheet, Rowed}
 use Rattle.rules.specs.Asked.{Tells, suits}
-use Rattle.rules.specs.declared.Reason.{Reason}
-use Rattle.rules.specs.declared.Reason.the-variants.{NoBinding}
+use Rattle.numbers.specs.declared.Reason.{Reason}
+use Rattle.numbers.specs.declared.Reason.the-variants.{NoBinding}
 use Rattle.rules.specs.declared.Typing.{Typing}
 use Rattle.rules.specs.declared.Typing.the-variants as Typing
 use Rattle.rules.specs.declared.sight.Callee.{Callee}
@@ -73,7 +73,7 @@ looked none i = Typing.Fault NoBinding i
 
 -- the answer of the name at row `node`
 abbrev pub name-answer : List ℕ → ℕ → ℕ → Typing
-name-answer w node binds = looked (find-variable w (token-word w (row-word w node 1) 3) binds) (row-word w node 1)
+name-answer w node binds = looked (find-variable w (token-value w (row-word w node OWN)) binds) (row-word w node OWN)
 
 -- ---- arguments
 
@@ -82,7 +82,7 @@ name-answer w node binds = looked (find-variable w (token-word w (row-word w nod
 pub data TellsAll (w : List ℕ) (c : Callee) (k : ℕ) (b : Bool) : Passed → Res (List Ty) → Type 0 where
   tells-types : {n : ℕ} {s : Bool} {ts : List Ty} → n ≡ k + length ts → s ≡ (b && suits w c k ts)
       → TellsAll w c k b (Passed.Typed n s) (ok ts)
-  tells-wrong : {r : Reason} {q : Faults.Reason} {i : ℕ} → meant r ≡ q → TellsAll w c k b (Passed.Wrong r i) (bad q i)
+  tells-wrong : {r : Reason} {q : Faults.Reason} {i : ℕ} → reason-meant r ≡ q → TellsAll w c k b (Passed.Wrong r i) (bad q i)
 
 -- arguments can be checked, k of the callee's before them
 pub record ReadyAll (w : List ℕ) (row seen binds : ℕ) (c : Callee) (k : ℕ) : Type 0 where

@@ -7,15 +7,15 @@ ghost use mathlib.Core.Bool.{_&&_};
 ghost use lib.Dec.{eqb};
 ghost use Rattle.language.specs.Sizes.{TOKENS, NODES, TABLE};
 ghost use Rattle.language.specs.Tokens.{LET};
-ghost use Rattle.layout.specs.Table.{row-word};
+ghost use Rattle.layout.specs.Table.{KIND, OWN, row-word};
 ghost use Rattle.layout.specs.Rows.{CALL};
 ghost use Rattle.rules.specs.Asked.{Children};
 ghost use Rattle.judge.specs.Judged.{name-answer, Ready, Judged, ReadyAll, JudgedAll};
 use language::kinds;
 use layout::rows;
-use layout::tokens;
+use layout::token;
 use layout::variables;
-use rules::Reason;
+use numbers::Reason;
 use rules::Typing;
 use rules::operators;
 use rules::sight;
@@ -30,12 +30,12 @@ pub enum Passed {
 
 // A name has the type of the nearest variable that is called so.
 fn name(table: &[u32], node: usize, binds: usize) -> Typing
-    requires { ⌜ (TABLE ≤ length (now table)) × (node < NODES) × (row-word (now table) node 1 < TOKENS) × (binds ≤ TOKENS) ⌝ }
+    requires { ⌜ (TABLE ≤ length (now table)) × (node < NODES) × (row-word (now table) node OWN < TOKENS) × (binds ≤ TOKENS) ⌝ }
     ensures { λ r. ⌜ r ≡ name-answer (now (table .entry)) node binds ⌝ }
 {
-    let at = rows::word(table, node, 1);
-    let token = rows::link(table, node, 1);
-    let number = tokens::value(table, token);
+    let at = rows::word(table, node, rows::OWN);
+    let token = rows::link(table, node, rows::OWN);
+    let number = token::value(table, token);
     let nearest = sight::variable(table, binds, number);
     match nearest {
         Found::Is(t) => Typing::Type(t),
@@ -48,7 +48,7 @@ pub fn type_at(table: &mut [u32], node: usize, seen: usize, binds: usize) -> Typ
     requires { ⌜ Ready (now table) node seen binds ⌝ }
     ensures { λ r. ⌜ Judged (now (table .entry)) (now (table .exit)) node seen binds r ⌝ }
 {
-    let kind = rows::word(table, node, 0);
+    let kind = rows::word(table, node, rows::KIND);
     if kind == kinds::NAME {
         return name(table, node, binds);
     }
@@ -73,12 +73,12 @@ pub fn type_at(table: &mut [u32], node: usize, seen: usize, binds: usize) -> Typ
 
 // A node with one child.
 fn over_one(table: &mut [u32], node: usize, seen: usize, binds: usize) -> Typing
-    requires { ⌜ Ready (now table) node seen binds × Children (row-word (now table) node 0) 1 ⌝ }
+    requires { ⌜ Ready (now table) node seen binds × Children (row-word (now table) node KIND) 1 ⌝ }
     ensures { λ r. ⌜ Judged (now (table .entry)) (now (table .exit)) node seen binds r ⌝ }
 {
-    let kind = rows::word(table, node, 0);
-    let at = rows::word(table, node, 1);
-    let child = rows::link(table, node, 2);
+    let kind = rows::word(table, node, rows::KIND);
+    let at = rows::word(table, node, rows::OWN);
+    let child = rows::link(table, node, rows::FIRST);
     let inside = type_at(table, child, seen, binds);
     match inside {
         Typing::Fault(r, i) => Typing::Fault(r, i),
@@ -88,13 +88,13 @@ fn over_one(table: &mut [u32], node: usize, seen: usize, binds: usize) -> Typing
 
 // A node with two children, both of which see what the node sees.
 fn over_two(table: &mut [u32], node: usize, seen: usize, binds: usize) -> Typing
-    requires { ⌜ Ready (now table) node seen binds × Children (row-word (now table) node 0) 2 × (row-word (now table) node 0 ≡ LET → ⊥) ⌝ }
+    requires { ⌜ Ready (now table) node seen binds × Children (row-word (now table) node KIND) 2 × (row-word (now table) node KIND ≡ LET → ⊥) ⌝ }
     ensures { λ r. ⌜ Judged (now (table .entry)) (now (table .exit)) node seen binds r ⌝ }
 {
-    let kind = rows::word(table, node, 0);
-    let at = rows::word(table, node, 1);
-    let left = rows::link(table, node, 2);
-    let right = rows::link(table, node, 3);
+    let kind = rows::word(table, node, rows::KIND);
+    let at = rows::word(table, node, rows::OWN);
+    let left = rows::link(table, node, rows::FIRST);
+    let right = rows::link(table, node, rows::SECOND);
     let first = type_at(table, left, seen, binds);
     match first {
         Typing::Fault(r, i) => Typing::Fault(r, i),
@@ -110,13 +110,13 @@ fn over_two(table: &mut [u32], node: usize, seen: usize, binds: usize) -> Typing
 
 // `let` types what it binds, and its body with that variable in sight.
 fn bind(table: &mut [u32], node: usize, seen: usize, binds: usize) -> Typing
-    requires { ⌜ Ready (now table) node seen binds × (row-word (now table) node 0 ≡ LET) ⌝ }
+    requires { ⌜ Ready (now table) node seen binds × (row-word (now table) node KIND ≡ LET) ⌝ }
     ensures { λ r. ⌜ Judged (now (table .entry)) (now (table .exit)) node seen binds r ⌝ }
 {
-    let token = rows::link(table, node, 1);
-    let number = tokens::value(table, token + 1);
-    let bound = rows::link(table, node, 2);
-    let body = rows::link(table, node, 3);
+    let token = rows::link(table, node, rows::OWN);
+    let number = token::value(table, token + 1);
+    let bound = rows::link(table, node, rows::FIRST);
+    let body = rows::link(table, node, rows::SECOND);
     let first = type_at(table, bound, seen, binds);
     match first {
         Typing::Fault(r, i) => Typing::Fault(r, i),
@@ -129,13 +129,13 @@ fn bind(table: &mut [u32], node: usize, seen: usize, binds: usize) -> Typing
 
 // `if`, its condition and its branches.
 fn branch(table: &mut [u32], node: usize, seen: usize, binds: usize) -> Typing
-    requires { ⌜ Ready (now table) node seen binds × Children (row-word (now table) node 0) 3 ⌝ }
+    requires { ⌜ Ready (now table) node seen binds × Children (row-word (now table) node KIND) 3 ⌝ }
     ensures { λ r. ⌜ Judged (now (table .entry)) (now (table .exit)) node seen binds r ⌝ }
 {
-    let at = rows::word(table, node, 1);
-    let test = rows::link(table, node, 2);
-    let chosen = rows::link(table, node, 3);
-    let other = rows::link(table, node, 4);
+    let at = rows::word(table, node, rows::OWN);
+    let test = rows::link(table, node, rows::FIRST);
+    let chosen = rows::link(table, node, rows::SECOND);
+    let other = rows::link(table, node, rows::THIRD);
     let condition = type_at(table, test, seen, binds);
     match condition {
         Typing::Fault(r, i) => Typing::Fault(r, i),
@@ -157,14 +157,14 @@ fn branch(table: &mut [u32], node: usize, seen: usize, binds: usize) -> Typing
 
 // A call types all its arguments before it asks whom it calls.
 fn call(table: &mut [u32], node: usize, seen: usize, binds: usize) -> Typing
-    requires { ⌜ Ready (now table) node seen binds × (row-word (now table) node 0 ≡ CALL) ⌝ }
+    requires { ⌜ Ready (now table) node seen binds × (row-word (now table) node KIND ≡ CALL) ⌝ }
     ensures { λ r. ⌜ Judged (now (table .entry)) (now (table .exit)) node seen binds r ⌝ }
 {
-    let at = rows::word(table, node, 1);
-    let token = rows::link(table, node, 1);
-    let number = tokens::value(table, token);
+    let at = rows::word(table, node, rows::OWN);
+    let token = rows::link(table, node, rows::OWN);
+    let number = token::value(table, token);
     let callee = sight::called(table, seen, number);
-    let row = rows::link(table, node, 2);
+    let row = rows::link(table, node, rows::FIRST);
     let passed = arguments(table, row, seen, binds, callee, 0, true);
     match passed {
         Passed::Wrong(r, i) => Typing::Fault(r, i),
@@ -198,8 +198,8 @@ fn arguments(
     if row == 0 {
         return Passed::Typed(k, suited);
     }
-    let child = rows::link(table, row, 2);
-    let next = rows::link(table, row, 3);
+    let child = rows::link(table, row, rows::EXPRESSION);
+    let next = rows::link(table, row, rows::NEXT);
     let wanted = sight::wanted(table, callee, k);
     let first = type_at(table, child, seen, binds);
     match first {

@@ -1,5 +1,9 @@
 -- What is true of answers.
 pub mod Verdict
+pub mod Origins
+pub mod Endings
 pub mod OneAnswer
+pub mod Demand1
 pub mod Demand3
 pub mod Examples
+pub mod FurtherExamples

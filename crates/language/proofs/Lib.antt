@@ -1,5 +1,6 @@
 pub mod Text
 pub mod Grammar
 pub mod Types
+pub mod Executable
 pub mod Meaning
 pub mod Answers

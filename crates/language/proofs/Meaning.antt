@@ -2,7 +2,11 @@
 pub mod CellTypes
 pub mod Safety
 pub mod NeverStuck
+pub mod ValueTypes
 pub mod MoreUnits
 pub mod Spending
+pub mod Keeping
 pub mod CellOrder
+pub mod Freed
+pub mod StopPlaces
 pub mod Passing

@@ -4,14 +4,13 @@ pub mod Runs
 pub mod Spellings
 pub mod Comments
 pub mod Tables
-pub mod Words
 pub mod Digits
 pub mod Marks
-pub mod MarkOrder
 pub mod Places
 pub mod OnePiece
 pub mod OneSplit
 pub mod Pieces
 pub mod Scanner
+pub mod Edition
 pub mod Examples
 pub mod SmallNumbers

@@ -1,94 +1,163 @@
--- What check and run answer for everything they can be lent, and what they leave in it (S004, S091 to S101).
+-- What check and run answer for everything they can be lent, and what they leave in it (S004, S091 to S101). It goes in three
+-- steps: where the tokens come from, what becomes of tokens, and what becomes of a program. Only the first knows places.
+use mathlib.Core.Bool.{Bool, true, false, cond}
 use mathlib.Core.List.{List, [], _++_, reverse}
 use mathlib.Core.Logic.{_⊎_}
+use mathlib.Core.Option.{Option, none, some}
 use mathlib.Core.Path.{_≡_}
 use Prim.Native.Nat.{ℕ, _-_, _≤_, _<_}
+use lib.Dec.{ltb}
 use lib.IntN.{ℤ, pos}
 use lib.ListN.{length, drop, replicate}
 use Rattle.language.specs.Sizes.{SOURCE, NODES, ALLOWANCE, TABLE, WORK}
 use Rattle.language.specs.Tokens.{Token, place-at}
-use Rattle.language.specs.Text.{Splits, Flaw, Flawed}
+use Rattle.language.specs.Text.{Flaw}
+use Rattle.language.specs.Edition.{Splits, Flawed}
 use Rattle.language.specs.Trees.{Ty, Program, program-nodes}
 use Rattle.language.specs.Grammar.{Reading}
 use Rattle.language.specs.Types.{HasType}
 use Rattle.language.specs.Faults.{Reason, HasFault}
-use Rattle.language.specs.State.{Value, State, Stop, value, stop}
+use Rattle.language.specs.State.{State, Outcome, value, stop, stuck}
 use Rattle.language.specs.Meaning.{run, value-number, type-number}
-use Rattle.language.specs.Numbers.{Row, passed, short-memory, large-allowance, long-source, text, no-reading, many-nodes, types, stopped, number}
+use Rattle.language.specs.Numbers.{Refusal, short-memory, large-allowance, long-source, text, no-reading, many-nodes, types, Told, passed, refused, stopped}
 
--- ---- what becomes of a source
+-- ---- where tokens come from
 
-module _ (source : List ℕ) where
-  -- it passes, with these tokens, this reading and this type
+-- what an answer points at: nothing, or a token by its ordinal; the ordinal behind the last token's is the end
+pub data Spot : Type 0 where
+  nowhere : Spot
+  at : ℕ → Spot
+
+-- P is what a place is
+pub record Origin (P : Type 0) : Type 1 where
+  -- it comes to these tokens
+  pub gives : List Token → Type 0
+  -- or to none, and why and where
+  pub denies : Refusal → P → Type 0
+  -- the place of nothing, and that of a token or the end
+  pub nowhere : P
+  pub at : List Token → ℕ → P
+
+abbrev pub place-in : {P : Type 0} → Origin P → List Token → Spot → P
+place-in o ts nowhere = o .nowhere
+place-in o ts (at i) = o .at ts i
+
+-- A text, whose places are bytes (S044): a token's is where it begins, and the end's is the length of the text.
+pub data TextDenies (source : List ℕ) : Refusal → ℕ → Type 0 where
+  too-long : SOURCE < length source → TextDenies source long-source 0
+  flawed : {f : Flaw} {p : ℕ} → length source ≤ SOURCE → Flawed source f p → TextDenies source (text f) p
+
+pub record TextGives (source : List ℕ) (ts : List Token) : Type 0 where
+  pub short : length source ≤ SOURCE
+  pub splits : Splits source ts
+
+abbrev pub from-text : List ℕ → Origin ℕ
+from-text source = record {
+  gives = TextGives source;
+  denies = TextDenies source;
+  nowhere = 0;
+  at = λ ts i. cond (ltb i (length ts)) (place-at ts i) (length source);
+}
+
+-- ---- what becomes of tokens
+
+-- they are a program of this type
+pub record Proper (ts : List Token) (p : Program) (t : Ty) : Type 0 where
+  pub reads : Reading ts p
+  pub small : program-nodes p ≤ NODES
+  pub typed : HasType p t
+
+-- or not, and why and at which token; a fault's order is in Faults
+pub data Denied (ts : List Token) : Refusal → Spot → Type 0 where
+  unread : ((p : Program) → Reading ts p → ⊥) → Denied ts no-reading nowhere
+  too-large : {p : Program} → Reading ts p → NODES < program-nodes p → Denied ts many-nodes nowhere
+  faulty : {p : Program} {r : Reason} {i : ℕ} → Reading ts p → program-nodes p ≤ NODES → HasFault p r i → Denied ts (types r) (at i)
+
+-- The two steps together: what an origin comes to.
+module _ {P : Type 0} (o : Origin P) where
   pub record Passes (ts : List Token) (p : Program) (t : Ty) : Type 0 where
-    pub short : length source ≤ SOURCE
-    pub splits : Splits source ts
-    pub reads : Reading ts p
-    pub small : program-nodes p ≤ NODES
-    pub typed : HasType p t
+    pub given : o .gives ts
+    pub proper : Proper ts p t
 
-  -- it is refused, by this row at this byte; the ordinal of a token becomes its place here and in Ran
-  pub data Refused : Row → ℕ → Type 0 where
-    too-long : SOURCE < length source → Refused long-source 0
-    flawed : {f : Flaw} {i : ℕ} → length source ≤ SOURCE → Flawed source f i → Refused (text f) i
-    unread : {ts : List Token}
-        → length source ≤ SOURCE → Splits source ts → ((p : Program) → Reading ts p → ⊥) → Refused no-reading 0
-    too-large : {ts : List Token} {p : Program}
-        → length source ≤ SOURCE → Splits source ts → Reading ts p → NODES < program-nodes p → Refused many-nodes 0
-    faulty : {ts : List Token} {p : Program} {r : Reason} {i : ℕ}
-        → length source ≤ SOURCE → Splits source ts → Reading ts p → program-nodes p ≤ NODES → HasFault p r i
-        → Refused (types r) (place-at ts i)
+  pub data Refused : Refusal → P → Type 0 where
+    by-origin : {r : Refusal} {x : P} → o .denies r x → Refused r x
+    by-tokens : {ts : List Token} {r : Refusal} {s : Spot} → o .gives ts → Denied ts r s → Refused r (place-in o ts s)
+
+-- ---- what becomes of a program
+
+-- what is told of its end and at which token, the value reported, the units used, and the bytes printed, the first one first
+pub record Ending : Type 0 where
+  pub told : Told
+  pub spot : Spot
+  pub value : ℤ
+  pub units : ℕ
+  pub printed : List ℕ
+
+-- units used are those that the allowance has lost
+abbrev pub ended : ℕ → Told → Spot → ℤ → State → Ending
+ended allowance a i v s = record { told = a; spot = i; value = v; units = allowance - s .units; printed = reverse (s .printed) }
+
+-- S097; no reading that has a type is stuck
+unfoldable pub ending : ℕ → Outcome → Option Ending
+ending allowance (value v s) = some (ended allowance passed nowhere (value-number v) s)
+ending allowance (stop w i s) = some (ended allowance (stopped w) (at i) (pos 0) s)
+ending allowance stuck = none
 
 -- ---- what is left in lent memory (S100): the required words zero and those past them as before; after 40 all as before
+
+abbrev pub keeps : Refusal → Bool
+keeps short-memory = true
+keeps large-allowance = false
+keeps long-source = false
+keeps (text f) = false
+keeps no-reading = false
+keeps many-nodes = false
+keeps (types r) = false
 
 unfoldable pub cleared : ℕ → List ℕ → List ℕ
 cleared n words = replicate n 0 ++ drop n words
 
-unfoldable pub left : Row → ℕ → List ℕ → List ℕ
-left short-memory n words = words
+unfoldable pub left : Told → ℕ → List ℕ → List ℕ
 left passed n words = cleared n words
-left large-allowance n words = cleared n words
-left long-source n words = cleared n words
-left (text f) n words = cleared n words
-left no-reading n words = cleared n words
-left many-nodes n words = cleared n words
-left (types r) n words = cleared n words
+left (refused r) n words = cond (keeps r) words (cleared n words)
 left (stopped s) n words = cleared n words
 
 -- ---- check (S101)
 
-pub record CheckReport : Type 0 where
-  pub number : ℕ
-  pub place : ℕ
+-- the number reported is that of what is told
+pub record CheckReport (P : Type 0) : Type 0 where
+  pub told : Told
+  pub place : P
   pub type : ℕ
 
-abbrev pub check-report : Row → ℕ → ℕ → CheckReport
-check-report w i t = record { number = number w; place = i; type = t }
+abbrev pub check-report : {P : Type 0} → Told → P → ℕ → CheckReport P
+check-report a x t = record { told = a; place = x; type = t }
 
--- which row it tells, and its report, for a source and so many words of table memory
-pub data Checked (source : List ℕ) (table : ℕ) : Row → CheckReport → Type 0 where
-  check-short : table < TABLE → Checked source table short-memory (check-report short-memory 0 0)
-  check-refused : {w : Row} {i : ℕ} → TABLE ≤ table → Refused source w i → Checked source table w (check-report w i 0)
-  check-passed : {ts : List Token} {p : Program} {t : Ty}
-      → TABLE ≤ table → Passes source ts p t → Checked source table passed (check-report passed 0 (type-number t))
+module _ {P : Type 0} (o : Origin P) where
+  -- the report, for so many words of table memory
+  pub data Checked (table : ℕ) : CheckReport P → Type 0 where
+    check-short : table < TABLE → Checked table (check-report (refused short-memory) (o .nowhere) 0)
+    check-refused : {r : Refusal} {x : P} → TABLE ≤ table → Refused o r x → Checked table (check-report (refused r) x 0)
+    check-passed : {ts : List Token} {p : Program} {t : Ty}
+        → TABLE ≤ table → Passes o ts p t → Checked table (check-report passed (o .nowhere) (type-number t))
 
--- The contract of check: the row that it tells, its report, and the table memory as it is left.
-pub record Check (source table : List ℕ) (row : Row) (report : CheckReport) (table′ : List ℕ) : Type 0 where
-  pub answer : Checked source (length table) row report
-  pub table-left : table′ ≡ left row TABLE table
+  -- The contract of check: its report, and the table memory as it is left.
+  pub record Check (table : List ℕ) (report : CheckReport P) (table′ : List ℕ) : Type 0 where
+    pub answer : Checked (length table) report
+    pub table-left : table′ ≡ left (report .told) TABLE table
 
 -- ---- run
 
-pub record RunReport : Type 0 where
-  pub number : ℕ
-  pub place : ℕ
+pub record RunReport (P : Type 0) : Type 0 where
+  pub told : Told
+  pub place : P
   pub type : ℕ
   pub value : ℤ
   pub units : ℕ
   -- how many bytes were printed (S095)
   pub printed : ℕ
 
--- what a run is lent, lengths alone: words of table and work memory, bytes of output; and the units it is allowed
+-- what a run is lent, lengths alone: words of table and work memory, bytes of output (S008); and the units it is allowed
 pub record Lent : Type 0 where
   pub table : ℕ
   pub work : ℕ
@@ -100,37 +169,33 @@ pub record Enough (l : Lent) : Type 0 where
   pub work : WORK ≤ l .work
 
 -- S096
-abbrev pub refusal : Row → ℕ → RunReport
-refusal w i = record { number = number w; place = i; type = 0; value = pos 0; units = 0; printed = 0 }
+abbrev pub refusal : {P : Type 0} → Refusal → P → RunReport P
+refusal r x = record { told = refused r; place = x; type = 0; value = pos 0; units = 0; printed = 0 }
 
--- S097: with the value at its end, or none; units are those that the allowance has lost
-abbrev pub after-run : Row → ℕ → Ty → ℤ → ℕ → State → RunReport
-after-run w i t v allowance s = record {
-  number = number w;
-  place = i;
+abbrev pub after-run : {P : Type 0} → Origin P → List Token → Ty → Ending → RunReport P
+after-run o ts t e = record {
+  told = e .told;
+  place = place-in o ts (e .spot);
   type = type-number t;
-  value = v;
-  units = allowance - s .units;
-  printed = length (s .printed);
+  value = e .value;
+  units = e .units;
+  printed = length (e .printed);
 }
 
--- the row, the report and the bytes printed, the first one first
-pub data Ran (source : List ℕ) (l : Lent) : Row → RunReport → List ℕ → Type 0 where
-  run-short : (l .table < TABLE) ⊎ (l .work < WORK) → Ran source l short-memory (refusal short-memory 0) []
-  run-large : Enough l → ALLOWANCE < l .allowance → Ran source l large-allowance (refusal large-allowance 0) []
-  run-refused : {w : Row} {i : ℕ} → Enough l → l .allowance ≤ ALLOWANCE → Refused source w i → Ran source l w (refusal w i) []
-  run-value : {ts : List Token} {p : Program} {t : Ty} {v : Value} {s : State}
-      → Enough l → l .allowance ≤ ALLOWANCE → Passes source ts p t → run p (l .allowance) (l .output) ≡ value v s
-      → Ran source l passed (after-run passed 0 t (value-number v) (l .allowance) s) (reverse (s .printed))
-  run-stop : {ts : List Token} {p : Program} {t : Ty} {w : Stop} {i : ℕ} {s : State}
-      → Enough l → l .allowance ≤ ALLOWANCE → Passes source ts p t → run p (l .allowance) (l .output) ≡ stop w i s
-      → Ran source l (stopped w) (after-run (stopped w) (place-at ts i) t (pos 0) (l .allowance) s) (reverse (s .printed))
+module _ {P : Type 0} (o : Origin P) where
+  -- the report, and the bytes printed
+  pub data Ran (l : Lent) : RunReport P → List ℕ → Type 0 where
+    run-short : (l .table < TABLE) ⊎ (l .work < WORK) → Ran l (refusal short-memory (o .nowhere)) []
+    run-large : Enough l → ALLOWANCE < l .allowance → Ran l (refusal large-allowance (o .nowhere)) []
+    run-refused : {r : Refusal} {x : P} → Enough l → l .allowance ≤ ALLOWANCE → Refused o r x → Ran l (refusal r x) []
+    run-ended : {ts : List Token} {p : Program} {t : Ty} {e : Ending}
+        → Enough l → l .allowance ≤ ALLOWANCE → Passes o ts p t → ending (l .allowance) (run p (l .allowance) (l .output)) ≡ some e
+        → Ran l (after-run o ts t e) (e .printed)
 
--- The contract of run: the row, the report, and the two memories and the output as they are left (S098 to S100).
-pub record Run (source table work output : List ℕ) (allowance : ℕ) (row : Row) (report : RunReport) (table′ work′ output′ : List ℕ) : Type 0 where
-  pub printed : List ℕ
-  pub answer : Ran source
-      record { table = length table; work = length work; output = length output; allowance = allowance } row report printed
-  pub table-left : table′ ≡ left row TABLE table
-  pub work-left : work′ ≡ left row WORK work
-  pub output-left : output′ ≡ printed ++ drop (length printed) output
+  -- The contract of run: its report, and the two memories and the output as they are left (S098 to S100).
+  pub record Run (table work output : List ℕ) (allowance : ℕ) (report : RunReport P) (table′ work′ output′ : List ℕ) : Type 0 where
+    pub printed : List ℕ
+    pub answer : Ran record { table = length table; work = length work; output = length output; allowance = allowance } report printed
+    pub table-left : table′ ≡ left (report .told) TABLE table
+    pub work-left : work′ ≡ left (report .told) WORK work
+    pub output-left : output′ ≡ printed ++ drop (length printed) output

@@ -1,6 +1,7 @@
 pub mod Sizes
 pub mod Tokens
 pub mod Text
+pub mod Edition
 pub mod Trees
 pub mod Grammar
 pub mod Types

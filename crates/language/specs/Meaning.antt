@@ -6,7 +6,7 @@ use lib.Dec.{eqb, leb, ltb}
 use lib.IntN.{ℤ, pos, negsuc, negℤ, _+ℤ_, _-ℤ_, _*ℤ_}
 use lib.Signed.{ltZ, quotZ}
 use Rattle.language.specs.Sizes.{ACTIVE, CELLS, LARGEST, BYTE}
-use Rattle.language.specs.State.{Value, number, flag, nothing, cell, no-cell, count, held, store, keep, State, with-units, with-cells, with-birth, with-byte, no-unit, too-deep, out-of-range, zero-divisor, cell-freed, cells-full, not-a-byte, output-full, Outcome, value, stop, stuck, then, want-int, want-bool, want-unit, want-cell, want-one, choose, when-some}
+use Rattle.language.specs.State.{Value, number, flag, nothing, cell, no-cell, count, held, store, keep, State, with-units, with-cells, with-birth, with-byte, no-unit, too-deep, out-of-range, zero-divisor, cell-freed, cells-full, not-a-byte, output-full, Outcome, value, stop, stuck, then, as-int, as-bool, as-unit, as-cell, has, choose, when-some, want, only}
 use Rattle.language.specs.Trees.{Ty, int, bool, unit, ref, Literal, whole, truth, trivial, Unary, minus, fetch, new, Binary, add, sub, mul, div, less, equal, and, or, assign, Exp, name, literal, unary, binary, follow, group, block, call, bind, branch, loop, Exps, last, more, own, Param, Def, Program, Scope, empty, push, nearest, PUTCHAR}
 
 -- ---- beginning a node
@@ -44,24 +44,24 @@ create i v s =
     choose (ltb (count (s .cells)) CELLS) (λ _. value (cell (suc (s .births))) (with-birth v s)) λ _. stop cells-full i s
 
 unfoldable pub apply-unary : ℕ → Unary → Value → State → Outcome
-apply-unary i minus v s = want-int v λ x. fit i (negℤ x) s
-apply-unary i Unary.not v s = want-bool v λ b. value (flag (not b)) s
-apply-unary i fetch v s = want-cell v λ b. when-some (held b (s .cells)) (λ w. value w s) λ _. stop cell-freed i s
+apply-unary i minus v s = want (as-int v) λ x. fit i (negℤ x) s
+apply-unary i Unary.not v s = want (as-bool v) λ b. value (flag (not b)) s
+apply-unary i fetch v s = want (as-cell v) λ b. when-some (held b (s .cells)) (λ w. value w s) λ _. stop cell-freed i s
 apply-unary i new v s = create i v s
 
 -- `quotZ` drops the fraction toward zero
 unfoldable pub apply-binary : ℕ → Binary → Value → Value → State → Outcome
-apply-binary i add v w s = want-int v λ x. want-int w λ y. fit i (x +ℤ y) s
-apply-binary i sub v w s = want-int v λ x. want-int w λ y. fit i (x -ℤ y) s
-apply-binary i mul v w s = want-int v λ x. want-int w λ y. fit i (x *ℤ y) s
+apply-binary i add v w s = want (as-int v) λ x. want (as-int w) λ y. fit i (x +ℤ y) s
+apply-binary i sub v w s = want (as-int v) λ x. want (as-int w) λ y. fit i (x -ℤ y) s
+apply-binary i mul v w s = want (as-int v) λ x. want (as-int w) λ y. fit i (x *ℤ y) s
 apply-binary i div v w s =
-    want-int v λ x. want-int w λ y. choose (is-zero y) (λ _. stop zero-divisor i s) λ _. fit i (quotZ x y) s
-apply-binary i less v w s = want-int v λ x. want-int w λ y. value (flag (ltZ x y)) s
-apply-binary i equal v w s = want-int v λ x. want-int w λ y. value (flag (same-int x y)) s
-apply-binary i and v w s = want-bool v λ x. want-bool w λ y. value (flag y) s
-apply-binary i or v w s = want-bool v λ x. want-bool w λ y. value (flag y) s
+    want (as-int v) λ x. want (as-int w) λ y. choose (is-zero y) (λ _. stop zero-divisor i s) λ _. fit i (quotZ x y) s
+apply-binary i less v w s = want (as-int v) λ x. want (as-int w) λ y. value (flag (ltZ x y)) s
+apply-binary i equal v w s = want (as-int v) λ x. want (as-int w) λ y. value (flag (same-int x y)) s
+apply-binary i and v w s = want (as-bool v) λ x. want (as-bool w) λ y. value (flag y) s
+apply-binary i or v w s = want (as-bool v) λ x. want (as-bool w) λ y. value (flag y) s
 apply-binary i assign v w s =
-    want-cell v λ b.
+    want (as-cell v) λ b.
     when-some (held b (s .cells)) (λ _. value nothing (with-cells (store b w (s .cells)) s)) λ _. stop cell-freed i s
 
 -- 003's short circuit: this value on the left is the result, and the right side is not begun
@@ -72,14 +72,8 @@ settles mul v = false
 settles div v = false
 settles less v = false
 settles equal v = false
-settles and (flag b) = not b
-settles and (number z) = false
-settles and nothing = false
-settles and (cell b) = false
-settles or (flag b) = b
-settles or (number z) = false
-settles or nothing = false
-settles or (cell b) = false
+settles and v = has (as-bool v) not
+settles or v = has (as-bool v) λ b. b
 settles assign v = false
 
 -- S065
@@ -120,7 +114,7 @@ module _ (fs : Scope Fun) (go : Exp → Env → State → Outcome) where
 
   -- S057
   unfoldable pub invoke : ℕ → Fun → List Value → State → Outcome
-  invoke i putchar vs s = want-one vs λ v. want-int v λ z. put i z s
+  invoke i putchar vs s = want (only vs) λ v. want (as-int v) λ z. put i z s
   invoke i (defined ps e) vs s = enter ps vs empty λ env. go e env s
 
   -- S058: tests and passes. Every test begins a node, so there are at most as many as units were left at the first, and the
@@ -129,25 +123,25 @@ module _ (fs : Scope Fun) (go : Exp → Env → State → Outcome) where
   passes zero c e env s = stop no-unit (own c) s
   passes (suc n) c e env s =
       then (go c env s) λ v s.
-      want-bool v λ b.
-      choose b (λ _. then (go e env s) λ v s. want-unit v λ _. passes n c e env s) λ _.
+      want (as-bool v) λ b.
+      choose b (λ _. then (go e env s) λ v s. want (as-unit v) λ _. passes n c e env s) λ _.
       value nothing s
 
   unfoldable pub step : Exp → Env → State → Outcome
-  step (name i x) env s = when-some (nearest x env) (λ v. value v s) λ _. stuck
+  step (name i x) env s = want (nearest x env) λ v. value v s
   step (literal i l) env s = value (literal-value l) s
   step (unary i o e) env s = then (go e env s) λ v s. apply-unary i o v s
   step (binary i o e f) env s =
       then (go e env s) λ v s.
       choose (settles o v) (λ _. value v s) λ _.
       then (go f env s) λ w s. apply-binary i o v w s
-  step (follow i e f) env s = then (go e env s) λ v s. want-unit v λ _. go f env s
+  step (follow i e f) env s = then (go e env s) λ v s. want (as-unit v) λ _. go f env s
   step (group i e) env s = go e env s
   -- S061: the cells born since it began are freed
   step (block i e) env s = then (go e env s) λ v t. value v (with-cells (keep (s .births) (t .cells)) t)
-  step (call i f es) env s = arguments es env s λ vs s. when-some (nearest f fs) (λ g. invoke i g vs s) λ _. stuck
+  step (call i f es) env s = arguments es env s λ vs s. want (nearest f fs) λ g. invoke i g vs s
   step (bind i x e f) env s = then (go e env s) λ v s. go f (push x v env) s
-  step (branch i c e f) env s = then (go c env s) λ v s. want-bool v λ b. choose b (λ _. go e env s) λ _. go f env s
+  step (branch i c e f) env s = then (go c env s) λ v s. want (as-bool v) λ b. choose b (λ _. go e env s) λ _. go f env s
   step (loop i c e) env s = passes (s .units) c e env s
 
 -- S056: a node, where d more than it may be active; at none it begins and is too deep

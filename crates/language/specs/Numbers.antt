@@ -1,17 +1,21 @@
--- The table of numbers (S068 to S090): its rows, each with its number.
+-- The table of numbers (S068 to S090): what an answer tells, and the number of it.
 use Prim.Native.Nat.{ℕ}
 use Rattle.language.specs.Text.{Flaw, strange-byte, open-comment, large-number, many-tokens}
 use Rattle.language.specs.Faults.{Reason, no-binding, no-function, wrong-number, wrong-argument, wrong-operand, wrong-operands, not-unit, not-bool, branches-differ, wrong-body, too-many-refs, too-many-functions, too-many-parameters, function-twice, parameter-twice}
 use Rattle.language.specs.State.{Stop, no-unit, too-deep, out-of-range, zero-divisor, cell-freed, cells-full, not-a-byte, output-full}
 
--- what an answer tells
-pub data Row : Type 0 where
-  passed : Row
-  short-memory large-allowance long-source : Row
-  text : Flaw → Row
-  no-reading many-nodes : Row
-  types : Reason → Row
-  stopped : Stop → Row
+-- why nothing is run
+pub data Refusal : Type 0 where
+  short-memory large-allowance long-source : Refusal
+  text : Flaw → Refusal
+  no-reading many-nodes : Refusal
+  types : Reason → Refusal
+
+-- a program passed or ran to a value, or nothing was run, or a run stopped
+pub data Told : Type 0 where
+  passed : Told
+  refused : Refusal → Told
+  stopped : Stop → Told
 
 abbrev pub flaw-number : Flaw → ℕ
 flaw-number strange-byte = 11
@@ -36,6 +40,15 @@ reason-number branches-differ = 33
 reason-number wrong-body = 33
 reason-number too-many-refs = 34
 
+abbrev pub refusal-number : Refusal → ℕ
+refusal-number short-memory = 40
+refusal-number large-allowance = 41
+refusal-number long-source = 10
+refusal-number (text f) = flaw-number f
+refusal-number no-reading = 20
+refusal-number many-nodes = 21
+refusal-number (types r) = reason-number r
+
 abbrev pub stop-number : Stop → ℕ
 stop-number no-unit = 50
 stop-number too-deep = 51
@@ -46,13 +59,7 @@ stop-number cells-full = 55
 stop-number not-a-byte = 56
 stop-number output-full = 57
 
-abbrev pub number : Row → ℕ
+abbrev pub number : Told → ℕ
 number passed = 0
-number short-memory = 40
-number large-allowance = 41
-number long-source = 10
-number (text f) = flaw-number f
-number no-reading = 20
-number many-nodes = 21
-number (types r) = reason-number r
+number (refused r) = refusal-number r
 number (stopped s) = stop-number s

@@ -15,6 +15,36 @@ pub data Value : Type 0 where
   nothing : Value
   cell : ℕ → Value
 
+-- A value by its kind: what it carries if it is of the kind, else none. All that comes after goes by these.
+abbrev pub as-int : Value → Option ℤ
+as-int (number z) = some z
+as-int (flag b) = none
+as-int nothing = none
+as-int (cell b) = none
+
+abbrev pub as-bool : Value → Option Bool
+as-bool (number z) = none
+as-bool (flag b) = some b
+as-bool nothing = none
+as-bool (cell b) = none
+
+abbrev pub as-unit : Value → Option (Unit {0})
+as-unit (number z) = none
+as-unit (flag b) = none
+as-unit nothing = some tt
+as-unit (cell b) = none
+
+abbrev pub as-cell : Value → Option ℕ
+as-cell (number z) = none
+as-cell (flag b) = none
+as-cell nothing = none
+as-cell (cell b) = some b
+
+-- a truth, of which the test holds
+abbrev pub has : Option Bool → (Bool → Bool) → Bool
+has none f = false
+has (some b) f = f b
+
 -- the live cells, the newest first, each with its birth number and what it holds
 pub data Cells : Type 0 where
   no-cell : Cells
@@ -89,35 +119,6 @@ then (value v s) k = k v s
 then (stop w i s) k = stop w i s
 then stuck k = stuck
 
-unfoldable pub want-int : Value → (ℤ → Outcome) → Outcome
-want-int (number z) k = k z
-want-int (flag b) k = stuck
-want-int nothing k = stuck
-want-int (cell b) k = stuck
-
-unfoldable pub want-bool : Value → (Bool → Outcome) → Outcome
-want-bool (number z) k = stuck
-want-bool (flag b) k = k b
-want-bool nothing k = stuck
-want-bool (cell b) k = stuck
-
-unfoldable pub want-unit : Value → (Unit {0} → Outcome) → Outcome
-want-unit (number z) k = stuck
-want-unit (flag b) k = stuck
-want-unit nothing k = k tt
-want-unit (cell b) k = stuck
-
-unfoldable pub want-cell : Value → (ℕ → Outcome) → Outcome
-want-cell (number z) k = stuck
-want-cell (flag b) k = stuck
-want-cell nothing k = stuck
-want-cell (cell b) k = k b
-
-unfoldable pub want-one : List Value → (Value → Outcome) → Outcome
-want-one [] k = stuck
-want-one (v ∷ []) k = k v
-want-one (v ∷ w ∷ vs) k = stuck
-
 -- the arms are functions, so that only the one that is taken is worked out
 unfoldable pub choose : Bool → (Unit {0} → Outcome) → (Unit {0} → Outcome) → Outcome
 choose true x y = x tt
@@ -126,3 +127,13 @@ choose false x y = y tt
 unfoldable pub when-some : {A : Type 0} → Option A → (A → Outcome) → (Unit {0} → Outcome) → Outcome
 when-some none f x = x tt
 when-some (some a) f x = f a
+
+-- what is wanted goes on; where it is not there, it is stuck
+abbrev pub want : {A : Type 0} → Option A → (A → Outcome) → Outcome
+want o f = when-some o f λ _. stuck
+
+-- of one value that value
+unfoldable pub only : List Value → Option Value
+only [] = none
+only (v ∷ []) = some v
+only (v ∷ w ∷ vs) = none

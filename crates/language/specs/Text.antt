@@ -1,5 +1,6 @@
--- How the bytes of a text split into tokens, and the four things that stop a split (S009 to S021; rows 11 to 14).
--- Places are byte offsets. What a piece of text may be is said by its form; that the longest form counts is said once.
+-- How the bytes of a text split into tokens by a vocabulary, and the four things that stop a split (S009 to S021; rows 11
+-- to 14). Places are byte offsets. What a piece of text may be is said by its form; that the longest form counts is said
+-- once.
 use mathlib.Core.Bool.{Bool, true, _&&_, _||_, not}
 use mathlib.Core.List.{List, [], _∷_, _++_}
 use mathlib.Core.Option.{Option, none, some}
@@ -10,7 +11,7 @@ use lib.Dec.{eqb, leb}
 use lib.ListN.{length, getD}
 use lib.Seq.{slice}
 use Rattle.language.specs.Sizes.{TOKENS, LARGEST}
-use Rattle.language.specs.Tokens.{Spelling, spell, Token, NAME, NUMBER, words, marks, spelled}
+use Rattle.language.specs.Tokens.{Spelling, spell, Vocabulary, Token, NAME, NUMBER, spelled}
 
 -- ---- bytes
 
@@ -83,9 +84,6 @@ abbrev pub or-name : Option ℕ → ℕ
 or-name none = NAME
 or-name (some k) = k
 
-unfoldable pub word-kind : Spelling → ℕ
-word-kind s = or-name (spelled words s)
-
 -- S015: digits, read on from the number n
 unfoldable pub number-from : ℕ → Spelling → ℕ
 number-from n [] = n
@@ -96,53 +94,55 @@ pub record Within (t : List ℕ) (p q : ℕ) : Type 0 where
   pub some : p < q
   pub inside : q ≤ length t
 
--- the bytes from p up to q have a form that comes to c, be there a longer one or not
-pub data Form (t : List ℕ) (p q : ℕ) : Content → Type 0 where
-  blank : p < length t → is-blank (byte t p) ≡ true → q ≡ p + 1 → Form t p q space
-  line : Stands t p (spell "//") → p + 2 ≤ q → q ≤ length t → Each is-in-line t (p + 2) q → Form t p q space
-  comment : Comment t p q → Form t p q space
-  unended : Opens t p → ((e : ℕ) → Comment t p e → ⊥) → q ≡ length t → Form t p q unclosed
-  name : Within t p q → is-letter (byte t p) ≡ true → Each is-name-byte t p q → Form t p q (token (word-kind (slice p q t)) 0)
-  number : Within t p q → Each is-digit t p q → Form t p q (token NUMBER (number-from 0 (slice p q t)))
-  mark : {k : ℕ} → Within t p q → spelled marks (slice p q t) ≡ some k → Form t p q (token k 0)
-
--- S010: and no form at p is longer
-pub record Piece (t : List ℕ) (p q : ℕ) (c : Content) : Type 0 where
-  pub form : Form t p q c
-  pub longest : (e : ℕ) (d : Content) → Form t p e d → e ≤ q
-
--- ---- the split
-
 abbrev pub token-of : List ℕ → ℕ → ℕ → ℕ → ℕ → Token
 token-of t p q k v = record { kind = k; value = v; spelling = slice p q t; place = p }
 
--- the first p bytes split into the tokens ts
-pub data Reaches (t : List ℕ) : ℕ → List Token → Type 0 where
-  start : Reaches t 0 []
-  skip : {p q : ℕ} {ts : List Token} → Reaches t p ts → Piece t p q space → Reaches t q ts
-  next : {p q k v : ℕ} {ts us : List Token} → Reaches t p ts → Piece t p q (token k v) → v ≤ LARGEST
-      → us ≡ ts ++ (token-of t p q k v ∷ []) → Reaches t q us
-
--- the whole text splits into the tokens ts, which are not too many
-pub record Splits (t : List ℕ) (ts : List Token) : Type 0 where
-  pub whole : Reaches t (length t) ts
-  pub few : length ts ≤ TOKENS
-
--- ---- what stops a split (rows 11 to 14)
-
+-- what stops a split (rows 11 to 14)
 pub data Flaw : Type 0 where
   strange-byte open-comment large-number many-tokens : Flaw
 
--- what is wrong at p, with the tokens ts before it
-pub data Wrong (t : List ℕ) (p : ℕ) (ts : List Token) : Flaw → Type 0 where
-  strange : p < length t → ((q : ℕ) (c : Content) → Form t p q c → ⊥) → Wrong t p ts strange-byte
-  opened : {q : ℕ} → Piece t p q unclosed → Wrong t p ts open-comment
-  large : {q k v : ℕ} → Piece t p q (token k v) → LARGEST < v → Wrong t p ts large-number
-  many : {q k v : ℕ} → Piece t p q (token k v) → v ≤ LARGEST → length ts ≡ TOKENS → Wrong t p ts many-tokens
+module _ (voc : Vocabulary) where
+  unfoldable pub word-kind : Spelling → ℕ
+  word-kind s = or-name (spelled (voc .words) s)
 
--- the split comes as far as p, and there stands this flaw
-pub record Flawed (t : List ℕ) (f : Flaw) (p : ℕ) : Type 0 where
-  pub tokens : List Token
-  pub before : Reaches t p tokens
-  pub few : length tokens ≤ TOKENS
-  pub here : Wrong t p tokens f
+  -- the bytes from p up to q have a form that comes to c, be there a longer one or not
+  pub data Form (t : List ℕ) (p q : ℕ) : Content → Type 0 where
+    blank : p < length t → is-blank (byte t p) ≡ true → q ≡ p + 1 → Form t p q space
+    line : Stands t p (spell "//") → p + 2 ≤ q → q ≤ length t → Each is-in-line t (p + 2) q → Form t p q space
+    comment : Comment t p q → Form t p q space
+    unended : Opens t p → ((e : ℕ) → Comment t p e → ⊥) → q ≡ length t → Form t p q unclosed
+    name : Within t p q → is-letter (byte t p) ≡ true → Each is-name-byte t p q
+        → Form t p q (token (word-kind (slice p q t)) 0)
+    number : Within t p q → Each is-digit t p q → Form t p q (token NUMBER (number-from 0 (slice p q t)))
+    mark : {k : ℕ} → Within t p q → spelled (voc .marks) (slice p q t) ≡ some k → Form t p q (token k 0)
+
+  -- S010: and no form at p is longer
+  pub record Piece (t : List ℕ) (p q : ℕ) (c : Content) : Type 0 where
+    pub form : Form t p q c
+    pub longest : (e : ℕ) (d : Content) → Form t p e d → e ≤ q
+
+  -- the first p bytes split into the tokens ts
+  pub data Reaches (t : List ℕ) : ℕ → List Token → Type 0 where
+    start : Reaches t 0 []
+    skip : {p q : ℕ} {ts : List Token} → Reaches t p ts → Piece t p q space → Reaches t q ts
+    next : {p q k v : ℕ} {ts us : List Token} → Reaches t p ts → Piece t p q (token k v) → v ≤ LARGEST
+        → us ≡ ts ++ (token-of t p q k v ∷ []) → Reaches t q us
+
+  -- the whole text splits into the tokens ts, which are not too many
+  pub record Splits (t : List ℕ) (ts : List Token) : Type 0 where
+    pub whole : Reaches t (length t) ts
+    pub few : length ts ≤ TOKENS
+
+  -- what is wrong at p, with the tokens ts before it
+  pub data Wrong (t : List ℕ) (p : ℕ) (ts : List Token) : Flaw → Type 0 where
+    strange : p < length t → ((q : ℕ) (c : Content) → Form t p q c → ⊥) → Wrong t p ts strange-byte
+    opened : {q : ℕ} → Piece t p q unclosed → Wrong t p ts open-comment
+    large : {q k v : ℕ} → Piece t p q (token k v) → LARGEST < v → Wrong t p ts large-number
+    many : {q k v : ℕ} → Piece t p q (token k v) → v ≤ LARGEST → length ts ≡ TOKENS → Wrong t p ts many-tokens
+
+  -- the split comes as far as p, and there stands this flaw
+  pub record Flawed (t : List ℕ) (f : Flaw) (p : ℕ) : Type 0 where
+    pub tokens : List Token
+    pub before : Reaches t p tokens
+    pub few : length tokens ≤ TOKENS
+    pub here : Wrong t p tokens f

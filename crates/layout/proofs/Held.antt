@@ -13,21 +13,12 @@ use Rattle.layout.specs.Table.{ROWS-AT, FUNCTIONS-AT, row-word, function
 use Rattle.layout.specs.Names.{Stand}
 use Rattle.layout.specs.Rows.{PARAMETER, below, lay, lay-params, lay-def, def-rows, defs-rows, lay-defs, lay-program, main-row}
 use Rattle.layout.specs.Decode.{ParamsAt, params-none, params-more, FunctionAt, FunctionsAt, functions-none, functions-more, Holds}
-use Rattle.layout.proofs.TableLaws.{kind-same, put-row-five, put-row-other, length-put-row, put-function-same, put-function-other, length-put-function}
+use Rattle.layout.proofs.TokenLaws.{stand-same}
+use Rattle.layout.proofs.TableLaws.{put-row-five, put-row-other, length-put-row, put-function-same, put-function-other, length-put-function}
 use Rattle.layout.proofs.LayLaws.{length-lay, lay-before, length-lay-params, lay-params-other, length-lay-def, length-lay-defs, lay-defs-other, length-lay-program, lay-program-other, lay-other}
 use Rattle.layout.proofs.Owned.{OwnedParams, owned-none, owned-param, IsBlock, is-block, OwnedDef, OwnedDefs, owned-def, reading-owned}
 use Rattle.layout.proofs.Laid.{Agree, last-row, laid-back}
 use Rattle.layout.proofs.FewRows.{few-rows, few-defs}
-
--- words at the tokens that agree stand for the same tokens
-pub stand-same : (v w : List ℕ) (count : ℕ) (ts : List Token) → ((j : ℕ) → j < ROWS-AT → getD v j 0 ≡ getD w j 0) → Stand w count ts → Stand v count ts
-stand-same v w count ts h s = record {
-  long = s .long;
-  few = s .few;
-  kinds = λ i. s .kinds i ∙ kind-same w v count i (λ j l. sym (h j (omega (arith, s .few))));
-  values = λ i l. h _ (omega (arith, s .few)) ∙ s .values i l;
-  places = λ i l. h _ (omega (arith, s .few)) ∙ s .places i l;
-}
 
 -- a body's rows are among its function's
 def-below : (d : Def) (n m : ℕ) → def-rows d + n ≤ m → below (d .body) ≤ m

@@ -11,5 +11,6 @@ pub mod NodesInRows
 pub mod Wiped
 pub mod NameLaws
 pub mod TokenLaws
+pub mod FunctionLaws
 pub mod VariablesWords
 pub mod VariablesTrees

@@ -11,8 +11,8 @@ use borrow.Author.Tests.{eq-eqb, ne-eqb, eqb-true}
 use Rattle.language.specs.Sizes.{TOKENS}
 use Rattle.language.specs.Tokens.{Spelling, same, Token, NAME, PAST, past, kind-at, spelling-at, At}
 use Rattle.language.specs.Trees.{PUTCHAR}
-use Rattle.layout.specs.Table.{token-word}
-use Rattle.layout.specs.Names.{first-from, name-number, payload, Stand}
+use Rattle.layout.specs.Table.{token-value}
+use Rattle.layout.specs.Names.{first-from, name-number, Named, payload, Stand}
 use Rattle.layout.proofs.TokenLaws.{same-self}
 
 -- ---- spellings
@@ -64,13 +64,6 @@ first-of n (t ∷ ts) s i l e = go (same (t .spelling) s) refl i l e λ j m d. f
         record { at = suc (f .at); reached = rw p (f .reached ∙ omega arith); inside = omega (arith, f .inside); spelled = f .spelled }
 
 -- ---- name numbers
-
--- n is the number of the name s, by which a token is spelled
-pub record Named (ts : List Token) (n : ℕ) (s : Spelling) : Type 0 where
-  pub at : ℕ
-  pub inside : at < length ts
-  pub spelled : spelling-at ts at ≡ s
-  pub number : n ≡ name-number ts s
 
 module _ {ts : List Token} (few : length ts ≤ TOKENS) {n : ℕ} {s : Spelling} (h : Named ts n s) where
   -- the number of `putchar` is TOKENS
@@ -132,7 +125,7 @@ name-inside ts i e = go (decLt i (length ts))
 
 -- the fourth word of a token that is a name is its number
 pub named-at : {w : List ℕ} {count : ℕ} {ts : List Token} → Stand w count ts → (i : ℕ) → At ts i NAME
-    → Named ts (token-word w i 3) (spelling-at ts i)
+    → Named ts (token-value w i) (spelling-at ts i)
 unfolding kind-at spelling-at payload
 named-at {w} {count} {ts} st i e =
     let l = name-inside ts i e in

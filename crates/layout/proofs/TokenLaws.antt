@@ -1,5 +1,5 @@
 -- Tokens in a table: what is written is read back, a name keeps its number when tokens follow, and a table laid with tokens
--- stands for them.
+-- stands for them; so does one with the same words there.
 use borrow.Author.Tests.{eq-eqb, lt-ltb, le-ltb}
 use lib.ListN.{length, getD, set, length-set, List·getD-eq-default}
 use lib.Seq.{getD-set-same, getD-set-other}
@@ -11,10 +11,11 @@ use native.Mathlib.Nat.{add-zero, zero-add}
 use native.Mathlib.Omega.{arith}
 use Prim.Native.Nat.{ℕ, zero, suc, _+_, _*_, _≤_, _<_}
 use Rattle.language.proofs.Text.Choices.{either}
-use Rattle.language.specs.Sizes.{TOKENS, TABLE}
-use Rattle.language.specs.Tokens.{Spelling, same, Token, past, kind-at, place-at}
+use Rattle.language.specs.Sizes.{TOKENS, TABLE, LARGEST}
+use Rattle.language.specs.Tokens.{Spelling, same, Token, NUMBER, past, kind-at, value-at, spelling-at, place-at, At}
 use Rattle.layout.specs.Names.{first-from, name-number, payload, lay-tokens, Stand}
-use Rattle.layout.specs.Table.{token-word, kind-of, put-token}
+use Rattle.layout.specs.Table.{ROWS-AT, token-place, token-end, token-value, kind-of, put-token}
+use Rattle.layout.proofs.TableLaws.{kind-same}
 
 -- a spelling is the same as itself
 pub same-self : (s : Spelling) → same s s ≡ true
@@ -85,9 +86,9 @@ lay-more ts u w =
 -- the four words of token i
 pub record Holds (w : List ℕ) (i kind place end value : ℕ) : Type 0 where
   pub kinds : getD w (4 * i) 0 ≡ kind
-  pub places : token-word w i 1 ≡ place
-  pub ends : token-word w i 2 ≡ end
-  pub values : token-word w i 3 ≡ value
+  pub places : token-place w i ≡ place
+  pub ends : token-end w i ≡ end
+  pub values : token-value w i ≡ value
 
 module _ (w : List ℕ) (i a b c d : ℕ) where
   put-length : length (put-token w i a b c d) ≡ length w
@@ -162,11 +163,11 @@ pub lay-holds : (ts : List Token) (w : List ℕ) → 4 * length ts ≤ length w
     → (i : ℕ) → i < length ts → Token-in ts (lay-tokens ts w 0 ts) i (getD ts i past)
 lay-holds ts w l i h = rw zero-add at (lay-from ts w 0 ts (omega arith) i h)
 
--- a table laid with tokens stands for them
-pub lay-stands : (ts : List Token) (w : List ℕ) → length ts ≤ TOKENS → TABLE ≤ length w
+-- a table laid with tokens stands for them, where their numbers are written ones
+pub lay-stands : (ts : List Token) (w : List ℕ) → length ts ≤ TOKENS → ((i : ℕ) → At ts i NUMBER → value-at ts i ≤ LARGEST) → TABLE ≤ length w
     → Stand (lay-tokens ts w 0 ts) (length ts) ts
-unfolding kind-at place-at kind-of
-lay-stands ts w h l =
+unfolding kind-at place-at spelling-at kind-of
+lay-stands ts w h n l =
     let holds = lay-holds ts w (omega arith) in
     record {
       long = refl;
@@ -175,6 +176,20 @@ lay-stands ts w h l =
           ⊎-elim (λ x. rw (lt-ltb i (length ts) x) (sym (holds i x .kinds)))
           (λ x. rw (le-ltb i (length ts) x) (ap (λ u. u .kind) (List·getD-eq-default ts past x)))
           (either i (length ts));
-      values = λ i x. holds i x .values;
       places = λ i x. holds i x .places;
+      ends = λ i x. holds i x .ends;
+      values = λ i x. holds i x .values;
+      written = n;
     }
+
+-- words at the tokens that agree stand for the same tokens
+pub stand-same : (v w : List ℕ) (count : ℕ) (ts : List Token) → ((j : ℕ) → j < ROWS-AT → getD v j 0 ≡ getD w j 0) → Stand w count ts → Stand v count ts
+stand-same v w count ts h s = record {
+  long = s .long;
+  few = s .few;
+  kinds = λ i. s .kinds i ∙ kind-same w v count i (λ j l. sym (h j (omega (arith, s .few))));
+  places = λ i l. h _ (omega (arith, s .few)) ∙ s .places i l;
+  ends = λ i l. h _ (omega (arith, s .few)) ∙ s .ends i l;
+  values = λ i l. h _ (omega (arith, s .few)) ∙ s .values i l;
+  written = s .written;
+}

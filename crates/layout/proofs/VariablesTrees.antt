@@ -12,9 +12,8 @@ use borrow.Author.Tests.{eqb-true, eq-eqb, ne-eqb}
 use Rattle.language.specs.Sizes.{TOKENS, NODES}
 use Rattle.language.specs.Tokens.{Token, Row, _is_, entry, NAME, NUMBER, LET, WHILE, IF, SEMI, LPAR, LBRACE}
 use Rattle.language.specs.Trees.{Exp, Exps, more, Param, Def, Program}
-use Rattle.layout.specs.Table.{ROWS-AT, FUNCTIONS-AT, VARIABLES-AT, row-word, kind-of, without-variables}
-use Rattle.layout.specs.Names.{Stand}
-use Rattle.layout.proofs.TableLaws.{kind-same}
+use Rattle.layout.specs.Table.{ROWS-AT, FUNCTIONS-AT, VARIABLES-AT, row-word, without-variables}
+use Rattle.layout.proofs.TokenLaws.{stand-same}
 use Rattle.layout.proofs.VariablesWords.{length-without, without-before}
 use Rattle.layout.specs.Rows.{CALL, literal-kind, unary-kind, binary-kind}
 use Rattle.layout.specs.Decode.{Shape, a-name, a-number, a-follow, a-group, a-block, a-call, a-let, an-if, a-while, a-constant, a-unary, a-binary, shapes, shape-of, children, build, build-if, tree-at, args-at, Right, RightArgs, ParamsAt, params-none, params-more, FunctionAt, FunctionsAt, functions-none, functions-more, Holds}
@@ -220,17 +219,7 @@ module _ (v w : List ℕ) (alike : (j : ℕ) → j < VARIABLES-AT → getD v j 0
         rw (row-alike i 2 (a .inside) (omega arith), row-alike i 3 (a .inside) (omega arith))
         (ap₂ more (tree-alike f ts _ (a .exp .1)) (args-alike f ts _ (a .next .1)))
 
-  -- the tokens stand for the same list
-  pub stand-alike : {count : ℕ} {ts : List Token} → Stand w count ts → Stand v count ts
-  stand-alike {count} st = record {
-    long = st .long;
-    few = st .few;
-    kinds = λ i. st .kinds i ∙ kind-same w v count i (λ j l. sym (alike j (omega (arith, st .few))));
-    values = λ i h. alike (4 * i + 3) (omega (arith, st .few)) ∙ st .values i h;
-    places = λ i h. alike (4 * i + 1) (omega (arith, st .few)) ∙ st .places i h;
-  }
-
-  -- and so are the functions
+  -- and the parameters
   params-alike : {ts : List Token} {r : ℕ} {ps : List Param} → r + length ps ≤ NODES → ParamsAt ts w r ps → ParamsAt ts v r ps
   params-alike h params-none = params-none
   params-alike {r = r} h (params-more {ps = ps} a n c t q) =
@@ -275,7 +264,7 @@ module _ (v w : List ℕ) (alike : (j : ℕ) → j < VARIABLES-AT → getD v j 0
   holds-alike {ts} {root = root} e h = record {
     depth = h .depth;
     long = omega (arith, h .long);
-    stand = stand-alike (h .stand);
+    stand = stand-same v w _ ts (λ j l. alike j (omega arith)) (h .stand);
     defined = h .defined;
     few = h .few;
     functions = functions-alike (omega (arith, h .defined, h .few, h .stand .few)) (h .functions);

@@ -11,7 +11,7 @@ use Rattle.language.specs.Sizes.{NODES, TABLE}
 use Rattle.language.specs.Tokens.{Token, Row, _is_, entry, At, value-at, spelling-at, NAME, NUMBER, LET, WHILE, IF, REF, NOT, TRUE, FALSE, TT, PLUS, MINUS, STAR, SLASH, AND, OR, LESS, EQUAL, BECOMES, BANG, SEMI, LPAR, LBRACE}
 use Rattle.language.specs.Trees.{Literal, whole, truth, trivial, Unary, minus, not, fetch, new, Binary, add, sub, mul, div, less, equal, Exp, name, literal, unary, binary, follow, group, block, call, bind, branch, loop, Exps, last, more, Param, Def, Program}
 use Rattle.language.specs.Meaning.{type-number}
-use Rattle.layout.specs.Table.{row-word, function-row}
+use Rattle.layout.specs.Table.{KIND, OWN, FIRST, SECOND, THIRD, EXPRESSION, NEXT, TYPE, ARITY, RESULT, BODY, row-word, function-row}
 use Rattle.layout.specs.Names.{Stand}
 use Rattle.layout.specs.Rows.{PREFIX, CALL, below}
 
@@ -75,13 +75,13 @@ unfoldable mutual
   pub tree-at : ℕ → List Token → List ℕ → ℕ → Exp
   tree-at zero ts w i = literal 0 trivial
   tree-at (suc f) ts w i =
-      build-if ts (shape-of (row-word w i 0)) (row-word w i 1) (tree-at f ts w (row-word w i 2)) (tree-at f ts w (row-word w i 3))
-      (tree-at f ts w (row-word w i 4)) (args-at f ts w (row-word w i 2))
+      build-if ts (shape-of (row-word w i KIND)) (row-word w i OWN) (tree-at f ts w (row-word w i FIRST)) (tree-at f ts w (row-word w i SECOND))
+      (tree-at f ts w (row-word w i THIRD)) (args-at f ts w (row-word w i FIRST))
 
   -- the arguments from row i on; row 0 is none
   pub args-at : ℕ → List Token → List ℕ → ℕ → Exps
   args-at zero ts w i = last
-  args-at (suc f) ts w i = cond (eqb i 0) last (more (tree-at f ts w (row-word w i 2)) (args-at f ts w (row-word w i 3)))
+  args-at (suc f) ts w i = cond (eqb i 0) last (more (tree-at f ts w (row-word w i EXPRESSION)) (args-at f ts w (row-word w i NEXT)))
 
 -- ---- rows that are whole: every part is a row before its own, and the tokens are of the kinds that the tree needs
 
@@ -92,21 +92,21 @@ Part right i j = (j < i) × right j
 pub record Node (right rights : ℕ → Type 0) (ts : List Token) (w : List ℕ) (i : ℕ) : Type 0 where
   pub inside : i < NODES
   pub shape : Shape
-  pub known : shape-of (row-word w i 0) ≡ some shape
-  pub named : row-word w i 0 ≡ NAME → At ts (row-word w i 1) NAME
-  pub valued : row-word w i 0 ≡ NUMBER → At ts (row-word w i 1) NUMBER
-  pub called : row-word w i 0 ≡ CALL → At ts (row-word w i 1) NAME
-  pub bound : row-word w i 0 ≡ LET → At ts (row-word w i 1 + 1) NAME
-  pub first : 1 ≤ children shape → Part right i (row-word w i 2)
-  pub second : 2 ≤ children shape → Part right i (row-word w i 3)
-  pub third : 3 ≤ children shape → Part right i (row-word w i 4)
+  pub known : shape-of (row-word w i KIND) ≡ some shape
+  pub named : row-word w i KIND ≡ NAME → At ts (row-word w i OWN) NAME
+  pub valued : row-word w i KIND ≡ NUMBER → At ts (row-word w i OWN) NUMBER
+  pub called : row-word w i KIND ≡ CALL → At ts (row-word w i OWN) NAME
+  pub bound : row-word w i KIND ≡ LET → At ts (row-word w i OWN + 1) NAME
+  pub first : 1 ≤ children shape → Part right i (row-word w i FIRST)
+  pub second : 2 ≤ children shape → Part right i (row-word w i SECOND)
+  pub third : 3 ≤ children shape → Part right i (row-word w i THIRD)
   -- not behind it: a call without arguments has row 0 here, and may be row 0 itself
-  pub args : row-word w i 0 ≡ CALL → (row-word w i 2 ≤ i) × rights (row-word w i 2)
+  pub args : row-word w i KIND ≡ CALL → (row-word w i FIRST ≤ i) × rights (row-word w i FIRST)
 
 pub record Argument (right rights : ℕ → Type 0) (w : List ℕ) (i : ℕ) : Type 0 where
   pub inside : i < NODES
-  pub exp : Part right i (row-word w i 2)
-  pub next : Part rights i (row-word w i 3)
+  pub exp : Part right i (row-word w i EXPRESSION)
+  pub next : Part rights i (row-word w i NEXT)
 
 unfoldable mutual
   pub Right : ℕ → List Token → List ℕ → ℕ → Type 0
@@ -123,23 +123,23 @@ unfoldable mutual
 pub data ParamsAt (ts : List Token) (w : List ℕ) : ℕ → List Param → Type 0 where
   params-none : {r : ℕ} → ParamsAt ts w r []
   params-more : {r : ℕ} {p : Param} {ps : List Param}
-      → row-word w r 1 ≡ p .at → At ts (p .at) NAME → p .called ≡ spelling-at ts (p .at) → row-word w r 2 ≡ type-number (p .type)
+      → row-word w r OWN ≡ p .at → At ts (p .at) NAME → p .called ≡ spelling-at ts (p .at) → row-word w r TYPE ≡ type-number (p .type)
       → ParamsAt ts w (r + 1) ps → ParamsAt ts w r (p ∷ ps)
 
 -- row r is the function d
 pub record FunctionAt (f : ℕ) (ts : List Token) (w : List ℕ) (r : ℕ) (d : Def) : Type 0 where
   pub inside : r < NODES
-  pub at : row-word w r 1 ≡ d .at
+  pub at : row-word w r OWN ≡ d .at
   pub named : d .named ≡ d .at + 1
   pub name : At ts (d .at + 1) NAME
   pub called : d .called ≡ spelling-at ts (d .at + 1)
-  pub count : row-word w r 2 ≡ length (d .params)
+  pub count : row-word w r ARITY ≡ length (d .params)
   pub params : ParamsAt ts w (r + 1) (d .params)
   pub last-param : r + length (d .params) < NODES
-  pub result : row-word w r 3 ≡ type-number (d .result)
-  pub body : tree-at f ts w (row-word w r 4) ≡ d .body
-  pub right : Right f ts w (row-word w r 4)
-  pub block : row-word w (row-word w r 4) 0 ≡ LBRACE
+  pub result : row-word w r RESULT ≡ type-number (d .result)
+  pub body : tree-at f ts w (row-word w r BODY) ≡ d .body
+  pub right : Right f ts w (row-word w r BODY)
+  pub block : row-word w (row-word w r BODY) KIND ≡ LBRACE
   pub room : length (d .params) + below (d .body) < NODES
 
 -- functions k, k + 1, .. are the functions ds

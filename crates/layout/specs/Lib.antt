@@ -1,4 +1,6 @@
 pub mod Table
+pub mod Types
+pub mod Functions
 pub mod Names
 pub mod Rows
 pub mod Decode

@@ -5,10 +5,10 @@ use mathlib.Core.Path.{_≡_}
 use Prim.Native.Nat.{ℕ, suc, _+_, _≤_, _<_}
 use lib.Dec.{eqb}
 use lib.ListN.{length, getD}
-use Rattle.language.specs.Sizes.{TOKENS}
-use Rattle.language.specs.Tokens.{Spelling, same, Token, NAME, NUMBER, past, kind-at, place-at}
+use Rattle.language.specs.Sizes.{TOKENS, LARGEST}
+use Rattle.language.specs.Tokens.{Spelling, same, Token, NAME, NUMBER, past, kind-at, value-at, spelling-at, place-at, At}
 use Rattle.language.specs.Trees.{PUTCHAR}
-use Rattle.layout.specs.Table.{token-word, kind-of, put-token}
+use Rattle.layout.specs.Table.{token-place, token-end, token-value, kind-of, put-token}
 
 -- the ordinal of the first token that is spelled s, the list's first token being the nth; where there is none, that of its end
 unfoldable pub first-from : ℕ → List Token → Spelling → ℕ
@@ -18,6 +18,13 @@ first-from n (t ∷ ts) s = cond (same (t .spelling) s) n (first-from (suc n) ts
 -- the number of the name s among the tokens ts; `putchar` has one that is no token's ordinal
 unfoldable pub name-number : List Token → Spelling → ℕ
 name-number ts s = cond (same s PUTCHAR) TOKENS (first-from 0 ts s)
+
+-- n is the number of the name s, by which a token is spelled
+pub record Named (ts : List Token) (n : ℕ) (s : Spelling) : Type 0 where
+  pub at : ℕ
+  pub inside : at < length ts
+  pub spelled : spelling-at ts at ≡ s
+  pub number : n ≡ name-number ts s
 
 -- the fourth word of the token t, one of ts
 unfoldable pub payload : List Token → Token → ℕ
@@ -34,5 +41,8 @@ pub record Stand (w : List ℕ) (count : ℕ) (ts : List Token) : Type 0 where
   pub long : length ts ≡ count
   pub few : count ≤ TOKENS
   pub kinds : (i : ℕ) → kind-at ts i ≡ kind-of w count i
-  pub values : (i : ℕ) → i < count → token-word w i 3 ≡ payload ts (getD ts i past)
-  pub places : (i : ℕ) → i < count → token-word w i 1 ≡ place-at ts i
+  pub places : (i : ℕ) → i < count → token-place w i ≡ place-at ts i
+  pub ends : (i : ℕ) → i < count → token-end w i ≡ place-at ts i + length (spelling-at ts i)
+  pub values : (i : ℕ) → i < count → token-value w i ≡ payload ts (getD ts i past)
+  -- a number is one that can be written
+  pub written : (i : ℕ) → At ts i NUMBER → value-at ts i ≤ LARGEST

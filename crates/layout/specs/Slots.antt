@@ -2,14 +2,14 @@
 use mathlib.Core.List.{List}
 use Prim.Native.Nat.{ℕ, _+_, _*_}
 use lib.ListN.{getD, set}
-use Rattle.language.specs.Sizes.{ACTIVE}
+use Rattle.language.specs.Sizes.{ACTIVE, PARAMETERS}
 use Rattle.language.specs.State as State
 use Rattle.layout.specs.Values.{tag-of, word-of, value-in}
 use Rattle.layout.specs.declared.values.Value.{Value}
 
 -- how many bindings there is room for, and where the cells begin behind them
 abbrev pub BINDINGS : ℕ
-BINDINGS = 4 * ACTIVE + 8
+BINDINGS = 4 * ACTIVE + PARAMETERS
 
 abbrev pub CELLS-AT : ℕ
 CELLS-AT = 4 * BINDINGS

@@ -16,11 +16,61 @@ FUNCTIONS-AT = 9 * TOKENS
 abbrev pub VARIABLES-AT : ℕ
 VARIABLES-AT = 10 * TOKENS
 
+-- ---- the words of a row
+
+-- of every row its kind and its own token
+abbrev pub KIND : ℕ
+KIND = 0
+
+abbrev pub OWN : ℕ
+OWN = 1
+
+-- of a node its children, as far as it has them; a call's first is its first argument
+abbrev pub FIRST : ℕ
+FIRST = 2
+
+abbrev pub SECOND : ℕ
+SECOND = 3
+
+abbrev pub THIRD : ℕ
+THIRD = 4
+
+-- of an argument its expression and the next argument
+abbrev pub EXPRESSION : ℕ
+EXPRESSION = 2
+
+abbrev pub NEXT : ℕ
+NEXT = 3
+
+-- of a parameter its type's number
+abbrev pub TYPE : ℕ
+TYPE = 2
+
+-- of a function how many parameters it has, its result's type's number, and its body
+abbrev pub ARITY : ℕ
+ARITY = 2
+
+abbrev pub RESULT : ℕ
+RESULT = 3
+
+abbrev pub BODY : ℕ
+BODY = 4
+
 -- ---- reading
 
--- word k of token i: its kind, place, end, and value or name number
+-- word k of token i
 abbrev pub token-word : List ℕ → ℕ → ℕ → ℕ
 token-word w i k = getD w (4 * i + k) 0
+
+-- behind its kind its place, the byte behind its last, and a number's value or a name's number
+abbrev pub token-place : List ℕ → ℕ → ℕ
+token-place w i = token-word w i 1
+
+abbrev pub token-end : List ℕ → ℕ → ℕ
+token-end w i = token-word w i 2
+
+abbrev pub token-value : List ℕ → ℕ → ℕ
+token-value w i = token-word w i 3
 
 -- the kind of token i of the first `count`, 0 past the last
 unfoldable pub kind-of : List ℕ → ℕ → ℕ → ℕ
@@ -30,7 +80,7 @@ kind-of w count i = cond (ltb i count) (getD w (4 * i) 0) 0
 unfoldable pub place-of : List ℕ → ℕ → ℕ → ℕ
 place-of w count i = cond (ltb i count) (getD w (4 * i + 1) 0) 0
 
--- word k of row i: its kind, its own token, and three more
+-- word k of row i
 abbrev pub row-word : List ℕ → ℕ → ℕ → ℕ
 row-word w i k = getD w (ROWS-AT + 5 * i + k) 0
 
@@ -53,8 +103,10 @@ put-token w i kind place end value =
 unfoldable pub put-row : List ℕ → ℕ → ℕ → ℕ → ℕ → ℕ → ℕ → List ℕ
 put-row w i kind own first second third =
     set
-    (set (set (set (set w (ROWS-AT + 5 * i) kind) (ROWS-AT + 5 * i + 1) own) (ROWS-AT + 5 * i + 2) first) (ROWS-AT + 5 * i + 3) second)
-    (ROWS-AT + 5 * i + 4) third
+    (set
+    (set (set (set w (ROWS-AT + 5 * i) kind) (ROWS-AT + 5 * i + OWN) own) (ROWS-AT + 5 * i + FIRST) first)
+    (ROWS-AT + 5 * i + SECOND) second)
+    (ROWS-AT + 5 * i + THIRD) third
 
 unfoldable pub put-function : List ℕ → ℕ → ℕ → List ℕ
 put-function w k row = set w (FUNCTIONS-AT + k) row

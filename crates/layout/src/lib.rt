@@ -10,11 +10,13 @@ pub mod functions;
 pub mod memory;
 pub mod rows;
 pub mod slots;
-pub mod tokens;
+pub mod token;
+pub mod types;
 pub mod values;
 pub mod variables;
 
 use language::ACTIVE;
+use language::PARAMETERS;
 use language::TOKENS;
 
 // Where each region of table memory begins.
@@ -27,10 +29,10 @@ pub const VARIABLES_AT: usize = 10 * TOKENS;
 pub const TABLE_END: usize = 12 * TOKENS;
 
 // How many bindings a run can hold at once: four for each active node, and a body's parameters.
-pub const BINDINGS: usize = 4 * ACTIVE + 8;
+pub const BINDINGS: usize = 4 * ACTIVE + PARAMETERS;
 
 // Where the cells begin in work memory.
 pub const CELLS_AT: usize = 4 * BINDINGS;
 
 // The number of the name `putchar`, which is no token's ordinal.
-pub const PUTCHAR: u32 = 1024;
+pub const PUTCHAR: u32 = TOKENS as u32;

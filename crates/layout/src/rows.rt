@@ -16,7 +16,34 @@ pub const ARGUMENT: u32 = 41;
 
 pub const PARAMETER: u32 = 42;
 
-// Word k of a row: its kind, its own token, and three more.
+// The words of a row. Every row has a kind and an own token.
+pub const KIND: usize = 0;
+
+pub const OWN: usize = 1;
+
+// A node's children, as far as it has them. A call's first is its first argument, 0 where it has none.
+pub const FIRST: usize = 2;
+
+pub const SECOND: usize = 3;
+
+pub const THIRD: usize = 4;
+
+// An argument, whose own token is the call's: its expression, and the next argument, 0 where it is the last.
+pub const EXPRESSION: usize = 2;
+
+pub const NEXT: usize = 3;
+
+// A parameter: its type's number.
+pub const TYPE: usize = 2;
+
+// A function: how many parameters it has, whose rows follow its own, its result's type's number, its body.
+pub const ARITY: usize = 2;
+
+pub const RESULT: usize = 3;
+
+pub const BODY: usize = 4;
+
+// Word k of a row.
 pub fn word(table: &[u32], row: usize, k: usize) -> u32
     requires { ⌜ (TABLE ≤ length (now table)) × (row < NODES) × (k < 5) ⌝ }
     ensures { λ r. ⌜ r ≡ row-word (now (table .entry)) row k ⌝ }
@@ -38,8 +65,8 @@ pub fn put(table: &mut [u32], row: usize, kind: u32, own: u32, first: u32, secon
 {
     let w = ROWS_AT + 5 * row;
     table[w] = kind;
-    table[w + 1] = own;
-    table[w + 2] = first;
-    table[w + 3] = second;
-    table[w + 4] = third;
+    table[w + OWN] = own;
+    table[w + FIRST] = first;
+    table[w + SECOND] = second;
+    table[w + THIRD] = third;
 }

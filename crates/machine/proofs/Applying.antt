@@ -1,28 +1,27 @@
 -- Operators: by the kind of its row each does what the meaning does with its operands.
-use mathlib.Core.Path.{_≡_, refl, sym, subst}
+use mathlib.Core.Path.{_≡_, refl, sym, ap, subst}
 use mathlib.Core.Bool.{Bool, false, not}
 use mathlib.Core.List.{List}
 use mathlib.Core.Option.{none, some}
-use Prim.Native.Nat.{ℕ, _+_, _-_}
+use Prim.Native.Nat.{ℕ, _+_}
 use lib.Dec.{eqb}
 use lib.IntN.{ℤ, negℤ}
 use borrow.Author.Tests.{ne-eqb}
 use Rattle.language.specs.Tokens.{PLUS, MINUS, STAR, SLASH, AND, OR, LESS, BECOMES, NOT, BANG}
 use Rattle.language.specs.Trees.{Unary, minus, fetch, new, Binary, assign}
 use Rattle.language.specs.State as M
-use Rattle.language.specs.State.{number, flag, nothing, cell, value, want-cell}
+use Rattle.language.specs.State.{flag, cell, value, as-int, as-bool, as-cell, has, when-some}
 use Rattle.language.specs.Meaning.{apply-unary, settles}
-use Rattle.language.proofs.Meaning.CellTypes.{cond-all, none-some, some-one}
+use Rattle.language.proofs.Meaning.CellTypes.{cond-all}
 use Rattle.layout.specs.Rows.{PREFIX}
 use Rattle.layout.specs.declared.values.Value.{Value}
 use Rattle.layout.specs.declared.values.Value.the-variants.{Flag}
-use Rattle.machine.specs.Operands.{as-int, as-flag, as-cell}
 use Rattle.machine.specs.Rows.{unary-of, binary-of}
 use Rattle.machine.specs.Outcomes.{Tells, tells, memory, outcome, tally, Room, Fitted, Answered, Applied}
 use Rattle.machine.specs.declared.state.Tally.{Tally}
 use Rattle.machine.specs.declared.state.Outcome.{Outcome}
 use Rattle.machine.specs.declared.state.Outcome.the-variants.{Gives}
-use Rattle.machine.proofs.Telling.{tells-same, int-some, int-none, bool-some, bool-none, cell-some, cell-none}
+use Rattle.machine.proofs.Telling.{tells-same, want-some, want-none}
 use Rattle.machine.proofs.CellLaws.{applied-still}
 
 -- ---- one operand
@@ -39,7 +38,7 @@ module _ (op i : ℕ) (v : M.Value) {w : List ℕ} {s : Tally} (room : Room w s)
   minus-right : {x : ℤ} (r : Outcome) → some x ≡ as-int v → Fitted (negℤ x) i s r → (o : List ℕ)
       → Tells (outcome w o r) (apply-unary i minus v (memory w o s))
   unfolding apply-unary
-  minus-right r e h o = int-some v _ e (tells-same (h .1 w o))
+  minus-right r e h o = want-some _ _ e (tells-same (h .1 w o))
 
   -- - of a number
   pub applies-minus : op ≡ PREFIX + MINUS → {x : ℤ} (r : Outcome) → some x ≡ as-int v → Fitted (negℤ x) i s r
@@ -48,7 +47,7 @@ module _ (op i : ℕ) (v : M.Value) {w : List ℕ} {s : Tally} (room : Room w s)
 
   minus-none : none ≡ as-int v → (q : M.Outcome) (σ : M.State) → Tells q (apply-unary i minus v σ)
   unfolding apply-unary
-  minus-none e q σ = int-none v _ e
+  minus-none e q σ = want-none _ _ e
 
   -- - of something else
   pub stuck-minus : op ≡ PREFIX + MINUS → (r : Outcome) → tally r ≡ s → none ≡ as-int v → Applied 1 (apply-unary i (unary-of op) v) w w s r
@@ -58,21 +57,21 @@ module _ (op i : ℕ) (v : M.Value) {w : List ℕ} {s : Tally} (room : Room w s)
   unfolding unary-of
   is-not e = rw e refl
 
-  not-right : (b : Bool) → some b ≡ as-flag v → (σ : M.State) → Tells (value (flag (not b)) σ) (apply-unary i Unary.not v σ)
+  not-right : (b : Bool) → some b ≡ as-bool v → (σ : M.State) → Tells (value (flag (not b)) σ) (apply-unary i Unary.not v σ)
   unfolding apply-unary
-  not-right b e σ = bool-some v _ e tells
+  not-right b e σ = want-some _ _ e tells
 
   -- not of a truth
-  pub applies-not : op ≡ PREFIX + NOT → (b : Bool) → some b ≡ as-flag v → Applied 1 (apply-unary i (unary-of op) v) w w s (Gives (Flag (not b)) s)
+  pub applies-not : op ≡ PREFIX + NOT → (b : Bool) → some b ≡ as-bool v → Applied 1 (apply-unary i (unary-of op) v) w w s (Gives (Flag (not b)) s)
   applies-not d b e =
       by-unary (is-not d) (applied-still 1 (apply-unary i Unary.not v) (Gives (Flag (not b)) s) room refl (λ o. not-right b e (memory w o s)))
 
-  not-none : none ≡ as-flag v → (q : M.Outcome) (σ : M.State) → Tells q (apply-unary i Unary.not v σ)
+  not-none : none ≡ as-bool v → (q : M.Outcome) (σ : M.State) → Tells q (apply-unary i Unary.not v σ)
   unfolding apply-unary
-  not-none e q σ = bool-none v _ e
+  not-none e q σ = want-none _ _ e
 
   -- not of something else
-  pub stuck-not : op ≡ PREFIX + NOT → (r : Outcome) → tally r ≡ s → none ≡ as-flag v → Applied 1 (apply-unary i (unary-of op) v) w w s r
+  pub stuck-not : op ≡ PREFIX + NOT → (r : Outcome) → tally r ≡ s → none ≡ as-bool v → Applied 1 (apply-unary i (unary-of op) v) w w s r
   stuck-not d r h e = by-unary (is-not d) (applied-still 1 (apply-unary i Unary.not v) r room h (λ o. not-none e _ _))
 
   is-fetch : op ≡ PREFIX + BANG → unary-of op ≡ fetch
@@ -81,8 +80,8 @@ module _ (op i : ℕ) (v : M.Value) {w : List ℕ} {s : Tally} (room : Room w s)
 
   fetch-right : {n : ℕ} (r : Outcome) → some n ≡ as-cell v → (o : List ℕ) → outcome w o r ≡ apply-unary i fetch (cell n) (memory w o s)
       → Tells (outcome w o r) (apply-unary i fetch v (memory w o s))
-  unfolding apply-unary want-cell
-  fetch-right r e o h = cell-some v _ e (tells-same h)
+  unfolding apply-unary when-some
+  fetch-right r e o h = want-some _ _ e (tells-same h)
 
   -- ! of a cell
   pub applies-fetch : op ≡ PREFIX + BANG → {n : ℕ} (r : Outcome) → some n ≡ as-cell v → Answered (apply-unary i fetch (cell n)) w s r
@@ -92,7 +91,7 @@ module _ (op i : ℕ) (v : M.Value) {w : List ℕ} {s : Tally} (room : Room w s)
 
   fetch-none : none ≡ as-cell v → (q : M.Outcome) (σ : M.State) → Tells q (apply-unary i fetch v σ)
   unfolding apply-unary
-  fetch-none e q σ = cell-none v _ e
+  fetch-none e q σ = want-none _ _ e
 
   -- ! of something else
   pub stuck-fetch : op ≡ PREFIX + BANG → (r : Outcome) → tally r ≡ s → none ≡ as-cell v → Applied 1 (apply-unary i (unary-of op) v) w w s r
@@ -110,20 +109,14 @@ module _ (op i : ℕ) (v : M.Value) {w : List ℕ} {s : Tally} (room : Room w s)
 -- ---- whether the left side settles it
 
 -- && by a truth
-pub settles-and : (op : ℕ) → op ≡ AND → (v : M.Value) (b : Bool) → some b ≡ as-flag v → not b ≡ settles (binary-of op) v
+pub settles-and : (op : ℕ) → op ≡ AND → (v : M.Value) (b : Bool) → some b ≡ as-bool v → not b ≡ settles (binary-of op) v
 unfolding settles binary-of
-settles-and op e (number z) b h = absurd (none-some (sym h))
-settles-and op e (flag x) b h = rw (e, some-one h) refl
-settles-and op e nothing b h = absurd (none-some (sym h))
-settles-and op e (cell n) b h = absurd (none-some (sym h))
+settles-and op e v b h = rw e (ap (λ x. has x not) h)
 
 -- || by a truth
-pub settles-or : (op : ℕ) → op ≡ OR → (v : M.Value) (b : Bool) → some b ≡ as-flag v → b ≡ settles (binary-of op) v
+pub settles-or : (op : ℕ) → op ≡ OR → (v : M.Value) (b : Bool) → some b ≡ as-bool v → b ≡ settles (binary-of op) v
 unfolding settles binary-of
-settles-or op e (number z) b h = absurd (none-some (sym h))
-settles-or op e (flag x) b h = rw (e, some-one h) refl
-settles-or op e nothing b h = absurd (none-some (sym h))
-settles-or op e (cell n) b h = absurd (none-some (sym h))
+settles-or op e v b h = rw e (ap (λ x. has x λ c. c) h)
 
 -- every other operator has a property where these have
 by-kind : (P : Binary → Type 0) (op : ℕ) → (op ≡ AND → ⊥) → (op ≡ OR → ⊥) → P assign → P Binary.add → P Binary.sub → P Binary.mul → P Binary.div
@@ -144,7 +137,7 @@ unfolding settles
 settles-no op h g v = by-kind (λ o. false ≡ settles o v) op h g refl refl refl refl refl refl refl
 
 -- no truth
-pub settles-other : (o : Binary) (v : M.Value) → none ≡ as-flag v → false ≡ settles o v
+pub settles-other : (o : Binary) (v : M.Value) → none ≡ as-bool v → false ≡ settles o v
 unfolding settles
 settles-other Binary.add v h = refl
 settles-other Binary.sub v h = refl
@@ -152,12 +145,6 @@ settles-other Binary.mul v h = refl
 settles-other Binary.div v h = refl
 settles-other Binary.less v h = refl
 settles-other Binary.equal v h = refl
-settles-other Binary.and (number z) h = refl
-settles-other Binary.and (flag b) h = absurd (none-some h)
-settles-other Binary.and nothing h = refl
-settles-other Binary.and (cell n) h = refl
-settles-other Binary.or (number z) h = refl
-settles-other Binary.or (flag b) h = absurd (none-some h)
-settles-other Binary.or nothing h = refl
-settles-other Binary.or (cell n) h = refl
+settles-other Binary.and v h = ap (λ x. has x not) h
+settles-other Binary.or v h = ap (λ x. has x λ c. c) h
 settles-other assign v h = refl

@@ -12,7 +12,7 @@ use borrow.Author.Tests.{lt-ltb, le-ltb, ltb-true, ltb-false}
 use Rattle.language.specs.Sizes.{CELLS}
 use Rattle.language.specs.Trees.{new, fetch, assign}
 use Rattle.language.specs.State as M
-use Rattle.language.specs.State.{nothing, cell, Cells, no-cell, live, held, store, value, stop, cell-freed, cells-full, choose, when-some, want-cell, with-cells}
+use Rattle.language.specs.State.{nothing, cell, Cells, no-cell, live, held, store, value, stop, cell-freed, cells-full, choose, when-some, with-cells}
 use Rattle.language.specs.Meaning.{create, apply-unary, apply-binary}
 use Rattle.layout.specs.Slots.{BINDINGS, CELLS-AT, key-at, value-at, put-slot}
 use Rattle.layout.specs.Values.{meant, Survives}
@@ -20,7 +20,7 @@ use Rattle.layout.specs.declared.values.Value.{Value}
 use Rattle.layout.specs.declared.values.Value.the-variants.{Nothing, Cell}
 use Rattle.machine.specs.Slots.{slots, cells-of, Rising, Sought}
 use Rattle.machine.specs.Outcomes.{Tells, memory, outcome, tally, Room, Kept, Means, Ended, Applied}
-use Rattle.machine.specs.declared.Stop.{Stop}
+use Rattle.numbers.specs.declared.Stop.{Stop}
 use Rattle.machine.specs.declared.state.Tally.{Tally}
 use Rattle.machine.specs.declared.state.Outcome.{Outcome}
 use Rattle.machine.specs.declared.state.Outcome.the-variants.{Gives, Halts}
@@ -46,7 +46,7 @@ module _ (place n : ℕ) (w o : List ℕ) (s : Tally) {i : ℕ} (room : Room w s
   -- it is live
   pub fetched : i < s .cells → (v : Value) → meant v ≡ value-at w CELLS-AT i
       → outcome w o (Gives v s) ≡ apply-unary place fetch (cell n) (memory w o s)
-  unfolding apply-unary want-cell when-some
+  unfolding apply-unary when-some
   fetched l v e =
       let q : held n (cells-of (slots w CELLS-AT (s .cells))) ≡ some (meant v) =
       held-slots n (slots w CELLS-AT (s .cells)) ∙ sought-some (room .rising) h l ∙ ap some (sym e) in
@@ -54,7 +54,7 @@ module _ (place n : ℕ) (w o : List ℕ) (s : Tally) {i : ℕ} (room : Room w s
 
   -- it is freed
   pub unfetched : s .cells ≤ i → outcome w o (Halts Stop.CellFreed place s) ≡ apply-unary place fetch (cell n) (memory w o s)
-  unfolding apply-unary want-cell when-some
+  unfolding apply-unary when-some
   unfetched l =
       let q : held n (cells-of (slots w CELLS-AT (s .cells))) ≡ none = held-slots n (slots w CELLS-AT (s .cells)) ∙ sought-none (room .rising) h l in
       rw q refl
@@ -190,7 +190,7 @@ module _ (place n : ℕ) {w w1 : List ℕ} {s : Tally} (v : Value) (room : Room 
   old = cells-of (slots w CELLS-AT (s .cells))
 
   assigned-right : r ≡ true → (o : List ℕ) → Tells (value nothing (memory w1 o s)) (apply-binary place assign (cell n) (meant v) (memory w o s))
-  unfolding apply-binary want-cell
+  unfolding apply-binary when-some
   assigned-right e o =
       tells-by (found-by (held n old) (sym (st .hit) ∙ e) _ _)
       (tells-same (ap (λ (cs : Cells). value nothing (with-cells cs (memory w o s))) (st .now)))
@@ -201,7 +201,7 @@ module _ (place n : ℕ) {w w1 : List ℕ} {s : Tally} (v : Value) (room : Room 
 
   missed-right : r ≡ false → (o : List ℕ)
       → Tells (stop cell-freed place (memory w1 o s)) (apply-binary place assign (cell n) (meant v) (memory w o s))
-  unfolding apply-binary want-cell
+  unfolding apply-binary when-some
   missed-right e o =
       let h : hit (held n old) ≡ false = sym (st .hit) ∙ e in
       tells-by (lost-by (held n old) h _ _)

@@ -13,7 +13,7 @@ use mir.Facts.{toZ-pos}
 use Rattle.language.specs.Sizes.{LARGEST}
 use Rattle.language.specs.Tokens.{NUMBER, TRUE, FALSE}
 use Rattle.language.specs.State as M
-use Rattle.language.specs.State.{number, flag, nothing, value, when-some}
+use Rattle.language.specs.State.{number, flag, nothing, value, when-some, want}
 use Rattle.language.specs.Meaning.{literal-value}
 use Rattle.layout.specs.Table.{row-word}
 use Rattle.machine.specs.Slots.{slots, find, found}
@@ -63,19 +63,19 @@ module _ (w : List ℕ) (row : ℕ) {kind : ℕ} (e : kind ≡ row-word w row 0)
 module _ (w : List ℕ) (key base size : ℕ) (s : Tally) (f : Found) (e : found f ≡ find key (slots w (4 * base) size)) {k : ℕ} (ek : key ≡ k) where
   -- what is told of what was found
   by-found : {y : Option M.Value} → found f ≡ y → (o : List ℕ) (q : M.Outcome)
-      → Tells q (when-some y (λ v. value v (memory w o s)) λ _. M.stuck)
-      → Tells q (when-some (find k (slots w (4 * base) size)) (λ v. value v (memory w o s)) λ _. M.stuck)
+      → Tells q (want y λ v. value v (memory w o s))
+      → Tells q (want (find k (slots w (4 * base) size)) λ v. value v (memory w o s))
   by-found d o q h =
-      tells-by (ap (λ (x : Option M.Value). when-some x (λ v. value v (memory w o s)) λ _. M.stuck)
+      tells-by (ap (λ (x : Option M.Value). want x λ v. value v (memory w o s))
       (ap (λ (x : ℕ). find x (slots w (4 * base) size)) (sym ek) ∙ sym e ∙ d)) h
 
   some-right : {v : Value} → f ≡ Found.Is v → (o : List ℕ)
-      → Tells (outcome w o (Gives v s)) (when-some (find k (slots w (4 * base) size)) (λ x. value x (memory w o s)) λ _. M.stuck)
+      → Tells (outcome w o (Gives v s)) (want (find k (slots w (4 * base) size)) λ x. value x (memory w o s))
   unfolding when-some
   some-right d o = by-found (ap found d) o _ tells
 
   none-right : f ≡ Found.No → (o : List ℕ) (q : M.Outcome)
-      → Tells q (when-some (find k (slots w (4 * base) size)) (λ x. value x (memory w o s)) λ _. M.stuck)
+      → Tells q (want (find k (slots w (4 * base) size)) λ x. value x (memory w o s))
   unfolding when-some
   none-right d o q = by-found (ap found d) o q anything
 

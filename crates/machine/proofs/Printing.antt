@@ -14,21 +14,20 @@ use lib.Signed.{ltZ, nonNeg}
 use borrow.Author.Tests.{le-leb, lt-leb, ltb-true, ltb-false}
 use Rattle.language.specs.Sizes.{BYTE}
 use Rattle.language.specs.State as M
-use Rattle.language.specs.State.{number, value, stop, not-a-byte, output-full, choose, want-int, with-byte}
+use Rattle.language.specs.State.{number, value, stop, not-a-byte, output-full, as-int, choose, want, with-byte}
 use Rattle.language.specs.Meaning.{emit, put}
 use Rattle.layout.specs.declared.values.Value.the-variants.{Int}
-use Rattle.machine.specs.Operands.{as-int}
 use Rattle.machine.specs.Outcomes.{Tells, bytes, memory, outcome, tally, Means, Printed}
-use Rattle.machine.specs.declared.Stop.{Stop}
+use Rattle.numbers.specs.declared.Stop.{Stop}
 use Rattle.machine.specs.declared.state.Tally.{Tally}
 use Rattle.machine.specs.declared.state.Outcome.{Outcome}
 use Rattle.machine.specs.declared.state.Outcome.the-variants.{Gives, Halts}
-use Rattle.machine.proofs.Telling.{tells-same, int-some, int-none}
+use Rattle.machine.proofs.Telling.{tells-same, want-some, want-none}
 use Rattle.machine.proofs.CellLaws.{ended-still}
 
 -- what is printed of a value
 abbrev prints : ℕ → M.Value → Means
-prints i v m = want-int v λ z. put i z m
+prints i v m = want (as-int v) λ z. put i z m
 
 printed-still : (m : Means) {o : List ℕ} {s : Tally} (r : Outcome) → s .printed ≤ length o → tally r ≡ s
     → ((w : List ℕ) → Tells (outcome w o r) (m (memory w o s))) → Printed m o o s r
@@ -53,11 +52,11 @@ module _ (i : ℕ) (v : M.Value) {o : List ℕ} {s : Tally} (p : s .printed ≤ 
   pub put-out : (z : ℤ) → some z ≡ as-int v → ((σ : M.State) → put i z σ ≡ stop not-a-byte i σ)
       → Printed (prints i v) o o s (Halts Stop.NotAByte i s)
   put-out z e h =
-      printed-still (prints i v) (Halts Stop.NotAByte i s) p refl (λ w. int-some v _ e (tells-same (sym (h (memory w o s)))))
+      printed-still (prints i v) (Halts Stop.NotAByte i s) p refl (λ w. want-some _ _ e (tells-same (sym (h (memory w o s)))))
 
   -- no number
   pub put-other-kind : none ≡ as-int v → (r : Outcome) → tally r ≡ s → Printed (prints i v) o o s r
-  put-other-kind e r h = printed-still (prints i v) r p h (λ w. int-none v _ e)
+  put-other-kind e r h = printed-still (prints i v) r p h (λ w. want-none _ _ e)
 
 -- ---- a byte
 
@@ -105,7 +104,7 @@ module _ (i : ℕ) (z : ℤ) (lo : ltZ z (pos 0) ≡ false) (hi : ltZ (pos BYTE)
     put-full v e p h =
         printed-still (prints i v) (Halts Stop.OutputFull i s) p refl
         (λ w.
-        int-some v _ e
+        want-some _ _ e
         (tells-same (sym (put-is (memory w o s) ∙ emit-none (length o - s .printed) i (natAbs z) (memory w o s) (omega arith)))))
 
     module _ (h : s .printed < length o) (o1 : List ℕ) (eo : o1 ≡ set o (s .printed) (natAbs z)) where
@@ -128,7 +127,7 @@ module _ (i : ℕ) (z : ℤ) (lo : ltZ z (pos 0) ≡ false) (hi : ltZ (pos BYTE)
       printed-right : (v : M.Value) → some z ≡ as-int v → (w : List ℕ) → Tells (value (number z) (memory w o1 after)) (prints i v (memory w o s))
       printed-right v e w =
           let r : length o - s .printed - 1 ≡ length o1 - (s .printed + 1) = omega (arith, long) in
-          int-some v _ e
+          want-some _ _ e
           (tells-same (sym (put-is (memory w o s) ∙ emit-some (length o - s .printed) i (natAbs z) (memory w o s) (omega arith)
           ∙ rw (r, ← bytes-are, ← is-positive) refl)))
 

@@ -16,7 +16,7 @@ use Rattle.language.specs.State.{choose}
 use Rattle.language.specs.Meaning.{in-range, fit}
 use Rattle.machine.specs.Outcomes.{outcome, tally, Fitted}
 use Rattle.layout.specs.declared.values.Value.the-variants.{Int}
-use Rattle.machine.specs.declared.Stop.{Stop}
+use Rattle.numbers.specs.declared.Stop.{Stop}
 use Rattle.machine.specs.declared.state.Tally.{Tally}
 use Rattle.machine.specs.declared.state.Outcome.{Outcome}
 use Rattle.machine.specs.declared.state.Outcome.the-variants.{Gives, Halts}

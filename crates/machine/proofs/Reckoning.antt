@@ -14,20 +14,19 @@ use mir.Val.{ofZ, SFits}
 use Rattle.language.specs.Tokens.{PLUS, MINUS, STAR, SLASH, AND, OR, LESS, BECOMES}
 use Rattle.language.specs.Trees.{Binary, assign}
 use Rattle.language.specs.State as M
-use Rattle.language.specs.State.{number, flag, nothing, cell, value, choose, want-int, want-bool}
+use Rattle.language.specs.State.{number, flag, nothing, cell, as-int, as-bool, as-cell, value, choose, when-some, want}
 use Rattle.language.specs.Meaning.{apply-binary, is-zero, same-int}
 use Rattle.language.proofs.Meaning.CellTypes.{cond-all, none-some, some-one}
 use Rattle.layout.specs.Values.{meant}
 use Rattle.layout.specs.declared.values.Value.{Value}
 use Rattle.layout.specs.declared.values.Value.the-variants.{Flag}
-use Rattle.machine.specs.Operands.{as-int, as-cell}
 use Rattle.machine.specs.Rows.{binary-of, OnNumbers}
 use Rattle.machine.specs.Outcomes.{Tells, tells, anything, memory, outcome, tally, Room, Reckoned, Fitted, Applied}
-use Rattle.machine.specs.declared.Stop.{Stop}
+use Rattle.numbers.specs.declared.Stop.{Stop}
 use Rattle.machine.specs.declared.state.Tally.{Tally}
 use Rattle.machine.specs.declared.state.Outcome.{Outcome}
 use Rattle.machine.specs.declared.state.Outcome.the-variants.{Gives, Halts}
-use Rattle.machine.proofs.Telling.{tells-same, int-some, int-none, cell-none}
+use Rattle.machine.proofs.Telling.{tells-same, want-some, want-none, want-any}
 use Rattle.machine.proofs.CellLaws.{applied-still}
 
 -- ---- two numbers
@@ -38,22 +37,22 @@ module _ (op i : ℕ) (x y : ℤ) (s : Tally) (r : Outcome) where
 
   -- +
   pub reckons-add : op ≡ PLUS → Fitted (x +ℤ y) i s r → Reckons
-  unfolding apply-binary want-int binary-of
+  unfolding apply-binary when-some binary-of
   reckons-add e h = (h .0, λ w o. h .1 w o ∙ rw e refl)
 
   -- -
   pub reckons-sub : op ≡ MINUS → Fitted (x -ℤ y) i s r → Reckons
-  unfolding apply-binary want-int binary-of
+  unfolding apply-binary when-some binary-of
   reckons-sub e h = (h .0, λ w o. h .1 w o ∙ rw e refl)
 
   -- *
   pub reckons-mul : op ≡ STAR → Fitted (x *ℤ y) i s r → Reckons
-  unfolding apply-binary want-int binary-of
+  unfolding apply-binary when-some binary-of
   reckons-mul e h = (h .0, λ w o. h .1 w o ∙ rw e refl)
 
   -- / by 0
   pub reckons-zero : op ≡ SLASH → y ≡ pos 0 → r ≡ Halts Stop.ZeroDivisor i s → Reckons
-  unfolding apply-binary want-int choose is-zero binary-of
+  unfolding apply-binary when-some choose is-zero binary-of
   reckons-zero e z h = (ap tally h, λ w o. ap (outcome w o) h ∙ rw (e, z) refl)
 
   not-zero : (z : ℤ) → (z ≡ pos 0 → ⊥) → is-zero z ≡ false
@@ -63,18 +62,18 @@ module _ (op i : ℕ) (x y : ℤ) (s : Tally) (r : Outcome) where
 
   -- /
   pub reckons-div : op ≡ SLASH → (y ≡ pos 0 → ⊥) → Fitted (quotZ x y) i s r → Reckons
-  unfolding apply-binary want-int choose binary-of
+  unfolding apply-binary when-some choose binary-of
   reckons-div e z h = (h .0, λ w o. h .1 w o ∙ rw (e, not-zero y z) refl)
 
   -- <
   pub reckons-less : op ≡ LESS → r ≡ Gives (Flag (ltZ x y)) s → Reckons
-  unfolding apply-binary want-int binary-of
+  unfolding apply-binary when-some binary-of
   reckons-less e h = (ap tally h, λ w o. ap (outcome w o) h ∙ rw e refl)
 
   -- none of these: ==
   pub reckons-equal : OnNumbers op → (op ≡ PLUS → ⊥) → (op ≡ MINUS → ⊥) → (op ≡ STAR → ⊥) → (op ≡ SLASH → ⊥) → (op ≡ LESS → ⊥)
       → r ≡ Gives (Flag (same-int x y)) s → Reckons
-  unfolding apply-binary want-int binary-of
+  unfolding apply-binary when-some binary-of
   reckons-equal n a b c d e h = (
     ap tally h,
     λ w o.
@@ -158,8 +157,8 @@ module _ (op i : ℕ) (a b : M.Value) {w : List ℕ} {s : Tally} (room : Room w 
   left-none : OnNumbers op → none ≡ as-int a → (q : M.Outcome) (σ : M.State) → Tells q (doing σ)
   unfolding apply-binary
   left-none n e q σ =
-      on-numbers (λ x. Tells q (apply-binary i x a b σ)) op n (int-none a _ e) (int-none a _ e) (int-none a _ e) (int-none a _ e)
-      (int-none a _ e) (int-none a _ e)
+      on-numbers (λ x. Tells q (apply-binary i x a b σ)) op n (want-none _ _ e) (want-none _ _ e) (want-none _ _ e) (want-none _ _ e)
+      (want-none _ _ e) (want-none _ _ e)
 
   -- no number on the left
   pub stuck-left : OnNumbers op → (r : Outcome) → tally r ≡ s → none ≡ as-int a → Applied 0 doing w w s r
@@ -168,8 +167,8 @@ module _ (op i : ℕ) (a b : M.Value) {w : List ℕ} {s : Tally} (room : Room w 
   right-none : OnNumbers op → {x : ℤ} → some x ≡ as-int a → none ≡ as-int b → (q : M.Outcome) (σ : M.State) → Tells q (doing σ)
   unfolding apply-binary
   right-none n d e q σ =
-      on-numbers (λ x. Tells q (apply-binary i x a b σ)) op n (int-some a _ d (int-none b _ e)) (int-some a _ d (int-none b _ e))
-      (int-some a _ d (int-none b _ e)) (int-some a _ d (int-none b _ e)) (int-some a _ d (int-none b _ e)) (int-some a _ d (int-none b _ e))
+      on-numbers (λ x. Tells q (apply-binary i x a b σ)) op n (want-some _ _ d (want-none _ _ e)) (want-some _ _ d (want-none _ _ e))
+      (want-some _ _ d (want-none _ _ e)) (want-some _ _ d (want-none _ _ e)) (want-some _ _ d (want-none _ _ e)) (want-some _ _ d (want-none _ _ e))
 
   -- none on the right
   pub stuck-right : OnNumbers op → (r : Outcome) → tally r ≡ s → {x : ℤ} → some x ≡ as-int a → none ≡ as-int b → Applied 0 doing w w s r
@@ -188,7 +187,7 @@ module _ (op i : ℕ) (a b : M.Value) {w : List ℕ} {s : Tally} (room : Room w 
 
   assign-none : none ≡ as-cell a → (q : M.Outcome) (σ : M.State) → Tells q (apply-binary i assign a b σ)
   unfolding apply-binary
-  assign-none e q σ = cell-none a _ e
+  assign-none e q σ = want-none _ _ e
 
   -- := on something else
   pub stuck-assign : op ≡ BECOMES → (r : Outcome) → tally r ≡ s → none ≡ as-cell a → Applied 0 doing w w s r
@@ -198,15 +197,15 @@ module _ (op i : ℕ) (a b : M.Value) {w : List ℕ} {s : Tally} (room : Room w 
 
 -- ---- && and ||
 
-logic : (a b : M.Value) (σ : M.State) → Tells (value b σ) (want-bool a λ x. want-bool b λ y. value (flag y) σ)
-unfolding want-bool
-logic (number z) b σ = anything
-logic nothing b σ = anything
-logic (cell n) b σ = anything
-logic (flag x) (number z) σ = anything
-logic (flag x) (flag y) σ = tells
-logic (flag x) nothing σ = anything
-logic (flag x) (cell n) σ = anything
+itself : (b : M.Value) (σ : M.State) → Tells (value b σ) (want (as-bool b) λ y. value (flag y) σ)
+unfolding when-some
+itself (number z) σ = anything
+itself (flag y) σ = tells
+itself nothing σ = anything
+itself (cell n) σ = anything
+
+logic : (a b : M.Value) (σ : M.State) → Tells (value b σ) (want (as-bool a) λ x. want (as-bool b) λ y. value (flag y) σ)
+logic a b σ = want-any _ _ λ x. itself b σ
 
 module _ (op i : ℕ) (a : M.Value) (v : Value) {w : List ℕ} {s : Tally} (room : Room w s) where
   and-right : op ≡ AND → (σ : M.State) → Tells (value (meant v) σ) (apply-binary i (binary-of op) a (meant v) σ)

@@ -1,12 +1,11 @@
 -- What is told, carried through the meaning: each way of putting outcomes together keeps it.
-use mathlib.Core.Path.{_≡_, refl, sym, subst}
+use mathlib.Core.Path.{_≡_, sym, subst}
 use mathlib.Core.Bool.{Bool, true, false}
 use mathlib.Core.Option.{Option, none, some}
 use Prim.Native.Nat.{ℕ}
 use lib.Dec.{T}
-use lib.IntN.{ℤ}
-use Rattle.language.specs.State.{Value, number, flag, nothing, cell, State, Stop, Outcome, value, stop, then, want-int, want-bool, want-unit, want-cell, choose, when-some, stuck}
-use Rattle.machine.specs.Operands.{is-true, as-int, as-flag, as-cell}
+use Rattle.language.specs.State.{Value, as-bool, has, State, Stop, Outcome, value, stop, then, choose, when-some, want}
+use Rattle.machine.specs.Operands.{is-true}
 use Rattle.machine.specs.Outcomes.{Tells, tells, anything}
 
 -- the outcome is the meaning's
@@ -47,35 +46,27 @@ choose-false x y e h = rw e h
 
 -- the first, by a value that is true
 pub bool-true : (v : Value) {o : Outcome} (x y : Unit {0} → Outcome) → is-true v ≡ true → Tells o (x tt)
-    → Tells o (want-bool v λ b. choose b x y)
-unfolding want-bool choose
-bool-true (number z) x y e h = anything
-bool-true (flag true) x y e h = h
-bool-true (flag false) x y e h = absurd (subst T (sym e) tt)
-bool-true nothing x y e h = anything
-bool-true (cell n) x y e h = anything
+    → Tells o (want (as-bool v) λ b. choose b x y)
+unfolding when-some choose
+bool-true v {o} x y e h = by (as-bool v) e
+  where
+    by : (b : Option Bool) → has b (λ b. b) ≡ true → Tells o (want b λ b. choose b x y)
+    by none d = anything
+    by (some true) d = h
+    by (some false) d = absurd (subst T (sym d) tt)
 
 -- the second, by one that is not
 pub bool-false : (v : Value) {o : Outcome} (x y : Unit {0} → Outcome) → is-true v ≡ false → Tells o (y tt)
-    → Tells o (want-bool v λ b. choose b x y)
-unfolding want-bool choose
-bool-false (number z) x y e h = anything
-bool-false (flag true) x y e h = absurd (subst T e tt)
-bool-false (flag false) x y e h = h
-bool-false nothing x y e h = anything
-bool-false (cell n) x y e h = anything
+    → Tells o (want (as-bool v) λ b. choose b x y)
+unfolding when-some choose
+bool-false v {o} x y e h = by (as-bool v) e
+  where
+    by : (b : Option Bool) → has b (λ b. b) ≡ false → Tells o (want b λ b. choose b x y)
+    by none d = anything
+    by (some true) d = absurd (subst T d tt)
+    by (some false) d = h
 
--- ---- an operand, by its kind
-
--- what is told of unit is told of any value
-pub unit-any : (v : Value) {o : Outcome} (k : Unit {0} → Outcome) → Tells o (k tt) → Tells o (want-unit v k)
-unfolding want-unit
-unit-any (number z) k h = anything
-unit-any (flag b) k h = anything
-unit-any nothing k h = h
-unit-any (cell n) k h = anything
-
--- ---- an operand that is wanted, as one that is looked for among its kind
+-- ---- what is looked for, and what is wanted
 
 -- what was looked for is there
 pub when-is : {A : Type 0} {x : Option A} {o : Outcome} (f : A → Outcome) (y : Unit {0} → Outcome) (a : A) → x ≡ some a → Tells o (f a)
@@ -83,50 +74,17 @@ pub when-is : {A : Type 0} {x : Option A} {o : Outcome} (f : A → Outcome) (y :
 unfolding when-some
 when-is f y a e h = rw e h
 
--- what was looked for is not
-when-not : {A : Type 0} {x : Option A} {o : Outcome} (f : A → Outcome) → x ≡ none → Tells o (when-some x f λ _. stuck)
+-- what is wanted is there
+pub want-some : {A : Type 0} (x : Option A) {a : A} {o : Outcome} (f : A → Outcome) → some a ≡ x → Tells o (f a) → Tells o (want x f)
+want-some x {a} f e h = when-is f _ a (sym e) h
+
+-- what is wanted is not
+pub want-none : {A : Type 0} (x : Option A) {o : Outcome} (f : A → Outcome) → none ≡ x → Tells o (want x f)
 unfolding when-some
-when-not f e = rw e anything
+want-none x f e = rw (← e) anything
 
--- a number
-as-number : (v : Value) (k : ℤ → Outcome) → want-int v k ≡ when-some (as-int v) k (λ _. stuck)
-unfolding want-int when-some
-as-number (number z) k = refl
-as-number (flag b) k = refl
-as-number nothing k = refl
-as-number (cell n) k = refl
-
--- a truth
-as-truth : (v : Value) (k : Bool → Outcome) → want-bool v k ≡ when-some (as-flag v) k (λ _. stuck)
-unfolding want-bool when-some
-as-truth (number z) k = refl
-as-truth (flag b) k = refl
-as-truth nothing k = refl
-as-truth (cell n) k = refl
-
--- a reference
-as-reference : (v : Value) (k : ℕ → Outcome) → want-cell v k ≡ when-some (as-cell v) k (λ _. stuck)
-unfolding want-cell when-some
-as-reference (number z) k = refl
-as-reference (flag b) k = refl
-as-reference nothing k = refl
-as-reference (cell n) k = refl
-
--- the operand is of its kind, or it is not
-pub int-some : (v : Value) {z : ℤ} {o : Outcome} (k : ℤ → Outcome) → some z ≡ as-int v → Tells o (k z) → Tells o (want-int v k)
-int-some v {z} k e h = tells-by (as-number v k) (when-is k (λ _. stuck) z (sym e) h)
-
-pub int-none : (v : Value) {o : Outcome} (k : ℤ → Outcome) → none ≡ as-int v → Tells o (want-int v k)
-int-none v k e = tells-by (as-number v k) (when-not k (sym e))
-
-pub bool-some : (v : Value) {b : Bool} {o : Outcome} (k : Bool → Outcome) → some b ≡ as-flag v → Tells o (k b) → Tells o (want-bool v k)
-bool-some v {b} k e h = tells-by (as-truth v k) (when-is k (λ _. stuck) b (sym e) h)
-
-pub bool-none : (v : Value) {o : Outcome} (k : Bool → Outcome) → none ≡ as-flag v → Tells o (want-bool v k)
-bool-none v k e = tells-by (as-truth v k) (when-not k (sym e))
-
-pub cell-some : (v : Value) {n : ℕ} {o : Outcome} (k : ℕ → Outcome) → some n ≡ as-cell v → Tells o (k n) → Tells o (want-cell v k)
-cell-some v {n} k e h = tells-by (as-reference v k) (when-is k (λ _. stuck) n (sym e) h)
-
-pub cell-none : (v : Value) {o : Outcome} (k : ℕ → Outcome) → none ≡ as-cell v → Tells o (want-cell v k)
-cell-none v k e = tells-by (as-reference v k) (when-not k (sym e))
+-- what is told of every value of the kind is told of any value
+pub want-any : {A : Type 0} (x : Option A) {o : Outcome} (f : A → Outcome) → ((a : A) → Tells o (f a)) → Tells o (want x f)
+unfolding when-some
+want-any none f h = anything
+want-any (some a) f h = h a

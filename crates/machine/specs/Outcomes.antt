@@ -6,27 +6,17 @@ use lib.IntN.{ℤ}
 use lib.ListN.{length, getD}
 use Rattle.language.specs.Sizes.{ALLOWANCE, CELLS, WORK}
 use Rattle.language.specs.State as M
-use Rattle.language.specs.State.{value, stop, when-some, no-unit, too-deep, out-of-range, zero-divisor, cell-freed, cells-full, not-a-byte, output-full}
+use Rattle.language.specs.State.{value, stop, want}
 use Rattle.language.specs.Meaning.{fit}
+use Rattle.numbers.specs.Meanings.{stop-meant}
 use Rattle.layout.specs.Slots.{BINDINGS, CELLS-AT, key-at}
 use Rattle.layout.specs.Values.{meant}
 use Rattle.machine.specs.Slots.{slots, find, cells-of, Same, Rising}
-use Rattle.machine.specs.declared.Stop.{Stop}
 use Rattle.machine.specs.declared.state.Tally.{Tally}
 use Rattle.machine.specs.declared.state.Outcome.{Outcome}
 use Rattle.machine.specs.declared.state.Outcome.the-variants.{Gives, Halts}
 
 -- ---- what the code's words and numbers stand for
-
-abbrev pub why : Stop → M.Stop
-why Stop.NoUnit = no-unit
-why Stop.TooDeep = too-deep
-why Stop.OutOfRange = out-of-range
-why Stop.ZeroDivisor = zero-divisor
-why Stop.CellFreed = cell-freed
-why Stop.CellsFull = cells-full
-why Stop.NotAByte = not-a-byte
-why Stop.OutputFull = output-full
 
 -- the first n bytes of an output, the last first
 unfoldable pub bytes : List ℕ → ℕ → List ℕ
@@ -45,7 +35,7 @@ memory w o s = record {
 
 abbrev pub outcome : List ℕ → List ℕ → Outcome → M.Outcome
 outcome w o (Gives v s) = value (meant v) (memory w o s)
-outcome w o (Halts y p s) = stop (why y) p (memory w o s)
+outcome w o (Halts y p s) = stop (stop-meant y) p (memory w o s)
 
 abbrev pub tally : Outcome → Tally
 tally (Gives v s) = s
@@ -118,4 +108,4 @@ Printed m o o′ s r = (length o′ ≡ length o) × ((w : List ℕ) → Room w 
 pub record Looked (w : List ℕ) (key base size : ℕ) (s : Tally) (r : Outcome) : Type 0 where
   pub same : tally r ≡ s
   pub right : (o : List ℕ)
-      → Tells (outcome w o r) (when-some (find key (slots w (4 * base) size)) (λ v. value v (memory w o s)) λ _. M.stuck)
+      → Tells (outcome w o r) (want (find key (slots w (4 * base) size)) λ v. value v (memory w o s))

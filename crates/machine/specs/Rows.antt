@@ -8,18 +8,18 @@ use lib.ListN.{length}
 use Rattle.language.specs.Sizes.{TOKENS, NODES, TABLE, LARGEST}
 use Rattle.language.specs.Tokens.{NUMBER, TRUE, FALSE, PLUS, MINUS, STAR, SLASH, AND, OR, LESS, BECOMES, NOT, BANG}
 use Rattle.language.specs.Trees.{Literal, whole, truth, trivial, Unary, minus, not, fetch, new, Binary, add, sub, mul, div, less, equal, and, or, assign}
-use Rattle.layout.specs.Table.{token-word, row-word}
+use Rattle.layout.specs.Table.{KIND, OWN, token-value, row-word}
 use Rattle.layout.specs.Rows.{PREFIX}
 
 -- what the token so many behind a row's own carries
 abbrev pub carried : List ℕ → ℕ → ℕ → ℕ
-carried w row behind = token-word w (row-word w row 1 + behind) 3
+carried w row behind = token-value w (row-word w row OWN + behind)
 
 -- a row whose own token carries something
 pub record Named (w : List ℕ) (row : ℕ) : Type 0 where
   pub long : TABLE ≤ length w
   pub inside : row < NODES
-  pub token : row-word w row 1 + 0 < TOKENS
+  pub token : row-word w row OWN + 0 < TOKENS
 
 -- ---- operators, by the kind of their row
 
@@ -38,11 +38,11 @@ OnNumbers k = (k ≡ BECOMES → ⊥) × (k ≡ AND → ⊥) × (k ≡ OR → �
 
 unfoldable pub literal-of : List ℕ → ℕ → Literal
 literal-of w row =
-    cond (eqb (row-word w row 0) NUMBER) (whole (carried w row 0))
-    (cond (eqb (row-word w row 0) TRUE) (truth true) (cond (eqb (row-word w row 0) FALSE) (truth false) trivial))
+    cond (eqb (row-word w row KIND) NUMBER) (whole (carried w row 0))
+    (cond (eqb (row-word w row KIND) TRUE) (truth true) (cond (eqb (row-word w row KIND) FALSE) (truth false) trivial))
 
 pub record LiteralRow (w : List ℕ) (row : ℕ) : Type 0 where
   pub long : TABLE ≤ length w
   pub inside : row < NODES
-  pub token : row-word w row 0 ≡ NUMBER → row-word w row 1 + 0 < TOKENS
-  pub small : row-word w row 0 ≡ NUMBER → carried w row 0 ≤ LARGEST
+  pub token : row-word w row KIND ≡ NUMBER → row-word w row OWN + 0 < TOKENS
+  pub small : row-word w row KIND ≡ NUMBER → carried w row 0 ≤ LARGEST

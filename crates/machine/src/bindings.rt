@@ -41,7 +41,7 @@ pub fn look(table: &[u32], work: &[u32], node: usize, frame: Frame, s: Tally) ->
     requires { ⌜ Named (now table) node × (4 * frame .base + 4 * frame .size ≤ WORK) × (WORK ≤ length (now work)) ⌝ }
     ensures { λ r. ⌜ Looked (now (work .entry)) (carried (now (table .entry)) node 0) (frame .base) (frame .size) s r ⌝ }
 {
-    let place = rows::word(table, node, leaves::OWN);
+    let place = rows::word(table, node, rows::OWN);
     let key = leaves::carried(table, node, leaves::HERE);
     let at = SLOT * frame.base;
     let found = find(work, at, frame.size, key);

@@ -9,13 +9,13 @@ ghost use Rattle.language.specs.Meaning.{apply-unary, apply-binary};
 ghost use Rattle.layout.specs.Values.{meant};
 ghost use Rattle.machine.specs.Slots.{Rising, Sought};
 ghost use Rattle.machine.specs.Outcomes.{Room, Applied, Answered};
-use crate::Stop;
 use crate::state::Outcome;
 use crate::state::Tally;
 use language::CELLS;
 use layout::CELLS_AT;
 use layout::slots;
 use layout::values::Value;
+use numbers::Stop;
 
 // A slot between two.
 fn halfway(low: usize, high: usize) -> usize

@@ -1,7 +1,8 @@
 // An operand as the kind of value that an operator asks for, or as none of that kind.
 ghost use mathlib.Core.Path.{_≡_};
+ghost use Rattle.language.specs.State.{as-int, as-bool, as-cell};
 ghost use Rattle.layout.specs.Values.{meant};
-ghost use Rattle.machine.specs.Operands.{is-true, as-int, as-flag, as-cell, number-in, truth-in, cell-in};
+ghost use Rattle.machine.specs.Operands.{is-true, number-in, truth-in, cell-in};
 use layout::values::Value;
 
 pub enum Number {
@@ -31,7 +32,7 @@ pub fn int_of(v: Value) -> Number
 }
 
 pub fn flag_of(v: Value) -> Truth
-    ensures { λ r. ⌜ truth-in r ≡ as-flag (meant v) ⌝ }
+    ensures { λ r. ⌜ truth-in r ≡ as-bool (meant v) ⌝ }
 {
     match v {
         Value::Int(_) => Truth::Other,

@@ -6,9 +6,8 @@ ghost use Rattle.language.specs.Meaning.{apply-unary, apply-binary, settles};
 ghost use Rattle.layout.specs.Values.{meant};
 ghost use Rattle.machine.specs.Rows.{unary-of, binary-of, OnNumbers};
 ghost use Rattle.machine.specs.Outcomes.{Room, Applied, Reckoned};
-use crate::Stop;
+use crate::arithmetic;
 use crate::cells;
-use crate::numbers;
 use crate::operands;
 use crate::operands::Cell;
 use crate::operands::Number;
@@ -19,6 +18,7 @@ use crate::state::Tally;
 use language::kinds;
 use layout::rows::PREFIX;
 use layout::values::Value;
+use numbers::Stop;
 
 const NEGATE: u32 = PREFIX + kinds::MINUS;
 
@@ -33,7 +33,7 @@ pub fn apply_unary(op: u32, place: u32, work: &mut [u32], v: Value, s: Tally) ->
     if op == NEGATE {
         let n = operands::int_of(v);
         return match n {
-            Number::Is(a) => numbers::negate(place, a, s),
+            Number::Is(a) => arithmetic::negate(place, a, s),
             Number::Other => state::stuck(place, s),
         };
     }
@@ -85,19 +85,19 @@ fn reckon(op: u32, place: u32, a: i32, b: i32, s: Tally) -> Outcome
     ensures { λ r. ⌜ Reckoned (apply-binary place (binary-of op) (number a) (number b)) s r ⌝ }
 {
     if op == kinds::PLUS {
-        return numbers::add(place, a, b, s);
+        return arithmetic::add(place, a, b, s);
     }
     if op == kinds::MINUS {
-        return numbers::subtract(place, a, b, s);
+        return arithmetic::subtract(place, a, b, s);
     }
     if op == kinds::STAR {
-        return numbers::multiply(place, a, b, s);
+        return arithmetic::multiply(place, a, b, s);
     }
     if op == kinds::SLASH {
         if b == 0 {
             return zero_divisor(place, s);
         }
-        return numbers::divide(place, a, b, s);
+        return arithmetic::divide(place, a, b, s);
     }
     if op == kinds::LESS {
         return Outcome::Gives(Value::Flag(a < b), s);

@@ -1,10 +1,9 @@
 // How far a run has come, where its bindings lie, and how a node ends.
 ghost use mathlib.Core.Path.{_≡_};
 ghost use lib.Dec.{eqb};
-ghost use Rattle.machine.specs.declared.Stop.{Stop};
 ghost use Rattle.machine.specs.Outcomes.{tally};
-use crate::Stop;
 use layout::values::Value;
+use numbers::Stop;
 
 // How many words of work memory a slot has.
 pub const SLOT: usize = 4;

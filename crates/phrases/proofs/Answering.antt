@@ -5,7 +5,7 @@ use Prim.Native.Nat.{ℕ, _+_, _≤_, _<_}
 use native.Mathlib.Omega.{arith}
 use Rattle.language.specs.Tokens.{Token}
 use Rattle.language.specs.Trees.{Exp}
-use Rattle.language.proofs.Grammar.Parses.{Result, failed, got}
+use Rattle.language.proofs.Executable.Parses.{Result, failed, got}
 use Rattle.layout.specs.Table.{put-row, without-rows}
 use Rattle.layout.specs.Names.{Stand}
 use Rattle.layout.specs.Rows.{below, lay}

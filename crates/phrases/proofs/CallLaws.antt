@@ -6,10 +6,10 @@ use native.Mathlib.Omega.{arith}
 use Rattle.language.specs.Tokens.{NAME, COMMA, LPAR, RPAR, spelling-at}
 use Rattle.language.specs.Trees.{name, call, Exps, last, more}
 use Rattle.language.specs.Grammar.{atom}
-use Rattle.language.proofs.Grammar.Parses.{got}
-use Rattle.language.proofs.Grammar.Parser.{read}
-use Rattle.language.proofs.Grammar.Settles.{Settles}
-use Rattle.language.proofs.Grammar.SettlesExpressions as S
+use Rattle.language.proofs.Executable.Parses.{got}
+use Rattle.language.proofs.Executable.Parser.{read}
+use Rattle.language.proofs.Executable.Settles.{Settles}
+use Rattle.language.proofs.Executable.SettlesExpressions as S
 use Rattle.layout.specs.Table.{kind-of, put-row}
 use Rattle.layout.specs.Rows.{CALL, ARGUMENT, below, under, head, lay, lay-all}
 use Rattle.phrases.specs.Parts.{Told, Yields, YieldsAll, Written, Topped, Seq, Atom, Closed}

@@ -6,10 +6,10 @@ use native.Mathlib.Omega.{arith}
 use Rattle.language.specs.Tokens.{Token, At, WHILE, IF, THEN, ELSE, LBRACE, RBRACE}
 use Rattle.language.specs.Trees.{Exp, block, branch, loop}
 use Rattle.language.specs.Grammar.{item}
-use Rattle.language.proofs.Grammar.Parses.{Result, failed, got}
-use Rattle.language.proofs.Grammar.Parser.{read, until}
-use Rattle.language.proofs.Grammar.Settles.{Settles}
-use Rattle.language.proofs.Grammar.SettlesExpressions as S
+use Rattle.language.proofs.Executable.Parses.{Result, failed, got}
+use Rattle.language.proofs.Executable.Parser.{read, until}
+use Rattle.language.proofs.Executable.Settles.{Settles}
+use Rattle.language.proofs.Executable.SettlesExpressions as S
 use Rattle.layout.specs.Table.{kind-of, put-row}
 use Rattle.layout.specs.Rows.{below, lay}
 use Rattle.phrases.specs.Parts.{Told, Yields, Halts, Topped, Item, Assign, Until}

@@ -8,7 +8,7 @@ use native.Mathlib.Omega.{arith}
 use Rattle.language.specs.Tokens.{Means, kind-at, value-at, NAME, NUMBER, BECOMES, LPAR, RPAR, LBRACE, RBRACE}
 use Rattle.language.specs.Trees.{whole, Binary, literal, unary, binary, group, block}
 use Rattle.language.specs.Grammar.{prefixes, constants}
-use Rattle.language.proofs.Grammar.SettlesExpressions as S
+use Rattle.language.proofs.Executable.SettlesExpressions as S
 use Rattle.layout.specs.Table.{kind-of, put-row}
 use Rattle.layout.specs.Rows.{PREFIX, below, lay, literal-kind, binary-kind}
 use Rattle.phrases.specs.Parts.{in-table, Yields, Halts, Written, Topped, Assign, Tier, Un, Atom, Until}

@@ -10,7 +10,7 @@ use Rattle.language.specs.Tokens.{Row, entry, PAST, RBRACE}
 use Rattle.language.specs.Trees.{Literal, Unary, Binary}
 use Rattle.language.specs.Grammar.{or, and, sum, prod, operators, comparisons, prefixes, constants}
 use Rattle.language.proofs.Grammar.Entries.{every, entry-passes}
-use Rattle.language.proofs.Grammar.Climbing.{Joins, joins-or, joins-and, joins-cmp, joins-sum, joins-prod}
+use Rattle.language.proofs.Executable.Climbing.{Joins, joins-or, joins-and, joins-cmp, joins-sum, joins-prod}
 use Rattle.layout.specs.Table.{kind-of}
 use Rattle.layout.specs.Rows.{PREFIX, literal-kind, unary-kind, binary-kind}
 use Rattle.layout.proofs.TableLaws.{kind-within}

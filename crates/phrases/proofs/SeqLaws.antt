@@ -5,7 +5,7 @@ use Prim.Native.Nat.{ℕ, _+_, _≤_}
 use native.Mathlib.Omega.{arith}
 use Rattle.language.specs.Tokens.{NAME, LET, IN, IS, SEMI, spelling-at}
 use Rattle.language.specs.Trees.{follow, bind}
-use Rattle.language.proofs.Grammar.SettlesExpressions as S
+use Rattle.language.proofs.Executable.SettlesExpressions as S
 use Rattle.layout.specs.Table.{kind-of, put-row}
 use Rattle.layout.specs.Rows.{below, lay}
 use Rattle.phrases.specs.Parts.{Yields, Halts, Topped, Seq, Let, Item, Until}

@@ -11,7 +11,7 @@ use Rattle.layout.specs.Names.{Stand}
 use Rattle.layout.specs.Rows.{lay, lay-params, lay-def, def-rows}
 use Rattle.layout.proofs.TableLaws.{kind-within, put-row-before, put-function-other}
 use Rattle.layout.proofs.LayLaws.{lay-before, lay-params-other, lay-def-other}
-use Rattle.layout.proofs.Held.{stand-same}
+use Rattle.layout.proofs.TokenLaws.{stand-same}
 
 -- ---- kinds
 

@@ -11,10 +11,10 @@ use Rattle.language.specs.Sizes.{TOKENS, NODES, TABLE}
 use Rattle.language.specs.Tokens.{Token, Row, entry}
 use Rattle.language.specs.Trees.{Exp, Exps}
 use Rattle.language.specs.Grammar.{un, seq, bound, item, assign, atom, tier}
-use Rattle.language.proofs.Grammar.Parses.{Result, failed, got}
-use Rattle.language.proofs.Grammar.Parser.{read, until, closed}
-use Rattle.language.proofs.Grammar.Settles.{Settles}
-use Rattle.language.proofs.Grammar.Climbing.{tier-of, More}
+use Rattle.language.proofs.Executable.Parses.{Result, failed, got}
+use Rattle.language.proofs.Executable.Parser.{read, until, closed}
+use Rattle.language.proofs.Executable.Settles.{Settles}
+use Rattle.language.proofs.Executable.Climbing.{tier-of, More}
 use Rattle.layout.specs.Table.{without-rows}
 use Rattle.layout.specs.Names.{Stand}
 use Rattle.layout.specs.Rows.{below, under, head, lay, lay-all}

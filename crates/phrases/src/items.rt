@@ -11,7 +11,7 @@ use crate::parts::around;
 use crate::parts::choice;
 use crate::parts::pair;
 use language::kinds;
-use layout::tokens::kind;
+use layout::token::kind;
 
 // A Seq and the token `mark` behind it, at which it stops.
 pub fn until(table: &mut [u32], count: usize, at: usize, free: usize, mark: u32) -> Part

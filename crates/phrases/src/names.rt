@@ -12,7 +12,7 @@ use crate::parts::pair;
 use language::kinds;
 use layout::rows::ARGUMENT;
 use layout::rows::CALL;
-use layout::tokens::kind;
+use layout::token::kind;
 
 // At a name, which is called where `(` stands behind it.
 pub fn name_or_call(table: &mut [u32], count: usize, at: usize, free: usize) -> Part

@@ -18,7 +18,7 @@ use crate::parts::pair;
 use language::kinds;
 use layout::rows::PREFIX;
 use layout::rows::put;
-use layout::tokens::kind;
+use layout::token::kind;
 
 // `:=` does not chain.
 pub fn assign(table: &mut [u32], count: usize, at: usize, free: usize) -> Part

@@ -2,7 +2,7 @@
 ghost use mathlib.Core.Path.{_≡_};
 ghost use Rattle.language.specs.Grammar.{prefixes, constants};
 ghost use Rattle.phrases.specs.Parts.{in-table};
-ghost use Rattle.language.proofs.Grammar.Climbing.{tightness as TIGHTNESS, after as AFTER};
+ghost use Rattle.language.proofs.Executable.Climbing.{tightness as TIGHTNESS, after as AFTER};
 use language::kinds;
 
 // How tightly the operators of each level bind, the loosest first. Comparisons do not chain: what may

@@ -8,10 +8,10 @@ use Rattle.language.specs.Sizes.{NODES}
 use Rattle.language.specs.Tokens.{Token, At, NAME, DEF, COMMA, COLON, LPAR, RPAR}
 use Rattle.language.specs.Trees.{Ty, Exp, Param, Def}
 use Rattle.language.specs.Grammar.{param, define, def, formals}
-use Rattle.language.proofs.Grammar.Parses.{failed, got}
-use Rattle.language.proofs.Grammar.Parser.{read, result}
-use Rattle.language.proofs.Grammar.Settles.{Settles}
-use Rattle.language.proofs.Grammar.SettlesPrograms as S
+use Rattle.language.proofs.Executable.Parses.{failed, got}
+use Rattle.language.proofs.Executable.Parser.{read, result}
+use Rattle.language.proofs.Executable.Settles.{Settles}
+use Rattle.language.proofs.Executable.SettlesPrograms as S
 use Rattle.layout.specs.Table.{kind-of, put-row, without-rows}
 use Rattle.layout.specs.Names.{Stand}
 use Rattle.layout.specs.Rows.{PARAMETER, below, lay, lay-params, lay-def, def-rows}

@@ -8,7 +8,7 @@ use Rattle.language.specs.Sizes.{NODES, TABLE}
 use Rattle.language.specs.Tokens.{Token}
 use Rattle.language.specs.Trees.{Program, program-nodes}
 use Rattle.language.specs.Grammar.{Reading}
-use Rattle.language.proofs.Grammar.Settles.{settles-once}
+use Rattle.language.proofs.Executable.Settles.{settles-once}
 use Rattle.language.proofs.Grammar.OneReading.{one-reading}
 use Rattle.layout.specs.Names.{Stand}
 use Rattle.layout.specs.Decode.{Holds}

@@ -7,8 +7,8 @@ use Rattle.language.specs.Sizes.{TOKENS, NODES}
 use Rattle.language.specs.Tokens.{Token, DEF}
 use Rattle.language.specs.Trees.{Program}
 use Rattle.language.specs.Grammar.{before}
-use Rattle.language.proofs.Grammar.Settles.{settled-reading, settled-none}
-use Rattle.language.proofs.Grammar.SettlesPrograms as S
+use Rattle.language.proofs.Executable.Settles.{settled-reading, settled-none}
+use Rattle.language.proofs.Executable.SettlesPrograms as S
 use Rattle.layout.specs.Table.{kind-of, put-function, without-rows}
 use Rattle.layout.specs.Names.{Stand}
 use Rattle.layout.specs.Rows.{lay, lay-def, def-rows, defs-rows, lay-defs, lay-program, main-row}

@@ -10,7 +10,8 @@ use Rattle.language.specs.Trees.{Ty, int, bool, unit, ref}
 use Rattle.language.specs.Grammar.{basics}
 use Rattle.language.specs.Meaning.{type-number}
 use Rattle.language.proofs.Grammar.Entries.{every, entry-passes}
-use Rattle.language.proofs.Grammar.SettlesPrograms as S
+use Rattle.language.proofs.Executable.SettlesPrograms as S
+use Rattle.layout.specs.Types as Types
 use Rattle.layout.specs.Table.{kind-of}
 use Rattle.layout.proofs.TableLaws.{kind-within}
 use Rattle.phrases.specs.Parts.{Told}
@@ -27,14 +28,14 @@ known-type {T} {count} {lo} {hi} {w} a e = subst (TypeAnswer T count w lo hi) e 
 
 module _ {count n number : ℕ} {w : List ℕ} where
   -- no `ref`
-  pub refs-end : n ≤ count → number ≤ 8 * n + 3 → (kind-of w count n ≡ REF → ⊥) → RefsAnswer count w n number (Typing.Type number n)
+  pub refs-end : n ≤ count → number ≤ Types.REF * n + Types.PLAIN → (kind-of w count n ≡ REF → ⊥) → RefsAnswer count w n number (Typing.Type number n)
   refs-end i j h = record {
     told = λ ts s t e. record { type = t; told = S.refs-end (not-at n s h); numbered = e };
     ahead = record { least = omega arith; most = omega arith; small = j };
   }
 
   -- a `ref`, and what is behind it
-  pub refs-more : (g : Typing) → kind-of w count n ≡ REF → RefsAnswer count w (n + 1) (8 + number) g → RefsAnswer count w n number g
+  pub refs-more : (g : Typing) → kind-of w count n ≡ REF → RefsAnswer count w (n + 1) (Types.REF + number) g → RefsAnswer count w n number g
   unfolding type-number
   refs-more (Typing.Type x m) h a = record {
     told = λ ts s t e.

@@ -8,10 +8,11 @@ use Rattle.language.specs.Tokens.{Token, entry}
 use Rattle.language.specs.Trees.{Ty, Param, Def, Program}
 use Rattle.language.specs.Grammar.{type, params, formals, def, program, basics}
 use Rattle.language.specs.Meaning.{type-number}
-use Rattle.language.proofs.Grammar.Parses.{Result, failed, got}
-use Rattle.language.proofs.Grammar.Parser.{read, refs, result}
-use Rattle.language.proofs.Grammar.Settles.{Settles}
+use Rattle.language.proofs.Executable.Parses.{Result, failed, got}
+use Rattle.language.proofs.Executable.Parser.{read, refs, result}
+use Rattle.language.proofs.Executable.Settles.{Settles}
 use Rattle.layout.specs.Table.{without-rows}
+use Rattle.layout.specs.Types.{REF, PLAIN}
 use Rattle.layout.specs.Names.{Stand}
 use Rattle.layout.specs.Rows.{below, lay, lay-params, lay-def, def-rows, defs-rows, lay-defs}
 use Rattle.phrases.specs.Parts.{Told}
@@ -64,7 +65,7 @@ TypeOutcome T (Typing.None e) = T (failed e)
 pub record Numbered (lo hi number m : ℕ) : Type 0 where
   pub least : lo ≤ m
   pub most : m < hi
-  pub small : number ≤ 8 * m + 3
+  pub small : number ≤ REF * m + PLAIN
 
 abbrev pub TypeAhead : ℕ → ℕ → Typing → Type 0
 TypeAhead lo hi (Typing.Type number m) = Numbered lo hi number m

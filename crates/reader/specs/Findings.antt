@@ -7,9 +7,9 @@ use Rattle.language.specs.Sizes.{NODES}
 use Rattle.language.specs.Tokens.{Token}
 use Rattle.language.specs.Trees.{Program, program-nodes}
 use Rattle.language.specs.Grammar.{Reading}
-use Rattle.language.proofs.Grammar.Parses.{failed}
-use Rattle.language.proofs.Grammar.Parser.{entire}
-use Rattle.language.proofs.Grammar.Settles.{Settles}
+use Rattle.language.proofs.Executable.Parses.{failed}
+use Rattle.language.proofs.Executable.Parser.{entire}
+use Rattle.language.proofs.Executable.Settles.{Settles}
 use Rattle.layout.specs.Table.{without-rows}
 use Rattle.layout.specs.Rows.{lay-program, main-row}
 use Rattle.reader.specs.declared.Found.{Found}

@@ -14,7 +14,7 @@ use language::kinds;
 use layout::functions;
 use layout::rows;
 use layout::rows::PARAMETER;
-use layout::tokens::kind;
+use layout::token::kind;
 use phrases::items::seq;
 use phrases::items::until;
 use phrases::parts::Part;

@@ -3,18 +3,11 @@ ghost use mathlib.Core.Path.{_≡_};
 ghost use Prim.Native.Nat.{_+_, _*_, _≤_};
 ghost use lib.ListN.{length};
 ghost use Rattle.language.specs.Sizes.{TOKENS, TABLE};
+ghost use Rattle.layout.specs.Types.{REF, PLAIN};
 ghost use Rattle.reader.specs.Definitions.{TypeAnswer, RefsAnswer, Typeful, Resulting, basic-number};
 use language::kinds;
-use layout::tokens::kind;
-
-// The numbers of the types that are one word, and how much more a `ref` is.
-const INT: u32 = 1;
-
-const BOOL: u32 = 2;
-
-const UNIT: u32 = 3;
-
-const REF: u32 = 8;
+use layout::token::kind;
+use layout::types;
 
 pub enum Typing {
     // Its number, and the token behind it.
@@ -28,20 +21,20 @@ fn basic(k: u32) -> u32
     ensures { λ r. ⌜ r ≡ basic-number k ⌝ }
 {
     match k {
-        kinds::INT => INT,
-        kinds::BOOL => BOOL,
-        kinds::UNIT => UNIT,
+        kinds::INT => types::INT,
+        kinds::BOOL => types::BOOL,
+        kinds::UNIT => types::UNIT,
         _ => 0,
     }
 }
 
 // Each `ref` behind a type.
 fn refs(table: &[u32], count: usize, at: usize, number: u32) -> Typing
-    requires { ⌜ (TABLE ≤ length (now table)) × (count ≤ TOKENS) × (at ≤ count) × (number ≤ 8 * at + 3) ⌝ }
+    requires { ⌜ (TABLE ≤ length (now table)) × (count ≤ TOKENS) × (at ≤ count) × (number ≤ REF * at + PLAIN) ⌝ }
     ensures { λ g. ⌜ RefsAnswer count (now (table .entry)) at number g ⌝ }
 {
     if kind(table, count, at) == kinds::REF {
-        refs(table, count, at + 1, REF + number)
+        refs(table, count, at + 1, types::REF + number)
     } else {
         Typing::Type {
             number: number,

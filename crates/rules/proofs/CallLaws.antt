@@ -12,12 +12,12 @@ use Rattle.language.specs.Trees.{Ty, int, Param}
 use Rattle.language.specs.Types.{sig}
 use Rattle.language.specs.Meaning.{type-number}
 use Rattle.language.proofs.Types.TypeNumbers.{one-number}
-use Rattle.language.proofs.Types.Verdict.{after-ok, after-bad, told-some, told-none}
-use Rattle.language.proofs.Types.Checker.{infer}
+use Rattle.language.proofs.Executable.Checks.{after-ok, after-bad, told-some, told-none}
+use Rattle.language.proofs.Executable.Checker.{infer}
 use Rattle.layout.specs.Table.{row-word}
 use Rattle.layout.specs.Decode.{ParamsAt, params-none, params-more}
 use Rattle.rules.specs.Asked.{suits, Matches, AsksCall}
-use Rattle.rules.specs.declared.Reason.the-variants.{NoFunction}
+use Rattle.numbers.specs.declared.Reason.the-variants.{NoFunction}
 use Rattle.rules.specs.declared.Typing.{Typing}
 use Rattle.rules.specs.declared.Typing.the-variants as Typing
 use Rattle.rules.specs.declared.sight.Callee.{Callee}

@@ -1,4 +1,3 @@
-pub mod ReasonLaws
 pub mod TellLaws
 pub mod SightLaws
 pub mod OperatorLaws

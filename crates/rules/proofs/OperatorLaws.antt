@@ -10,11 +10,12 @@ use Rattle.language.specs.Trees.{Ty, int, bool, unit, ref, refs, Ty-discrete, U
 use Rattle.language.specs.Faults.{unsuited, wrong-operands}
 use Rattle.language.specs.Meaning.{type-number}
 use Rattle.language.proofs.Types.TypeNumbers.{one-number, number-refs}
-use Rattle.language.proofs.Types.Verdict.{ok, bad, told, told-some, told-none}
-use Rattle.language.proofs.Types.Operators.{if-yes, both, unop, binop}
+use Rattle.language.proofs.Executable.Checks.{ok, bad, told, told-some, told-none}
+use Rattle.language.proofs.Executable.Operators.{if-yes, both, unop, binop}
+use Rattle.layout.specs.Types.{REF, FULL}
 use Rattle.layout.specs.Rows.{unary-kind, binary-kind}
 use Rattle.rules.specs.Asked.{Tells, Prefixed, Between, operand, result, Operand, Result}
-use Rattle.rules.specs.declared.Reason.the-variants.{WrongOperands}
+use Rattle.numbers.specs.declared.Reason.the-variants.{WrongOperands}
 use Rattle.rules.specs.declared.Typing.{Typing}
 use Rattle.rules.specs.declared.Typing.the-variants as Typing
 use Rattle.rules.proofs.TellLaws.{type-is, fault-is}
@@ -60,36 +61,36 @@ both-not (no p) e t h = refl
 
 module _ {n : ℕ} (i : ℕ) (t : Ty) (p : n ≡ type-number t) where
   -- what a reference holds
-  pub fetch-some : 8 < n → Tells (Typing.«Type» (n - 8)) (told (unop fetch t) (unsuited fetch) i)
+  pub fetch-some : REF < n → Tells (Typing.«Type» (n - REF)) (told (unop fetch t) (unsuited fetch) i)
   unfolding unop type-number told
   fetch-some = go t p
     where
-      go : (t : Ty) → n ≡ type-number t → 8 < n → Tells (Typing.«Type» (n - 8)) (told (unop fetch t) (unsuited fetch) i)
+      go : (t : Ty) → n ≡ type-number t → REF < n → Tells (Typing.«Type» (n - REF)) (told (unop fetch t) (unsuited fetch) i)
       go int p h = absurd (omega arith)
       go bool p h = absurd (omega arith)
       go unit p h = absurd (omega arith)
       go (ref u) p h = type-is u refl (omega arith)
 
   -- and nothing else holds anything
-  pub fetch-none : n ≤ 8 → told (unop fetch t) (unsuited fetch) i ≡ bad (unsuited fetch) i
+  pub fetch-none : n ≤ REF → told (unop fetch t) (unsuited fetch) i ≡ bad (unsuited fetch) i
   unfolding unop type-number told
   fetch-none = go t p
     where
-      go : (t : Ty) → n ≡ type-number t → n ≤ 8 → told (unop fetch t) (unsuited fetch) i ≡ bad (unsuited fetch) i
+      go : (t : Ty) → n ≡ type-number t → n ≤ REF → told (unop fetch t) (unsuited fetch) i ≡ bad (unsuited fetch) i
       go int p h = refl
       go bool p h = refl
       go unit p h = refl
       go (ref u) p h = let k = number-refs u in absurd (omega (arith, k .0))
 
   -- one `ref` more, where there is room for it
-  pub new-some : n < 120 → Tells (Typing.«Type» (n + 8)) (told (unop new t) (unsuited new) i)
+  pub new-some : n < FULL → Tells (Typing.«Type» (n + REF)) (told (unop new t) (unsuited new) i)
   unfolding unop type-number
   new-some h =
       let k = number-refs t in
       type-is (ref t) (told-some _ _ (if-is (decLt (refs t) REFS) (ref t) (omega (arith, k .0)))) (omega arith)
 
   -- and else too many
-  pub new-none : 120 ≤ n → told (unop new t) (unsuited new) i ≡ bad (unsuited new) i
+  pub new-none : FULL ≤ n → told (unop new t) (unsuited new) i ≡ bad (unsuited new) i
   unfolding unop
   new-none h = let k = number-refs t in told-none _ _ (if-not (decLt (refs t) REFS) (ref t) (λ l. omega (arith, k .1)))
 
@@ -131,22 +132,22 @@ module _ {k n : ℕ} (i : ℕ) {r : Typing} where
 
 module _ {m n : ℕ} (i : ℕ) (t u : Ty) (p : m ≡ type-number t) (q : n ≡ type-number u) where
   -- a reference to what is assigned
-  pub assign-some : 8 < m → m - 8 ≡ n → told (binop assign t u) wrong-operands i ≡ ok unit
+  pub assign-some : REF < m → m - REF ≡ n → told (binop assign t u) wrong-operands i ≡ ok unit
   unfolding binop type-number
   assign-some = go t p
     where
-      go : (t : Ty) → m ≡ type-number t → 8 < m → m - 8 ≡ n → told (binop assign t u) wrong-operands i ≡ ok unit
+      go : (t : Ty) → m ≡ type-number t → REF < m → m - REF ≡ n → told (binop assign t u) wrong-operands i ≡ ok unit
       go int p h e = absurd (omega arith)
       go bool p h e = absurd (omega arith)
       go unit p h e = absurd (omega arith)
       go (ref v) p h e = told-some _ _ (if-is (Ty-discrete v u) unit (one-number v u (omega arith)))
 
   -- and nothing else can be assigned to
-  pub assign-none : (8 < m → m - 8 ≡ n → ⊥) → told (binop assign t u) wrong-operands i ≡ bad wrong-operands i
+  pub assign-none : (REF < m → m - REF ≡ n → ⊥) → told (binop assign t u) wrong-operands i ≡ bad wrong-operands i
   unfolding binop type-number
   assign-none = go t p
     where
-      go : (t : Ty) → m ≡ type-number t → (8 < m → m - 8 ≡ n → ⊥) → told (binop assign t u) wrong-operands i ≡ bad wrong-operands i
+      go : (t : Ty) → m ≡ type-number t → (REF < m → m - REF ≡ n → ⊥) → told (binop assign t u) wrong-operands i ≡ bad wrong-operands i
       go int p h = told-none _ _ refl
       go bool p h = told-none _ _ refl
       go unit p h = told-none _ _ refl

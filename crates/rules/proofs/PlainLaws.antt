@@ -12,10 +12,11 @@ use Rattle.language.specs.Tokens.{Token}
 use Rattle.language.specs.Trees.{Ty}
 use Rattle.language.specs.Types.{Sig}
 use Rattle.language.specs.Meaning.{type-number}
-use Rattle.layout.specs.Table.{token-word, row-word, function-row, without-variables}
+use Rattle.layout.specs.Table.{token-value, row-word, function-row, without-variables}
 use Rattle.layout.proofs.VariablesWords.{without-before, row-without, function-without, token-without}
 use Rattle.layout.proofs.VariablesTrees.{function-alike}
-use Rattle.rules.specs.Sight.{Headed, function-name, callee-in, Means, Rowed, wanted-in}
+use Rattle.layout.specs.Functions.{Headed, function-name, find-function}
+use Rattle.rules.specs.Sight.{callee-by, callee-in, Means, Rowed, wanted-in}
 use Rattle.rules.specs.Asked.{suits, AsksCall}
 use Rattle.rules.specs.declared.Typing.{Typing}
 use Rattle.rules.specs.declared.sight.Callee.{Callee}
@@ -34,7 +35,7 @@ module _ (w : List ℕ) where
     -- a function's name has the same number
     pub name-plain : function-name p k ≡ function-name w k
     name-plain = token-without w (row-word p (function-row p k) 1 + 1) 3 (h .name) (omega arith)
-        ∙ ap (λ (i : ℕ). token-word w (i + 1) 3) row-plain
+        ∙ ap (λ (i : ℕ). token-value w (i + 1)) row-plain
 
     -- and its head lies in the same place
     pub headed-plain : Headed w k
@@ -43,13 +44,17 @@ module _ (w : List ℕ) where
         let d = row-plain in
         record { few = h .few; row = omega (arith, h .row); name = omega (arith, h .name) }
 
+  find-plain : (x n : ℕ) → ((k : ℕ) → k < n → Headed p k) → find-function p x n ≡ find-function w x n
+  unfolding find-function
+  find-plain x zero h = refl
+  find-plain x (suc n) h =
+      let l = h n (omega arith) in
+      rw (name-plain l, function-without w n (l .few), find-plain x n (λ k m. h k (omega arith))) refl
+
   -- whom a call means
   pub callee-plain : (x n : ℕ) → ((k : ℕ) → k < n → Headed p k) → callee-in p x n ≡ callee-in w x n
   unfolding callee-in
-  callee-plain x zero h = refl
-  callee-plain x (suc n) h =
-      let l = h n (omega arith) in
-      rw (name-plain l, function-without w n (l .few), callee-plain x n (λ k m. h k (omega arith))) refl
+  callee-plain x n h = ap (callee-by x) (find-plain x n h)
 
   -- ---- callees
 

@@ -7,8 +7,8 @@ use lib.Dec.{eqb, leb, ltb}
 use Rattle.language.specs.Tokens.{NUMBER, TRUE, FALSE, TT, LET, IF, WHILE, SEMI, LPAR, LBRACE, PLUS, AND, OR}
 use Rattle.language.specs.Trees.{int, bool, unit, Unary, minus, not, fetch, new, Binary, add, sub, mul, div, less, equal, and, or, assign, whole, truth, trivial}
 use Rattle.language.specs.Meaning.{type-number}
-use Rattle.language.proofs.Types.Verdict.{after-ok}
-use Rattle.language.proofs.Types.Checker.{literal-type, infer}
+use Rattle.language.proofs.Executable.Checks.{after-ok}
+use Rattle.language.proofs.Executable.Checker.{literal-type, infer}
 use Rattle.layout.specs.Rows.{PREFIX, CALL, literal-kind, unary-kind, binary-kind}
 use Rattle.layout.specs.Decode.{Shape, a-name, a-number, a-follow, a-group, a-block, a-call, a-let, an-if, a-while, a-constant, a-unary, a-binary, shape-of, children, build}
 use Rattle.layout.proofs.VariablesTrees.{shape-kind, kind-of-shape}

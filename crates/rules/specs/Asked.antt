@@ -13,14 +13,14 @@ use Rattle.language.specs.Types.{Sig}
 use Rattle.language.specs.Faults as Faults
 use Rattle.language.specs.Faults.{unsuited, wrong-operand, wrong-operands, not-unit, not-bool, wrong-number, wrong-argument}
 use Rattle.language.specs.Meaning.{type-number}
-use Rattle.language.proofs.Types.Verdict.{Res, ok, bad, told, need}
-use Rattle.language.proofs.Types.Operators.{if-yes, unop, binop}
-use Rattle.language.proofs.Types.Checker.{same-types, infer, infers}
+use Rattle.language.proofs.Executable.Checks.{Res, ok, bad, told, need}
+use Rattle.language.proofs.Executable.Operators.{if-yes, unop, binop}
+use Rattle.language.proofs.Executable.Checker.{same-types, infer, infers}
 use Rattle.layout.specs.Rows.{CALL, unary-kind, binary-kind}
 use Rattle.layout.specs.Decode.{Shape, shape-of, children, build}
-use Rattle.rules.specs.Reasons.{meant}
+use Rattle.numbers.specs.Meanings.{reason-meant}
 use Rattle.rules.specs.Sight.{Means, wanted-in}
-use Rattle.rules.specs.declared.Reason.{Reason}
+use Rattle.numbers.specs.declared.Reason.{Reason}
 use Rattle.rules.specs.declared.Typing.{Typing}
 use Rattle.rules.specs.declared.Typing.the-variants as Typing
 use Rattle.rules.specs.declared.sight.Callee.{Callee}
@@ -30,7 +30,7 @@ use Rattle.rules.specs.declared.sight.Callee.{Callee}
 -- the code's answer tells what the written checker answers
 pub data Tells : Typing → Res Ty → Type 0 where
   tells-type : {n : ℕ} {t : Ty} → n ≡ type-number t → Tells (Typing.«Type» n) (ok t)
-  tells-fault : {r : Reason} {q : Faults.Reason} {i : ℕ} → meant r ≡ q → Tells (Typing.Fault r i) (bad q i)
+  tells-fault : {r : Reason} {q : Faults.Reason} {i : ℕ} → reason-meant r ≡ q → Tells (Typing.Fault r i) (bad q i)
 
 -- the types ts are those that the callee wants from its argument k on
 unfoldable pub suits : List ℕ → Callee → ℕ → List Ty → Bool

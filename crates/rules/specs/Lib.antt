@@ -1,3 +1,2 @@
-pub mod Reasons
 pub mod Sight
 pub mod Asked

@@ -10,10 +10,10 @@ use Rattle.language.specs.Tokens.{Token}
 use Rattle.language.specs.Trees.{Name, Ty, int, Def, Scope, empty, push}
 use Rattle.language.specs.Types.{Sig, sig, with-def, given}
 use Rattle.language.specs.Meaning.{type-number}
-use Rattle.layout.specs.Table.{token-word, row-word, function-row, variable-name, variable-kind}
-use Rattle.layout.specs.Names.{Stand}
+use Rattle.layout.specs.Table.{TYPE, ARITY, row-word, function-row, variable-name, variable-kind}
+use Rattle.layout.specs.Names.{Stand, Named}
+use Rattle.layout.specs.Functions.{find-function}
 use Rattle.layout.specs.Decode.{FunctionAt}
-use Rattle.layout.proofs.NameLaws.{Named}
 use Rattle.rules.specs.declared.sight.Found.{Found}
 use Rattle.rules.specs.declared.sight.Found.the-variants.{Is, Nowhere}
 use Rattle.rules.specs.declared.sight.Callee.{Callee}
@@ -40,16 +40,6 @@ found Nowhere = none
 
 -- ---- functions
 
--- function k's name is the token behind its `def`
-abbrev pub function-name : List ℕ → ℕ → ℕ
-function-name w k = token-word w (row-word w (function-row w k) 1 + 1) 3
-
--- function k has a row, and its name is a token
-pub record Headed (w : List ℕ) (k : ℕ) : Type 0 where
-  pub few : k < TOKENS
-  pub row : function-row w k < NODES
-  pub name : row-word w (function-row w k) 1 + 1 < TOKENS
-
 -- the first n functions of the table, and `putchar` before them, are those of Δ
 pub data Functions (f : ℕ) (ts : List Token) (w : List ℕ) : ℕ → Scope Sig → Type 0 where
   functions-given : Functions f ts w 0 given
@@ -63,10 +53,14 @@ pub record Sheet (ts : List Token) (f : ℕ) (w : List ℕ) (seen : ℕ) (Δ : S
   pub few : seen ≤ count
   pub functions : Functions f ts w seen Δ
 
--- whom a call of the name with the number x means, where the first n functions are in sight
+-- whom a call of the name with the number x means, by the row of the function that was found
+abbrev pub callee-by : ℕ → Option ℕ → Callee
+callee-by x (some r) = Callee.Function r
+callee-by x none = cond (eqb x TOKENS) Callee.Putchar Callee.Nobody
+
+-- where the first n functions are in sight
 unfoldable pub callee-in : List ℕ → ℕ → ℕ → Callee
-callee-in w x zero = cond (eqb x TOKENS) Callee.Putchar Callee.Nobody
-callee-in w x (suc n) = cond (eqb x (function-name w n)) (Callee.Function (function-row w n)) (callee-in w x n)
+callee-in w x n = callee-by x (find-function w x n)
 
 -- what is in sight under a name is this callee
 abbrev pub Means : ℕ → List Token → List ℕ → Callee → Option Sig → Type 0
@@ -76,12 +70,12 @@ Means f ts w Callee.Nobody o = o ≡ none
 
 -- the rows of a callee's head are rows
 abbrev pub Rowed : List ℕ → Callee → Type 0
-Rowed w (Callee.Function r) = r + row-word w r 2 < NODES
+Rowed w (Callee.Function r) = r + row-word w r ARITY < NODES
 Rowed w Callee.Putchar = Unit {0}
 Rowed w Callee.Nobody = Unit {0}
 
 -- the type's number of each argument that a callee takes; 0, which is no type's, where it takes none
 abbrev pub wanted-in : List ℕ → Callee → ℕ → ℕ
-wanted-in w (Callee.Function r) k = cond (ltb k (row-word w r 2)) (row-word w (r + k + 1) 2) 0
+wanted-in w (Callee.Function r) k = cond (ltb k (row-word w r ARITY)) (row-word w (r + k + 1) TYPE) 0
 wanted-in w Callee.Putchar k = cond (eqb k 0) (type-number int) 0
 wanted-in w Callee.Nobody k = 0

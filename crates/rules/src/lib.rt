@@ -2,26 +2,8 @@
 
 pub mod operators;
 pub mod sight;
-pub mod types;
 
-// Why a reading has no type.
-pub enum Reason {
-    NoBinding,
-    NoFunction,
-    WrongNumber,
-    WrongArgument,
-    WrongOperand,
-    WrongOperands,
-    NotUnit,
-    NotBool,
-    BranchesDiffer,
-    WrongBody,
-    TooManyRefs,
-    TooManyFunctions,
-    TooManyParameters,
-    FunctionTwice,
-    ParameterTwice,
-}
+use numbers::Reason;
 
 // A type's number, or why there is no type and the ordinal of the token that this is told at.
 pub enum Typing {

@@ -4,12 +4,12 @@ ghost use lib.ListN.{length};
 ghost use Rattle.language.specs.Sizes.{TABLE};
 ghost use Rattle.rules.specs.Sight.{Rowed};
 ghost use Rattle.rules.specs.Asked.{Children, Constant, AsksOne, AsksTwo, AsksIf, AsksCall, Prefixed, Between, Alike, Assigns, Follows, Repeats, Matches, Operand, Result};
-use crate::Reason;
 use crate::Typing;
 use crate::sight::Callee;
-use crate::types;
 use language::kinds;
 use layout::rows;
+use layout::types;
+use numbers::Reason;
 
 // The operators before their operand.
 const NEGATE: u32 = rows::PREFIX + kinds::MINUS;
@@ -222,8 +222,8 @@ pub fn call(table: &[u32], callee: Callee, count: usize, suited: bool, at: u32) 
 {
     match callee {
         Callee::Function(row) => {
-            let arity = rows::link(table, row, 2);
-            let result = rows::word(table, row, 3);
+            let arity = rows::link(table, row, rows::ARITY);
+            let result = rows::word(table, row, rows::RESULT);
             matched(arity, result, count, suited, at)
         }
         Callee::Putchar => matched(1, types::INT, count, suited, at),

@@ -4,12 +4,12 @@ ghost use mathlib.Core.Path.{_≡_};
 ghost use Prim.Native.Nat.{ℕ, _+_, _≤_, _<_};
 ghost use lib.ListN.{length};
 ghost use Rattle.language.specs.Sizes.{TOKENS, TABLE};
-ghost use Rattle.rules.specs.Sight.{find-variable, found, function-name, callee-in, Rowed, wanted-in, Headed};
-use crate::types;
+ghost use Rattle.layout.specs.Functions.{Headed};
+ghost use Rattle.rules.specs.Sight.{find-variable, found, callee-in, Rowed, wanted-in};
 use layout::PUTCHAR;
 use layout::functions;
 use layout::rows;
-use layout::tokens;
+use layout::types;
 use layout::variables;
 
 // A variable, by its type's number.
@@ -41,33 +41,21 @@ pub fn variable(table: &[u32], binds: usize, name: u32) -> Found
     Found::Nowhere
 }
 
-// The number of function k's name, which stands behind its `def`.
-pub fn name_of(table: &[u32], k: usize) -> u32
-    requires { ⌜ (TABLE ≤ length (now table)) × Headed (now table) k ⌝ }
-    ensures { λ r. ⌜ r ≡ function-name (now (table .entry)) k ⌝ }
-{
-    let row = functions::row(table, k);
-    let def = rows::link(table, row, 1);
-    tokens::value(table, def + 1)
-}
-
 // The callee of this name: the newest of the first `seen` functions, or `putchar`.
 pub fn called(table: &[u32], seen: usize, name: u32) -> Callee
     requires { ⌜ (TABLE ≤ length (now table)) × ((k : ℕ) → k < seen → Headed (now table) k) ⌝ }
     ensures { λ r. ⌜ r ≡ callee-in (now (table .entry)) name seen ⌝ }
 {
-    let mut i = seen;
-    while 0 < i {
-        let k = i - 1;
-        if name_of(table, k) == name {
-            return Callee::Function(functions::row(table, k));
+    let newest = functions::find(table, seen, name);
+    match newest {
+        functions::Found::At(row) => Callee::Function(row),
+        functions::Found::Nowhere => {
+            if name == PUTCHAR {
+                return Callee::Putchar;
+            }
+            Callee::Nobody
         }
-        i = k;
     }
-    if name == PUTCHAR {
-        return Callee::Putchar;
-    }
-    Callee::Nobody
 }
 
 // The number of the type that a callee wants of its argument k, 0 where it has none.
@@ -77,8 +65,8 @@ pub fn wanted(table: &[u32], callee: Callee, k: usize) -> u32
 {
     match callee {
         Callee::Function(row) => {
-            if k < rows::link(table, row, 2) {
-                return rows::word(table, row + k + 1, 2);
+            if k < rows::link(table, row, rows::ARITY) {
+                return rows::word(table, row + k + 1, rows::TYPE);
             }
             0
         }

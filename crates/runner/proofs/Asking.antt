@@ -85,7 +85,7 @@ module _ {table w o : List ℕ} {node depth : ℕ} {f : Frame} {s : Tally} (r : 
         long = ready-long;
         inside = ready-inside;
         token = λ tag. number-inside-of table node (r .stands) tag;
-        small = λ tag. number-small table node (r .stands) tag (r .written);
+        small = λ tag. number-small table node (r .stands) tag;
       }
 
   -- an operator before its operand
@@ -126,7 +126,6 @@ module _ (depth : ℕ) {table w o : List ℕ} {node : ℕ} {f : Frame} {s : Tall
         fs = r .fs;
         env = r .env;
         stands = stands-after k (st .1);
-        written = r .written;
         deep = omega arith;
         room = room-after (r .room) k;
         printed = printed-after k;
@@ -186,7 +185,6 @@ module _ (depth : ℕ) {table w o : List ℕ} {node : ℕ} {f : Frame} {s : Tall
         fs = r .fs;
         env = push (spelling-at (r .ts) (row-word table node 1 + 1)) (meant v) (r .env);
         stands = st .1;
-        written = r .written;
         deep = omega arith;
         room = room-after room (kept-put w1 o1 (f .base) (f .size) key v t (omega arith) room (printed-after k));
         printed = printed-after k;

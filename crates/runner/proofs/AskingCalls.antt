@@ -4,13 +4,15 @@ use mathlib.Core.List.{List}
 use mathlib.Core.Option.{some}
 use Prim.Native.Nat.{ℕ, zero, suc, _+_, _*_, _≤_, _<_}
 use native.Mathlib.Omega.{arith}
-use Rattle.language.specs.Sizes.{NODES, ACTIVE, TOKENS, PARAMETERS}
+use lib.ListN.{length}
+use Rattle.language.specs.Sizes.{NODES, ACTIVE, TOKENS, PARAMETERS, TABLE}
 use Rattle.layout.specs.Table.{row-word}
 use Rattle.layout.specs.Rows.{CALL}
 use Rattle.layout.specs.Decode.{Right, RightArgs}
 use Rattle.layout.specs.Slots.{BINDINGS}
 use Rattle.machine.specs.Rows.{carried}
-use Rattle.runner.specs.Rows.{Headed, Callable, find-function, callee, takes}
+use Rattle.layout.specs.Functions.{Headed, find-function}
+use Rattle.runner.specs.Rows.{Callable, callee, takes}
 use Rattle.machine.specs.Outcomes.{Kept}
 use Rattle.runner.specs.Contract.{Stands, Lined, slack, top, Sem, Ready, Queued, Passing}
 use Rattle.runner.specs.declared.callees.Callee.{Callee}
@@ -49,8 +51,8 @@ module _ (depth : ℕ) {table w o : List ℕ} {node : ℕ} {f : Frame} {s : Tall
   ready-row = by-depth (λ h st. let a = call-before table node tag st in omega (arith, ready-inside r)) (r .h) (r .stands)
 
   -- the functions have rows and names
-  pub ready-headed : Headed table (f .defs)
-  ready-headed = let sc = r .stands .scene in headed (sc .stand) (sc .long) (sc .functions) (sc .few)
+  pub ready-headed : (TABLE ≤ length table) × ((k : ℕ) → k < f .defs → Headed table k)
+  ready-headed = let sc = r .stands .scene in (sc .long, headed (sc .stand) (sc .functions) (sc .few))
 
   -- room for its arguments
   pub ready-above : top f + 4 * depth + 4 ≤ 4 * ACTIVE
@@ -78,7 +80,6 @@ module _ (depth : ℕ) {table w o : List ℕ} {node : ℕ} {f : Frame} {s : Tall
           fs = r .fs;
           env = r .env;
           lined = call-lined table node tag st;
-          written = r .written;
           callable = ready-callable;
           ahead = omega arith;
           deep = a;
@@ -106,7 +107,6 @@ module _ (depth : ℕ) {table w o : List ℕ} {node : ℕ} {f : Frame} {s : Tall
           fs = r .fs;
           env = enters rec table node tag w o f s c passed en found e ec en1 st .inner;
           stands = body-stands rec table node tag w o f s c passed en found e ec en1 st;
-          written = r .written;
           deep = omega (arith, b, m, en1);
           room = room-after (r .room) k;
           printed = printed-after k;
@@ -139,7 +139,6 @@ module _ {table w o : List ℕ} {row k : ℕ} {c : Callee} {depth : ℕ} {f : Fr
         fs = q .fs;
         env = q .env;
         stands = lined-first some ln;
-        written = q .written;
         deep = omega (arith, q .deep);
         room = q .room;
         printed = q .printed;
@@ -160,7 +159,6 @@ module _ {table w o : List ℕ} {row k : ℕ} {c : Callee} {depth : ℕ} {f : Fr
         fs = q .fs;
         env = q .env;
         lined = lined-later some kept ln;
-        written = q .written;
         callable = q .callable;
         ahead = omega (arith, a .1, q .ahead);
         deep = q .deep;

@@ -12,7 +12,7 @@ use Rattle.language.specs.Sizes.{TOKENS}
 use Rattle.language.specs.Tokens.{Token, At, spelling-at, NAME}
 use Rattle.language.specs.Trees.{Exp, Scope, own, nearest}
 use Rattle.language.specs.State as M
-use Rattle.language.specs.State.{value, stop, no-unit, too-deep, when-some, with-units}
+use Rattle.language.specs.State.{value, stop, no-unit, too-deep, want, with-units}
 use Rattle.language.specs.Meaning.{Fun, Env, charge, begin, step, eval}
 use Rattle.language.proofs.Meaning.Spending.{at-end}
 use Rattle.layout.specs.Table.{row-word}
@@ -23,7 +23,7 @@ use Rattle.machine.specs.Slots.{slots, find}
 use Rattle.machine.specs.Rows.{carried}
 use Rattle.machine.specs.Outcomes.{memory, tally, Room, Looked}
 use Rattle.runner.specs.Contract.{Stands, Ready, top, Sem, Ran, Spends}
-use Rattle.machine.specs.declared.Stop.{Stop}
+use Rattle.numbers.specs.declared.Stop.{Stop}
 use Rattle.machine.specs.declared.state.Frame.{Frame}
 use Rattle.machine.specs.declared.state.Tally.{Tally}
 use Rattle.machine.specs.declared.state.Outcome.{Outcome}
@@ -88,7 +88,6 @@ module _ {table w o : List ℕ} {node depth : ℕ} {f : Frame} {s : Tally} (read
         fs = ready .fs;
         env = ready .env;
         stands = ready .stands;
-        written = ready .written;
         deep = omega (arith, ready .deep);
         room = room-ticked (ready .room);
         printed = ready .printed;
@@ -153,7 +152,7 @@ module _ (table : List ℕ) (node : ℕ) (tag : row-word table node 0 ≡ NAME) 
 
   name-shape : (rec : Sem) (ts : List Token) (h : ℕ) (fs : Scope Fun) (env : Env) (σ : M.State)
       → step fs (rec fs) (tree-at (suc h) ts table node) env σ
-      ≡ when-some (nearest (spelling-at ts (row-word table node 1)) env) (λ v. value v σ) λ _. M.stuck
+      ≡ want (nearest (spelling-at ts (row-word table node 1)) env) λ v. value v σ
   unfolding step build
   name-shape rec ts h fs env σ = ap (λ (e : Exp). step fs (rec fs) e env σ) (tree-is ts table node h (known-name tag))
 
@@ -168,6 +167,6 @@ module _ (table : List ℕ) (node : ℕ) (tag : row-word table node 0 ≡ NAME) 
             let a = name-token (suc h) ts (st .tree) in
             let n = nearest-is (st .scene .stand .few) (named-at (st .scene .stand) _ a) w (4 * f .base) (st .scene .bindings) in
             tells-by (name-shape rec ts h fs env (memory w o s))
-            (tells-by (ap (λ (x : Option M.Value). when-some x (λ v. value v (memory w o s)) λ _. M.stuck)
+            (tells-by (ap (λ (x : Option M.Value). want x λ v. value v (memory w o s))
             (n ∙ ap (λ (k : ℕ). find k (slots w (4 * f .base) (f .size))) (sym (carried-own table node)))) (lk .right o)));
       }

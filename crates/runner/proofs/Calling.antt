@@ -10,19 +10,21 @@ use Rattle.language.specs.Sizes.{TOKENS}
 use Rattle.language.specs.Tokens.{Token, At, NAME, same, spelling-at}
 use Rattle.language.specs.Trees.{Exp, Def, Scope, empty, push, nearest, PUTCHAR}
 use Rattle.language.specs.State as M
-use Rattle.language.specs.State.{stuck, when-some, want-one, want-int}
+use Rattle.language.specs.State.{as-int, when-some, want, only}
 use Rattle.language.specs.Meaning.{Fun, putchar, defined, Env, put, enter, arguments, invoke, step}
 use Rattle.layout.specs.Table.{row-word}
 use Rattle.layout.specs.Rows.{CALL}
 use Rattle.layout.specs.Decode.{build, tree-at, args-at, Right}
 use Rattle.layout.specs.Slots.{BINDINGS, value-at}
-use Rattle.layout.proofs.NameLaws.{Named, name-inside, named-at}
+use Rattle.layout.specs.Names.{Named}
+use Rattle.layout.proofs.NameLaws.{name-inside, named-at}
 use Rattle.machine.specs.Slots.{values-from}
 use Rattle.machine.specs.Rows.{carried}
-use Rattle.runner.specs.Rows.{find-function, callee, takes, parameter}
+use Rattle.layout.specs.Functions.{find-function}
+use Rattle.runner.specs.Rows.{callee, takes, parameter}
 use Rattle.machine.specs.Outcomes.{Tells, anything, memory, outcome, tally, Room, Printed}
 use Rattle.runner.specs.Contract.{Binds, binds-none, Stands, Lined, top, Sem, Ran, Worked, Passing}
-use Rattle.machine.specs.declared.Stop.{Stop}
+use Rattle.numbers.specs.declared.Stop.{Stop}
 use Rattle.runner.specs.declared.callees.Callee.{Callee}
 use Rattle.runner.specs.declared.callees.Callee.the-variants.{Putchar, Defined}
 use Rattle.runner.specs.declared.calls.Passed.{Passed}
@@ -76,7 +78,7 @@ module _ (table : List ℕ) (node : ℕ) (tag : row-word table node 0 ≡ CALL) 
 module _ (rec : Sem) (table : List ℕ) (node : ℕ) (tag : row-word table node 0 ≡ CALL) (w o : List ℕ) (f : Frame) (s : Tally) where
   -- what is done with the arguments' values
   abbrev after : List Token → Scope Fun → List M.Value → M.State → M.Outcome
-  after ts fs vs τ = when-some (nearest (spelling-at ts (row-word table node 1)) fs) (λ g. invoke fs (rec fs) (row-word table node 1) g vs τ) λ _. stuck
+  after ts fs vs τ = want (nearest (spelling-at ts (row-word table node 1)) fs) λ g. invoke fs (rec fs) (row-word table node 1) g vs τ
 
   call-shape : (ts : List Token) (h : ℕ) (fs : Scope Fun) (env : Env) (σ : M.State)
       → step fs (rec fs) (tree-at (suc h) ts table node) env σ
@@ -129,7 +131,7 @@ module _ (rec : Sem) (table : List ℕ) (node : ℕ) (tag : row-word table node 
       -- what is told of `putchar` is told of a name that is no function's
       only-putchar : (fs : Scope Fun) (q : M.Outcome) (vs : List M.Value) (τ : M.State) (b : Bool)
           → Tells q (invoke fs (rec fs) (row-word table node 1) putchar vs τ)
-          → Tells q (when-some (cond b (some putchar) none) (λ g. invoke fs (rec fs) (row-word table node 1) g vs τ) λ _. stuck)
+          → Tells q (want (cond b (some putchar) none) λ g. invoke fs (rec fs) (row-word table node 1) g vs τ)
       unfolding when-some
       only-putchar fs q vs τ true g = g
       only-putchar fs q vs τ false g = anything
@@ -139,7 +141,7 @@ module _ (rec : Sem) (table : List ℕ) (node : ℕ) (tag : row-word table node 
           → Tells q (after ts fs vs τ)
       unfolding nearest
       by-putchar ec {ts = ts} {fs = fs} st q vs τ g =
-          tells-by (ap (λ (x : Option Fun). when-some x (λ g. invoke fs (rec fs) (row-word table node 1) g vs τ) λ _. stuck) (finds-putchar ec st))
+          tells-by (ap (λ (x : Option Fun). want x λ g. invoke fs (rec fs) (row-word table node 1) g vs τ) (finds-putchar ec st))
           (only-putchar fs q vs τ (same (spelling-at ts (row-word table node 1)) PUTCHAR) g)
 
       -- ---- a wrong number of arguments
@@ -182,13 +184,13 @@ module _ (rec : Sem) (table : List ℕ) (node : ℕ) (tag : row-word table node 
           x .bound (omega arith) ∙ ap (λ (m : ℕ). values-from w1 (4 * top f) 0 m) l
 
       put-right : (fs : Scope Fun) (q : M.Outcome) (v : M.Value) (τ : M.State)
-          → Tells q (want-int v λ z. put (row-word table node 1) z τ) → Tells q (invoke fs (rec fs) (row-word table node 1) putchar (v ∷ []) τ)
-      unfolding invoke want-one
+          → Tells q (want (as-int v) λ z. put (row-word table node 1) z τ) → Tells q (invoke fs (rec fs) (row-word table node 1) putchar (v ∷ []) τ)
+      unfolding invoke when-some only
       put-right fs q v τ g = g
 
       -- it prints
       pub call-prints : c ≡ Putchar → n ≡ takes table c → Room w s → top f ≤ BINDINGS → {place : ℕ} → place ≡ row-word table node 1
-          → {o2 : List ℕ} {q : Outcome} → Printed (λ m. want-int (value-at w1 (4 * top f) 0) λ z. put place z m) o1 o2 t q
+          → {o2 : List ℕ} {q : Outcome} → Printed (λ m. want (as-int (value-at w1 (4 * top f) 0)) λ z. put place z m) o1 o2 t q
           → Ran (stepped rec) 1 table w o w1 o2 node f s q
       call-prints ec en1 room low {place} ep {o2} {q} prints =
           let k = passing-is e passed .kept in
@@ -201,7 +203,7 @@ module _ (rec : Sem) (table : List ℕ) (node : ℕ) (tag : row-word table node 
                 (subst (λ (vs : List M.Value). Tells (outcome w1 o2 q) (invoke fs (rec fs) (row-word table node 1) putchar vs (memory w1 o1 t)))
                 (sym (one-value ec en1 st))
                 (put-right fs _ _ _
-                (subst (λ (i : ℕ). Tells (outcome w1 o2 q) (want-int (value-at w1 (4 * top f) 0) λ z. put i z (memory w1 o1 t))) ep (ended .right)))));
+                (subst (λ (i : ℕ). Tells (outcome w1 o2 q) (want (as-int (value-at w1 (4 * top f) 0)) λ z. put i z (memory w1 o1 t))) ep (ended .right)))));
           }
 
       -- ---- a function's body

@@ -12,14 +12,14 @@ use Rattle.language.specs.Trees.{Exp, literal, whole, truth, trivial, Scope}
 use Rattle.language.specs.State as M
 use Rattle.language.specs.State.{value}
 use Rattle.language.specs.Meaning.{Fun, Env, step, literal-value}
-use Rattle.layout.specs.Table.{token-word, row-word}
+use Rattle.layout.specs.Table.{token-value, row-word}
 use Rattle.layout.specs.Names.{payload, Stand}
 use Rattle.layout.specs.Decode.{a-number, a-constant, shape-of, build, tree-at, Right}
 use Rattle.layout.specs.Values.{meant}
 use Rattle.layout.specs.declared.values.Value.{Value}
 use Rattle.machine.specs.Rows.{carried, literal-of}
 use Rattle.machine.specs.Outcomes.{memory, Room}
-use Rattle.runner.specs.Contract.{Stands, Written, top, Sem, Ran}
+use Rattle.runner.specs.Contract.{Stands, top, Sem, Ran}
 use Rattle.machine.specs.declared.state.Frame.{Frame}
 use Rattle.machine.specs.declared.state.Tally.{Tally}
 use Rattle.machine.specs.declared.state.Outcome.the-variants.{Gives}
@@ -44,7 +44,7 @@ number-inside ts i e = go (decLt i (length ts))
         absurd (omega arith)
 
 -- its fourth word is its value
-pub number-at : {w : List ℕ} {count : ℕ} {ts : List Token} → Stand w count ts → (i : ℕ) → At ts i NUMBER → token-word w i 3 ≡ value-at ts i
+pub number-at : {w : List ℕ} {count : ℕ} {ts : List Token} → Stand w count ts → (i : ℕ) → At ts i NUMBER → token-value w i ≡ value-at ts i
 unfolding kind-at value-at payload
 number-at {w} {count} {ts} st i e = let l = number-inside ts i e in st .values i (omega (arith, st .long)) ∙ rw e refl
 
@@ -65,11 +65,11 @@ module _ (table : List ℕ) (node : ℕ) where
         omega (arith, st .scene .stand .few)
 
     -- and it is no larger than the largest
-    pub number-small : Written ts → carried table node 0 ≤ LARGEST
-    number-small written =
+    pub number-small : carried table node 0 ≤ LARGEST
+    number-small =
         let a = number-token h ts (st .tree) tag in
         let v = number-at (st .scene .stand) _ a in
-        let l = written _ a in
+        let l = st .scene .stand .written _ a in
         omega (arith, l, carried-own table node ∙ v)
 
   module _ (ts : List Token) (h : ℕ) where

@@ -9,10 +9,11 @@ use lib.ListN.{length, getD, take, drop, length-drop, length-reverse, take-appen
 use lib.Seq.{getD-drop, take-suc, ext-getD}
 use borrow.Author.Tests.{ltb-true, ltb-false}
 use Rattle.language.specs.Sizes.{WORK}
+use Rattle.language.specs.State as M
 use Rattle.layout.specs.Table.{zeros}
 use Rattle.layout.proofs.Clearing.{zeros-same}
 use Rattle.machine.specs.Outcomes.{bytes, memory, outcome, tally, Kept}
-use Rattle.runner.specs.Contract.{spent, reported, Counts, Tells-of, printed-by}
+use Rattle.runner.specs.Contract.{reported, EndsAs}
 use Rattle.machine.specs.declared.state.Tally.{Tally}
 use Rattle.machine.specs.declared.state.Outcome.{Outcome}
 use Rattle.machine.specs.declared.state.Outcome.the-variants.{Gives, Halts}
@@ -57,15 +58,10 @@ output-is o o1 n e l h =
 
 -- ---- the report
 
-counts : (w o : List ℕ) (s : Tally) → Counts (spent s) (memory w o s)
-counts w o s = record { left = refl; printed = sym (bytes-length o (s .printed)) }
-
--- it is the outcome's
-pub report-is : (w o : List ℕ) (r : Outcome) → Tells-of (outcome w o r) (reported r)
-report-is w o (Gives v s) = (refl, counts w o s)
-report-is w o (Halts y p s) = (refl, refl, counts w o s)
-
--- and so are the bytes printed
-pub printed-is : (w o : List ℕ) (r : Outcome) → printed-by (outcome w o r) ≡ reverse (bytes o (tally r .printed))
-printed-is w o (Gives v s) = refl
-printed-is w o (Halts y p s) = refl
+-- it is the outcome's, with the state that the memories are
+pub reported-ends : {m : M.Outcome} (w o o1 : List ℕ) (r : Outcome) → m ≡ outcome w o1 r
+    → o1 ≡ reverse (bytes o1 (tally r .printed)) ++ drop (length (reverse (bytes o1 (tally r .printed)))) o → EndsAs m o o1 (reported r)
+reported-ends w o o1 (Gives v s) e h =
+    record { state = memory w o1 s; outcome = e; left = refl; printed = sym (bytes-length o1 (s .printed)); output = h }
+reported-ends w o o1 (Halts y p s) e h =
+    record { state = memory w o1 s; outcome = e; left = refl; printed = sym (bytes-length o1 (s .printed)); output = h }

@@ -8,9 +8,9 @@ use lib.ListN.{length}
 use Rattle.language.specs.Tokens.{Token}
 use Rattle.language.specs.Trees.{Param, push}
 use Rattle.language.specs.State as M
-use Rattle.language.specs.State.{want-one}
+use Rattle.language.specs.State.{when-some, want, only}
 use Rattle.language.specs.Meaning.{Env, enter}
-use Rattle.layout.specs.Table.{token-word, row-word}
+use Rattle.layout.specs.Table.{token-value, row-word}
 use Rattle.layout.specs.Names.{name-number, Stand}
 use Rattle.layout.specs.Decode.{ParamsAt, params-none, params-more}
 use Rattle.layout.specs.Slots.{key-at, value-at}
@@ -32,8 +32,8 @@ enter-wrong (p ∷ ps) [] env k h = refl
 enter-wrong (p ∷ ps) (v ∷ vs) env k h = enter-wrong ps vs (push (p .called) v env) k (λ e. h (ap suc e))
 
 -- `putchar` is
-pub one-wrong : (vs : List M.Value) (k : M.Value → M.Outcome) → (length vs ≡ 1 → ⊥) → want-one vs k ≡ M.stuck
-unfolding want-one
+pub one-wrong : (vs : List M.Value) (k : M.Value → M.Outcome) → (length vs ≡ 1 → ⊥) → want (only vs) k ≡ M.stuck
+unfolding when-some only
 one-wrong [] k h = refl
 one-wrong (v ∷ []) k h = absurd (h refl)
 one-wrong (v ∷ w ∷ vs) k h = refl
@@ -68,7 +68,7 @@ module _ {ts : List Token} {table : List ℕ} (stand : Stand table (length ts) t
   entered j {r} (params-more {p = p} {ps = ps} e a c t rest) er keys {env} b =
       let q : row-word table (row + 1 + j) 1 ≡ p .at = ap (λ (n : ℕ). row-word table n 1) (sym er) ∙ e in
       let key : key-at w at j ≡ name-number ts (p .called) =
-      keys j (omega arith) (omega arith) ∙ carried-own table (row + 1 + j) ∙ ap (λ (n : ℕ). token-word table n 3) q
+      keys j (omega arith) (omega arith) ∙ carried-own table (row + 1 + j) ∙ ap (λ (n : ℕ). token-value table n) q
       ∙ named-at stand _ a .number ∙ ap (name-number ts) (sym c) in
       more-entered j env p ps
       (entered (j + 1) rest (omega arith) (λ i l u. keys i (omega arith) (omega arith))

@@ -13,12 +13,14 @@ use Rattle.language.specs.Tokens.{Token, At, NAME, same}
 use Rattle.language.specs.Trees.{Name, Param, Def, Scope, empty, push, nearest, PUTCHAR}
 use Rattle.language.specs.Meaning.{Fun, putchar, defined}
 use Rattle.language.proofs.Meaning.CellTypes.{none-some, some-one}
-use Rattle.layout.specs.Table.{token-word, row-word, function-row}
-use Rattle.layout.specs.Names.{name-number, Stand}
+use Rattle.layout.specs.Table.{row-word, function-row}
+use Rattle.layout.specs.Names.{Stand, Named}
 use Rattle.layout.specs.Decode.{ParamsAt, params-none, params-more, FunctionAt}
-use Rattle.layout.proofs.NameLaws.{Named, name-inside, named-at, named-same}
+use Rattle.layout.specs.Functions.{Headed, find-function}
+use Rattle.layout.proofs.NameLaws.{name-inside, named-same}
+use Rattle.layout.proofs.FunctionLaws.{function-named, function-headed}
 use Rattle.machine.specs.Rows.{carried}
-use Rattle.runner.specs.Rows.{find-function, callee, Headed, Function, Callable}
+use Rattle.runner.specs.Rows.{callee, Function, Callable}
 use Rattle.runner.specs.Contract.{Defines, defines-none, defines-more}
 use Rattle.runner.specs.declared.callees.Callee.{Callee}
 use Rattle.runner.specs.declared.callees.Callee.the-variants.{Putchar, Defined}
@@ -46,19 +48,7 @@ pub record Finds (d : ℕ) (ts : List Token) (table : List ℕ) (fs : Scope Fun)
   pub found : nearest x fs ≡ some (defined (def .params) (def .body))
 
 module _ {d : ℕ} {ts : List Token} {table : List ℕ} (stand : Stand table (length ts) ts) where
-  -- a function's name has its number
-  pub function-named : {r : ℕ} {f : Def} → FunctionAt d ts table r f → Named ts (carried table r 1) (f .called)
-  function-named {r} {f} at =
-      let n = named-at stand _ (at .name) in
-      let e : carried table r 1 ≡ token-word table (f .at + 1) 3 = ap (λ (i : ℕ). token-word table (i + 1) 3) (at .at) in
-      record {
-        at = f .at + 1;
-        inside = name-inside ts _ (at .name);
-        spelled = sym (at .called);
-        number = e ∙ n .number ∙ ap (name-number ts) (sym (at .called));
-      }
-
-  -- and a function's row is one that can be called
+  -- a function's row is one that can be called
   pub function-of : TABLE ≤ length table → {r : ℕ} {f : Def} → FunctionAt d ts table r f → length (f .params) ≤ PARAMETERS → Function table r
   function-of long {r} {f} at few =
       record {
@@ -72,27 +62,13 @@ module _ {d : ℕ} {ts : List Token} {table : List ℕ} (stand : Stand table (le
       }
 
   -- all of them have rows and names
-  pub headed : TABLE ≤ length table → {n : ℕ} {fs : Scope Fun} → Defines d ts table n fs → n ≤ TOKENS → Headed table n
-  headed long def few = record { long = long; few = few; inside = inside def; named = named def }
+  pub headed : {n : ℕ} {fs : Scope Fun} → Defines d ts table n fs → n ≤ TOKENS → (k : ℕ) → k < n → Headed table k
+  headed defines-none few k l = absurd (omega arith)
+  headed (defines-more {n = n} at less rest) few k l = by (eqb k n) refl λ m. headed rest (omega arith) k m
     where
-      inside : {n : ℕ} {fs : Scope Fun} → Defines d ts table n fs → (k : ℕ) → k < n → function-row table k < NODES
-      inside defines-none k l = absurd (omega arith)
-      inside (defines-more {n = n} at few rest) k l = by (eqb k n) refl (λ m. inside rest k m)
-        where
-          by : (b : Bool) → eqb k n ≡ b → (k < n → function-row table k < NODES) → function-row table k < NODES
-          by true e ih = subst (λ (i : ℕ). function-row table i < NODES) (sym (eqb-true k n e)) (at .inside)
-          by false e ih = let q = eqb-false k n e in ih (omega arith)
-
-      named : {n : ℕ} {fs : Scope Fun} → Defines d ts table n fs → (k : ℕ) → k < n → row-word table (function-row table k) 1 + 1 < TOKENS
-      named defines-none k l = absurd (omega arith)
-      named (defines-more {n = n} {f = f} at few rest) k l = by (eqb k n) refl (λ m. named rest k m)
-        where
-          by : (b : Bool) → eqb k n ≡ b → (k < n → row-word table (function-row table k) 1 + 1 < TOKENS)
-              → row-word table (function-row table k) 1 + 1 < TOKENS
-          by true e ih =
-              let i = name-inside ts _ (at .name) in
-              subst (λ (j : ℕ). row-word table (function-row table j) 1 + 1 < TOKENS) (sym (eqb-true k n e)) (omega (arith, at .at, stand .few))
-          by false e ih = let q = eqb-false k n e in ih (omega arith)
+      by : (b : Bool) → eqb k n ≡ b → (k < n → Headed table k) → Headed table k
+      by true e ih = subst (λ (i : ℕ). Headed table i) (sym (eqb-true k n e)) (function-headed stand n at (omega arith))
+      by false e ih = let q = eqb-false k n e in ih (omega arith)
 
   -- ---- the one that has a name
 
@@ -111,7 +87,7 @@ module _ {d : ℕ} {ts : List Token} {table : List ℕ} (stand : Stand table (le
         by true q ih = let z : _≡_ {A = Option ℕ} none (some (function-row table n)) = rw q at e in absurd (none-some z)
         by false q ih =
             let z : none ≡ find-function table key n = rw q at e in
-            rw (sym (named-same (stand .few) h (function-named at)) ∙ q) (ih z)
+            rw (sym (named-same (stand .few) h (function-named stand at)) ∙ q) (ih z)
 
     -- it is the one at this row
     pub finds-some : {n : ℕ} {fs : Scope Fun} → Defines d ts table n fs → {row : ℕ} → some row ≡ find-function table key n → Finds d ts table fs x row
@@ -125,7 +101,7 @@ module _ {d : ℕ} {ts : List Token} {table : List ℕ} (stand : Stand table (le
         by true q ih =
             let z : _≡_ {A = Option ℕ} (some row) (some (function-row table n)) = rw q at e in
             subst (λ (i : ℕ). Finds d ts table (push (f .called) (defined (f .params) (f .body)) fs) x i) (sym (some-one z))
-            (record { def = f; at = at; few = few; found = rw (sym (named-same (stand .few) h (function-named at)) ∙ q) refl })
+            (record { def = f; at = at; few = few; found = rw (sym (named-same (stand .few) h (function-named stand at)) ∙ q) refl })
         by false q ih =
             let z : some row ≡ find-function table key n = rw q at e in
             let g = ih z in
@@ -133,7 +109,7 @@ module _ {d : ℕ} {ts : List Token} {table : List ℕ} (stand : Stand table (le
               def = g .def;
               at = g .at;
               few = g .few;
-              found = rw (sym (named-same (stand .few) h (function-named at)) ∙ q) (g .found);
+              found = rw (sym (named-same (stand .few) h (function-named stand at)) ∙ q) (g .found);
             }
 
     -- what is found can be called

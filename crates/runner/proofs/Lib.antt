@@ -6,7 +6,6 @@ mod Constants
 mod Ending
 mod Entering
 mod Finding
-mod Heads
 mod Lets
 mod Operations
 mod Queues

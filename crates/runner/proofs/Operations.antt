@@ -18,7 +18,7 @@ use Rattle.machine.specs.Rows.{unary-of, binary-of}
 use Rattle.runner.specs.Rows.{IsUnary, IsBinary}
 use Rattle.machine.specs.Outcomes.{Tells, tells, memory, outcome, Room, Applied}
 use Rattle.runner.specs.Contract.{top, Sem, Ran}
-use Rattle.machine.specs.declared.Stop.{Stop}
+use Rattle.numbers.specs.declared.Stop.{Stop}
 use Rattle.machine.specs.declared.state.Frame.{Frame}
 use Rattle.machine.specs.declared.state.Tally.{Tally}
 use Rattle.machine.specs.declared.state.Outcome.{Outcome}

@@ -20,9 +20,10 @@ use Rattle.layout.specs.Values.{meant, Survives}
 use Rattle.layout.specs.declared.values.Value.{Value}
 use Rattle.machine.specs.Slots.{values-from}
 use Rattle.runner.specs.Rows.{takes, parameter}
-use Rattle.machine.specs.Outcomes.{Tells, why, memory, Room, Kept}
+use Rattle.numbers.specs.Meanings.{stop-meant}
+use Rattle.machine.specs.Outcomes.{Tells, memory, Room, Kept}
 use Rattle.runner.specs.Contract.{Stands, Lined, top, Sem, Ran, Worked, Passing, passed-tally}
-use Rattle.machine.specs.declared.Stop.{Stop}
+use Rattle.numbers.specs.declared.Stop.{Stop}
 use Rattle.runner.specs.declared.callees.Callee.{Callee}
 use Rattle.runner.specs.declared.calls.Passed.{Passed}
 use Rattle.machine.specs.declared.state.Frame.{Frame}
@@ -125,7 +126,7 @@ module _ (rec : Sem) (table : List ℕ) (row k : ℕ) (c : Callee) (f : Frame) w
 
     stop-right : (y : Stop) (p : ℕ) (t : Tally) → r ≡ Halts y p t → (d h : ℕ) (ts : List Token) (fs : Scope Fun) (env : Env)
         → Lined d (suc h) ts table w row f fs env → (κ : List M.Value → M.State → M.Outcome)
-        → Tells (stop (why y) p (memory w1 o1 t)) (arguments fs (rec fs) (args-at (suc h) ts table row) env (memory w o s) κ)
+        → Tells (stop (stop-meant y) p (memory w1 o1 t)) (arguments fs (rec fs) (args-at (suc h) ts table row) env (memory w o s) κ)
     unfolding arguments
     stop-right y p t e d h ts fs env ln κ =
         tells-by (ap (λ (es : Exps). arguments fs (rec fs) es env (memory w o s) κ) (args-more h ts table row some))
@@ -139,7 +140,7 @@ module _ (rec : Sem) (table : List ℕ) (row k : ℕ) (c : Callee) (f : Frame) w
           right = λ d h ts fs env.
               lined-depth some
               (λ n. (κ : List M.Value → M.State → M.Outcome)
-              → Tells (stop (why y) p (memory w1 o1 t)) (arguments fs (rec fs) (args-at n ts table row) env (memory w o s) κ))
+              → Tells (stop (stop-meant y) p (memory w1 o1 t)) (arguments fs (rec fs) (args-at n ts table row) env (memory w o s) κ))
               (λ n ln κ. stop-right y p t e d n ts fs env ln κ) h;
         }
 
@@ -153,7 +154,7 @@ module _ (rec : Sem) (table : List ℕ) (row k : ℕ) (c : Callee) (f : Frame) w
             right = λ d h ts fs env.
                 lined-depth some
                 (λ n. (κ : List M.Value → M.State → M.Outcome)
-                → Tells (stop (why y) p (memory w2 o2 u)) (arguments fs (rec fs) (args-at n ts table row) env (memory w o s) κ))
+                → Tells (stop (stop-meant y) p (memory w2 o2 u)) (arguments fs (rec fs) (args-at n ts table row) env (memory w o s) κ))
                 (λ n ln κ.
                 step-right e d n ts fs env ln κ _
                 (passing-is g later .right d n ts fs env (lined-later some (kept-of e first) ln) (λ vs τ. κ (meant v ∷ vs) τ))) h;

@@ -11,11 +11,11 @@ use Rattle.language.specs.Tokens.{Token, At, NAME, spelling-at}
 use Rattle.language.specs.Trees.{Name, Scope, push, nearest}
 use Rattle.language.specs.State as M
 use Rattle.language.specs.Meaning.{Fun, Env}
-use Rattle.layout.specs.Table.{token-word, row-word}
-use Rattle.layout.specs.Names.{name-number}
+use Rattle.layout.specs.Table.{token-value, row-word}
+use Rattle.layout.specs.Names.{name-number, Named}
 use Rattle.layout.specs.Decode.{Shape, shape-of, children, tree-at}
 use Rattle.layout.specs.Slots.{value-at}
-use Rattle.layout.proofs.NameLaws.{Named, name-inside, named-same}
+use Rattle.layout.proofs.NameLaws.{name-inside, named-same}
 use Rattle.machine.specs.Slots.{slots, find, Same}
 use Rattle.machine.specs.Rows.{carried}
 use Rattle.machine.specs.Outcomes.{Tells, outcome, memory, Kept}
@@ -28,8 +28,8 @@ use Rattle.runner.proofs.Shapes.{first-part, second-part, third-part}
 -- ---- tokens
 
 -- what a row's own token carries
-pub carried-own : (w : List ℕ) (row : ℕ) → carried w row 0 ≡ token-word w (row-word w row 1) 3
-carried-own w row = ap (λ (n : ℕ). token-word w n 3) (add-zero (row-word w row 1))
+pub carried-own : (w : List ℕ) (row : ℕ) → carried w row 0 ≡ token-value w (row-word w row 1)
+carried-own w row = ap (λ (n : ℕ). token-value w n) (add-zero (row-word w row 1))
 
 -- ---- bindings
 

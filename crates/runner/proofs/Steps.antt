@@ -7,7 +7,7 @@ use native.Mathlib.Omega.{arith}
 use Rattle.language.specs.Tokens.{Token, LPAR, LBRACE, SEMI, IF}
 use Rattle.language.specs.Trees.{Exp, Scope}
 use Rattle.language.specs.State as M
-use Rattle.language.specs.State.{value, then, want-bool, want-unit, choose, keep, with-cells}
+use Rattle.language.specs.State.{value, then, as-bool, as-unit, choose, want, keep, with-cells}
 use Rattle.language.specs.Meaning.{Fun, Env, step}
 use Rattle.layout.specs.Table.{row-word}
 use Rattle.layout.specs.Decode.{build, tree-at, Right}
@@ -17,12 +17,12 @@ use Rattle.layout.specs.declared.values.Value.{Value}
 use Rattle.machine.specs.Operands.{is-true}
 use Rattle.machine.specs.Outcomes.{Tells, memory, outcome, tally, Room, Kept}
 use Rattle.runner.specs.Contract.{Stands, top, Sem, Ran}
-use Rattle.machine.specs.declared.Stop.{Stop}
+use Rattle.numbers.specs.declared.Stop.{Stop}
 use Rattle.machine.specs.declared.state.Frame.{Frame}
 use Rattle.machine.specs.declared.state.Tally.{Tally}
 use Rattle.machine.specs.declared.state.Outcome.{Outcome}
 use Rattle.machine.specs.declared.state.Outcome.the-variants.{Gives, Halts}
-use Rattle.machine.proofs.Telling.{tells-same, tells-by, then-stop, then-value, bool-true, bool-false, unit-any}
+use Rattle.machine.proofs.Telling.{tells-same, tells-by, then-stop, then-value, bool-true, bool-false, want-any}
 use Rattle.machine.proofs.Slotted.{keep-slots}
 use Rattle.machine.proofs.Keeping.{kept-then, kept-more}
 use Rattle.runner.proofs.Shapes.{tree-is, known-follow, known-if, known-group, known-block}
@@ -105,7 +105,7 @@ module _ {rec : Sem} {table : List ℕ} {node : ℕ} {K : Next} (b : Begins rec 
 
 module _ (rec : Sem) (table : List ℕ) (node : ℕ) (tag : row-word table node 0 ≡ SEMI) where
   abbrev follow-next : Next
-  follow-next ts h fs env σ v τ = want-unit v λ _. rec fs (tree-at h ts table (row-word table node 3)) env τ
+  follow-next ts h fs env σ v τ = want (as-unit v) λ _. rec fs (tree-at h ts table (row-word table node 3)) env τ
 
   follow-shape : (ts : List Token) (h : ℕ) (fs : Scope Fun) (env : Env) (σ : M.State)
       → step fs (rec fs) (tree-at (suc h) ts table node) env σ
@@ -124,14 +124,14 @@ module _ (rec : Sem) (table : List ℕ) (node : ℕ) (tag : row-word table node 
   follow-goes {v = v} {q = q} e first second =
       goes follow-begins first e _ _ q (kept-more (second .kept))
       (λ d h ts fs env st.
-      unit-any (meant v) _ (right-after (kept-of e first) second d h ts fs env (stands-second st (known-follow tag) (omega arith))))
+      want-any _ _ (λ _. right-after (kept-of e first) second d h ts fs env (stands-second st (known-follow tag) (omega arith))))
 
 -- ---- if
 
 module _ (rec : Sem) (table : List ℕ) (node : ℕ) (tag : row-word table node 0 ≡ IF) where
   abbrev if-next : Next
   if-next ts h fs env σ v τ =
-      want-bool v λ b.
+      want (as-bool v) λ b.
       choose b (λ _. rec fs (tree-at h ts table (row-word table node 3)) env τ) λ _.
       rec fs (tree-at h ts table (row-word table node 4)) env τ
 

@@ -18,12 +18,12 @@ use Rattle.layout.specs.declared.values.Value.the-variants.{Nothing}
 use Rattle.machine.specs.Operands.{is-true}
 use Rattle.machine.specs.Outcomes.{Tells, tells, memory, outcome, Room, Kept}
 use Rattle.runner.specs.Contract.{Stands, top, Ran}
-use Rattle.machine.specs.declared.Stop.{Stop}
+use Rattle.numbers.specs.declared.Stop.{Stop}
 use Rattle.machine.specs.declared.state.Frame.{Frame}
 use Rattle.machine.specs.declared.state.Tally.{Tally}
 use Rattle.machine.specs.declared.state.Outcome.{Outcome}
 use Rattle.machine.specs.declared.state.Outcome.the-variants.{Gives, Halts}
-use Rattle.machine.proofs.Telling.{tells-by, then-stop, then-value, bool-true, bool-false, unit-any}
+use Rattle.machine.proofs.Telling.{tells-by, then-stop, then-value, bool-true, bool-false, want-any}
 use Rattle.machine.proofs.Keeping.{kept-then, kept-more, kept-self}
 use Rattle.runner.proofs.Shapes.{tree-is, known-while}
 use Rattle.runner.proofs.Standing.{right-after, stands-first, stands-second}
@@ -125,5 +125,5 @@ module _ (depth : ℕ) (table : List ℕ) (node : ℕ) (tag : row-word table nod
                     (tells-by (while-is fs depth _ _ env (memory w o t))
                     (then-value _ (right-after (tr .kept) (ran-is e first) d h ts fs env (while-first st))
                     (bool-true (meant v) _ _ b
-                    (then-value _ (right-after k (ran-is g second) d h ts fs env (while-second st)) (unit-any (meant y) _ a)))));
+                    (then-value _ (right-after k (ran-is g second) d h ts fs env (while-second st)) (want-any _ _ λ _. a)))));
               }

@@ -1,10 +1,10 @@
 -- The whole run: the table stands for the program, whose meaning is never stuck, so what is told is what is meant.
 use mathlib.Core.Path.{_≡_, refl, sym, subst, _∙_}
-use mathlib.Core.List.{List, _∷_, _++_}
+use mathlib.Core.List.{List, _∷_}
 use Prim.Native.Nat.{ℕ, suc, _+_, _-_, _≤_}
 use native.Mathlib.Omega.{arith}
 use native.Mathlib.Numerals.{add-one}
-use lib.ListN.{length, drop}
+use lib.ListN.{length}
 use Rattle.language.specs.Sizes.{ACTIVE, PARAMETERS, WORK}
 use Rattle.language.specs.Tokens.{Token}
 use Rattle.language.specs.Trees.{Exp, Ty, Param, Def, Program, Scope, empty, push, size, PUTCHAR}
@@ -18,13 +18,13 @@ use Rattle.layout.specs.Names.{Stand}
 use Rattle.layout.specs.Decode.{tree-at, FunctionsAt, functions-none, functions-more, Holds}
 use Rattle.machine.specs.Slots.{slots, cells-of}
 use Rattle.machine.specs.Outcomes.{Tells, tells, anything, bytes, memory, outcome, tally}
-use Rattle.runner.specs.Contract.{Defines, defines-none, defines-more, binds-none, Stands, Ready, Ran, Sheet, reported, Tells-of, printed-by, RunsTo}
+use Rattle.runner.specs.Contract.{Defines, defines-none, defines-more, binds-none, Stands, Ready, Ran, Sheet, reported, EndsAs, RunsTo}
 use Rattle.runner.specs.declared.Done.{Done}
 use Rattle.machine.specs.declared.state.Frame.{Frame}
 use Rattle.machine.specs.declared.state.Tally.{Tally}
 use Rattle.machine.specs.declared.state.Outcome.{Outcome}
 use Rattle.runner.proofs.Beginnings.{evals}
-use Rattle.runner.proofs.Ending.{cleared-same, output-is, report-is, printed-is}
+use Rattle.runner.proofs.Ending.{cleared-same, output-is, reported-ends}
 
 -- ---- the functions of a program that has a type
 
@@ -96,7 +96,6 @@ module _ {table w o : List ℕ} {count defs root allowance : ℕ} where
         fs = in-sight (sh .program);
         env = empty;
         stands = stands-first w (sh .holds) (sh .typed);
-        written = sh .written;
         deep = omega arith;
         room = record { long = sh .long; few = omega arith; births = omega (arith, sh .allowed); low = λ i l. absurd (omega arith); rising = λ i j l h. absurd (omega arith) };
         printed = omega arith;
@@ -117,14 +116,10 @@ module _ {table w o : List ℕ} {count defs root allowance : ℕ} where
 
     -- the contract of the run
     pub whole : (w2 : List ℕ) → w2 ≡ zeros w1 0 WORK → (q : Done) → q ≡ reported r → RunsTo table w o w2 o1 count defs root allowance q
-    whole w2 ew q eq =
-        record {
-          answer = λ ts p t h typed.
-              subst (λ (m : M.Outcome). Tells-of m q) (outcome-is ts p t h typed)
-              (subst (λ (x : Done). Tells-of (outcome w1 o1 r) x) (sym eq) (report-is w1 o1 r));
-          output = λ ts p t h typed.
-              subst (λ (m : M.Outcome). o1 ≡ printed-by m ++ drop (length (printed-by m)) o) (outcome-is ts p t h typed)
-              (subst (λ (x : List ℕ). o1 ≡ x ++ drop (length x) o) (sym (printed-is w1 o1 r))
-              (output-is o o1 (tally r .printed) (ran .kept .wide) (ran .kept .printed) (ran .kept .rest)));
-          cleared = ew ∙ cleared-same (ran .kept);
-        }
+    whole w2 ew q eq = record {
+      answer = λ ts p t h typed.
+          subst (EndsAs (run p allowance (length o)) o o1) (sym eq)
+          (reported-ends w1 o o1 r (sym (outcome-is ts p t h typed))
+          (output-is o o1 (tally r .printed) (ran .kept .wide) (ran .kept .printed) (ran .kept .rest)));
+      cleared = ew ∙ cleared-same (ran .kept);
+    }

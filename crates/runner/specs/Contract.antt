@@ -2,17 +2,17 @@
 use mathlib.Core.Bool.{cond}
 use mathlib.Core.List.{List, [], _++_, reverse}
 use mathlib.Core.Path.{_≡_}
-use Prim.Native.Nat.{ℕ, suc, _+_, _*_, _≤_, _<_}
+use Prim.Native.Nat.{ℕ, suc, _+_, _-_, _*_, _≤_, _<_}
 use lib.Dec.{eqb}
 use lib.ListN.{length, drop}
-use Rattle.language.specs.Sizes.{TOKENS, NODES, ALLOWANCE, ACTIVE, PARAMETERS, TABLE, WORK, LARGEST}
-use Rattle.language.specs.Tokens.{Token, At, value-at, spelling-at, NAME, NUMBER, LBRACE}
+use Rattle.language.specs.Sizes.{TOKENS, NODES, ALLOWANCE, ACTIVE, PARAMETERS, TABLE, WORK}
+use Rattle.language.specs.Tokens.{Token, At, spelling-at, NAME, LBRACE}
 use Rattle.language.specs.Trees.{Name, Exp, Ty, Def, Program, Scope, empty, push, PUTCHAR}
 use Rattle.language.specs.Types.{HasType}
 use Rattle.language.specs.State as M
-use Rattle.language.specs.State.{value, stop, stuck}
+use Rattle.language.specs.State.{value, stop}
 use Rattle.language.specs.Meaning.{Fun, putchar, defined, Env, arguments, run}
-use Rattle.layout.specs.Table.{row-word, function-row, zeros}
+use Rattle.layout.specs.Table.{KIND, row-word, function-row, zeros}
 use Rattle.layout.specs.Names.{name-number, Stand}
 use Rattle.layout.specs.Decode.{tree-at, args-at, Right, RightArgs, FunctionAt, Holds}
 use Rattle.layout.specs.Slots.{key-at}
@@ -20,7 +20,8 @@ use Rattle.layout.specs.Slots as Slots
 use Rattle.layout.specs.Values.{meant}
 use Rattle.machine.specs.Slots.{values-from}
 use Rattle.runner.specs.Rows.{Callable, takes, parameter}
-use Rattle.machine.specs.Outcomes.{Tells, memory, outcome, tally, why, Room, Kept}
+use Rattle.numbers.specs.Meanings.{stop-meant}
+use Rattle.machine.specs.Outcomes.{Tells, memory, outcome, tally, Room, Kept}
 use Rattle.runner.specs.declared.Spent.{Spent}
 use Rattle.runner.specs.declared.Done.{Done}
 use Rattle.runner.specs.declared.callees.Callee.{Callee}
@@ -66,17 +67,13 @@ pub record Lined (d h : ℕ) (ts : List Token) (table w : List ℕ) (row : ℕ) 
 
 -- ---- nodes
 
--- every number of the tokens is one that can be written
-abbrev pub Written : List Token → Type 0
-Written ts = (i : ℕ) → At ts i NUMBER → value-at ts i ≤ LARGEST
-
 -- the first slot above the bindings in sight
 abbrev pub top : Frame → ℕ
 top f = f .base + f .size
 
--- a body's Block begins with the parameters of a call, which is active, too
+-- a body's Block begins with the parameters of a call, which is active, too, and has four bindings of its own
 abbrev pub slack : ℕ → ℕ
-slack kind = cond (eqb kind LBRACE) 4 0
+slack kind = cond (eqb kind LBRACE) (PARAMETERS - 4) 0
 
 pub record Ready (table w o : List ℕ) (node depth : ℕ) (f : Frame) (s : Tally) : Type 0 where
   pub d : ℕ
@@ -85,8 +82,7 @@ pub record Ready (table w o : List ℕ) (node depth : ℕ) (f : Frame) (s : Tall
   pub fs : Scope Fun
   pub env : Env
   pub stands : Stands d h ts table w node f fs env
-  pub written : Written ts
-  pub deep : top f + 4 * depth ≤ 4 * ACTIVE + slack (row-word table node 0)
+  pub deep : top f + 4 * depth ≤ 4 * ACTIVE + slack (row-word table node KIND)
   pub room : Room w s
   pub printed : s .printed ≤ length o
 
@@ -112,7 +108,6 @@ pub record Queued (table w o : List ℕ) (row k : ℕ) (c : Callee) (depth : ℕ
   pub fs : Scope Fun
   pub env : Env
   pub lined : Lined d h ts table w row f fs env
-  pub written : Written ts
   pub callable : Callable table c
   pub ahead : k + row ≤ NODES
   pub deep : top f + 4 * depth + 4 ≤ 4 * ACTIVE
@@ -140,7 +135,7 @@ PassedOn (Passed.All n t) sem table w o w′ o′ row k c f s =
 PassedOn (Passed.Halts y p t) sem table w o w′ o′ row k c f s =
     (d h : ℕ) (ts : List Token) (fs : Scope Fun) (env : Env) → Lined d h ts table w row f fs env
     → (κ : List M.Value → M.State → M.Outcome)
-    → Tells (stop (why y) p (memory w′ o′ t)) (arguments fs (sem fs) (args-at h ts table row) env (memory w o s) κ)
+    → Tells (stop (stop-meant y) p (memory w′ o′ t)) (arguments fs (sem fs) (args-at h ts table row) env (memory w o s) κ)
 
 pub record Passing (sem : Sem) (table w o w′ o′ : List ℕ) (row k : ℕ) (c : Callee) (f : Frame) (s : Tally) (r : Passed) : Type 0 where
   pub kept : Kept 0 w o w′ o′ (top f) s (passed-tally r)
@@ -155,40 +150,35 @@ abbrev pub reported : Outcome → Done
 reported (Gives v t) = Done.Value v (spent t)
 reported (Halts y p t) = Done.Stop y p (spent t)
 
--- What is asked: the table holds a program that has a type. The numbers of a text are written ones, so its tokens are.
+-- What is asked: the table holds a program that has a type.
 pub record Sheet (table w : List ℕ) (count defs root allowance : ℕ) : Type 0 where
   pub ts : List Token
   pub program : Program
   pub type : Ty
   pub holds : Holds ts table count defs root program
   pub typed : HasType program type
-  pub written : Written ts
   pub long : WORK ≤ length w
   pub allowed : allowance ≤ ALLOWANCE
 
--- the units left and the bytes printed are those of the state
-pub record Counts (e : Spent) (σ : M.State) : Type 0 where
-  pub left : e .left ≡ σ .units
-  pub printed : e .printed ≡ length (σ .printed)
+-- the outcome that an answer is, with a state
+abbrev pub outcome-of : Done → M.State → M.Outcome
+outcome-of (Done.Value v e) σ = value (meant v) σ
+outcome-of (Done.Stop y p e) σ = stop (stop-meant y) p σ
 
--- the answer is the outcome
-abbrev pub Tells-of : M.Outcome → Done → Type 0
-Tells-of (value x σ) (Done.Value v e) = (meant v ≡ x) × Counts e σ
-Tells-of (value x σ) (Done.Stop y p e) = ⊥
-Tells-of (stop z i σ) (Done.Value v e) = ⊥
-Tells-of (stop z i σ) (Done.Stop y p e) = (why y ≡ z) × (p ≡ i) × Counts e σ
-Tells-of stuck r = ⊥
+abbrev pub spent-of : Done → Spent
+spent-of (Done.Value v e) = e
+spent-of (Done.Stop y p e) = e
 
--- the bytes that an outcome has printed, the first one first
-abbrev pub printed-by : M.Outcome → List ℕ
-printed-by (value x σ) = reverse (σ .printed)
-printed-by (stop z i σ) = reverse (σ .printed)
-printed-by stuck = []
+-- the answer r and the output o′ are those of the outcome m
+pub record EndsAs (m : M.Outcome) (o o′ : List ℕ) (r : Done) : Type 0 where
+  pub state : M.State
+  pub outcome : m ≡ outcome-of r state
+  pub left : spent-of r .left ≡ state .units
+  pub printed : spent-of r .printed ≡ length (state .printed)
+  pub output : o′ ≡ reverse (state .printed) ++ drop (length (reverse (state .printed))) o
 
 -- What is promised: the answer and the output are those of the meaning, and work memory is cleared.
 pub record RunsTo (table w o w′ o′ : List ℕ) (count defs root allowance : ℕ) (r : Done) : Type 0 where
   pub answer : (ts : List Token) (p : Program) (t : Ty) → Holds ts table count defs root p → HasType p t
-      → Tells-of (run p allowance (length o)) r
-  pub output : (ts : List Token) (p : Program) (t : Ty) → Holds ts table count defs root p → HasType p t
-      → o′ ≡ printed-by (run p allowance (length o)) ++ drop (length (printed-by (run p allowance (length o)))) o
+      → EndsAs (run p allowance (length o)) o o′ r
   pub cleared : w′ ≡ zeros w 0 WORK

@@ -2,12 +2,14 @@
 ghost use mathlib.Core.Path.{_≡_};
 ghost use Prim.Native.Nat.{ℕ, _+_, _*_, _≤_, _<_};
 ghost use lib.ListN.{length};
-ghost use Rattle.language.specs.Sizes.{WORK};
+ghost use Rattle.language.specs.Sizes.{TABLE, WORK};
+ghost use Rattle.layout.specs.Functions.{Headed, find-function};
 ghost use Rattle.layout.specs.Slots.{put-slot};
 ghost use Rattle.layout.specs.Values.{Survives};
-ghost use Rattle.runner.specs.Rows.{Headed, find-function, callee, takes, parameter, Callable};
+ghost use Rattle.runner.specs.Rows.{callee, takes, parameter, Callable};
 use layout::PUTCHAR;
 use layout::functions;
+use layout::functions::Found;
 use layout::rows;
 use layout::slots;
 use layout::values::Value;
@@ -22,18 +24,14 @@ pub enum Callee {
 
 // The newest function of that name. Of the names that no function has only `putchar` can be called.
 pub fn find(table: &[u32], name: u32, defs: usize) -> Callee
-    requires { ⌜ Headed (now table) defs ⌝ }
+    requires { ⌜ (TABLE ≤ length (now table)) × ((k : ℕ) → k < defs → Headed (now table) k) ⌝ }
     ensures { λ r. ⌜ callee r ≡ find-function (now (table .entry)) name defs ⌝ }
 {
-    let mut i = defs;
-    while 0 < i {
-        i = i - 1;
-        let row = functions::row(table, i);
-        if leaves::carried(table, row, leaves::NEXT) == name {
-            return Callee::Defined(row);
-        }
+    let newest = functions::find(table, defs, name);
+    match newest {
+        Found::At(row) => Callee::Defined(row),
+        Found::Nowhere => Callee::Putchar,
     }
-    Callee::Putchar
 }
 
 // How many arguments it takes.
@@ -43,7 +41,7 @@ pub fn takes(table: &[u32], c: Callee) -> usize
 {
     match c {
         Callee::Putchar => 1,
-        Callee::Defined(row) => rows::link(table, row, leaves::FIRST),
+        Callee::Defined(row) => rows::link(table, row, rows::ARITY),
     }
 }
 

@@ -2,20 +2,20 @@
 ghost use mathlib.Core.Path.{_≡_};
 ghost use Prim.Native.Nat.{ℕ, _+_};
 ghost use Rattle.language.specs.Meaning.{eval, step};
-ghost use Rattle.layout.specs.Table.{row-word};
+ghost use Rattle.layout.specs.Table.{KIND, row-word};
 ghost use Rattle.layout.specs.Rows.{CALL};
 ghost use Rattle.runner.specs.Contract.{Ready, Ran, Queued, Passing};
 use crate::callees;
 use crate::callees::Callee;
 use crate::nodes;
 use layout::rows;
-use machine::Stop;
 use machine::leaves;
 use machine::output;
 use machine::state;
 use machine::state::Frame;
 use machine::state::Outcome;
 use machine::state::Tally;
+use numbers::Stop;
 
 // How the arguments of a call end: bound, so many of them, or by a stop in one.
 pub enum Passed {
@@ -33,12 +33,12 @@ pub fn call(
     frame: Frame,
     s: Tally,
 ) -> Outcome
-    requires { ⌜ Ready (now table) (now work) (now out) node (depth + 1) frame s × (row-word (now table) node 0 ≡ CALL) ⌝ }
+    requires { ⌜ Ready (now table) (now work) (now out) node (depth + 1) frame s × (row-word (now table) node KIND ≡ CALL) ⌝ }
     ensures { λ r. ⌜ Ran (λ fs. step fs (eval fs depth)) 1 (now (table .entry)) (now (work .entry)) (now (out .entry)) (now (work .exit)) (now (out .exit)) node frame s r ⌝ }
 {
-    let place = rows::word(table, node, leaves::OWN);
+    let place = rows::word(table, node, rows::OWN);
     let name = leaves::carried(table, node, leaves::HERE);
-    let row = rows::link(table, node, leaves::FIRST);
+    let row = rows::link(table, node, rows::FIRST);
     let defs = frame.defs;
     let top = frame.base + frame.size;
     let callee = callees::find(table, name, defs);
@@ -50,7 +50,7 @@ pub fn call(
                 return match callee {
                     Callee::Putchar => output::put_bound(place, work, out, top, t),
                     Callee::Defined(head) => {
-                        let body = rows::link(table, head, leaves::THIRD);
+                        let body = rows::link(table, head, rows::BODY);
                         let inner = Frame {
                             defs,
                             base: top,
@@ -84,8 +84,8 @@ fn arguments(
     if row == 0 {
         return Passed::All(k, s);
     }
-    let argument = rows::link(table, row, leaves::FIRST);
-    let next = rows::link(table, row, leaves::SECOND);
+    let argument = rows::link(table, row, rows::EXPRESSION);
+    let next = rows::link(table, row, rows::NEXT);
     let top = frame.base + frame.size;
     let first = nodes::eval(table, work, out, argument, depth, frame, s);
     match first {

@@ -12,10 +12,10 @@ use language::ACTIVE;
 use language::WORK;
 use layout::memory;
 use layout::values::Value;
-use machine::Stop;
 use machine::state::Frame;
 use machine::state::Outcome;
 use machine::state::Tally;
+use numbers::Stop;
 
 // The units that are left of the allowance, and how many bytes were printed.
 pub struct Spent {

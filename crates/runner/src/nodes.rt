@@ -3,7 +3,7 @@ ghost use mathlib.Core.Path.{_≡_};
 ghost use Prim.Native.Nat.{ℕ, _+_};
 ghost use Rattle.language.specs.Tokens.{LBRACE, SEMI, LET, IF, WHILE};
 ghost use Rattle.language.specs.Meaning.{eval, step};
-ghost use Rattle.layout.specs.Table.{row-word};
+ghost use Rattle.layout.specs.Table.{KIND, row-word};
 ghost use Rattle.runner.specs.Contract.{Ready, Ran, Spends};
 use crate::calls;
 use crate::operators;
@@ -11,7 +11,6 @@ use language::kinds;
 use layout::rows;
 use layout::slots;
 use layout::values::Value;
-use machine::Stop;
 use machine::bindings;
 use machine::cells;
 use machine::leaves;
@@ -21,6 +20,7 @@ use machine::state::Frame;
 use machine::state::Outcome;
 use machine::state::SLOT;
 use machine::state::Tally;
+use numbers::Stop;
 
 pub fn eval(
     table: &[u32],
@@ -34,7 +34,7 @@ pub fn eval(
     requires { ⌜ Ready (now table) (now work) (now out) node depth frame s ⌝ }
     ensures { λ r. ⌜ Ran (λ fs. eval fs depth) 0 (now (table .entry)) (now (work .entry)) (now (out .entry)) (now (work .exit)) (now (out .exit)) node frame s r × Spends r (s .units) ⌝ }
 {
-    let place = rows::word(table, node, leaves::OWN);
+    let place = rows::word(table, node, rows::OWN);
     if state::exhausted(s) {
         return Outcome::Halts(Stop::NoUnit, place, s);
     }
@@ -62,12 +62,12 @@ fn step(
     requires { ⌜ Ready (now table) (now work) (now out) node (depth + 1) frame s ⌝ }
     ensures { λ r. ⌜ Ran (λ fs. step fs (eval fs depth)) 1 (now (table .entry)) (now (work .entry)) (now (out .entry)) (now (work .exit)) (now (out .exit)) node frame s r ⌝ }
 {
-    let kind = rows::word(table, node, leaves::KIND);
+    let kind = rows::word(table, node, rows::KIND);
     if kind == kinds::NAME {
         return bindings::look(table, work, node, frame, s);
     }
     if kind == kinds::LPAR {
-        let inner = rows::link(table, node, leaves::FIRST);
+        let inner = rows::link(table, node, rows::FIRST);
         return eval(table, work, out, inner, depth, frame, s);
     }
     if kind == kinds::LBRACE {
@@ -108,11 +108,11 @@ fn follow(
     frame: Frame,
     s: Tally,
 ) -> Outcome
-    requires { ⌜ Ready (now table) (now work) (now out) node (depth + 1) frame s × (row-word (now table) node 0 ≡ SEMI) ⌝ }
+    requires { ⌜ Ready (now table) (now work) (now out) node (depth + 1) frame s × (row-word (now table) node KIND ≡ SEMI) ⌝ }
     ensures { λ r. ⌜ Ran (λ fs. step fs (eval fs depth)) 1 (now (table .entry)) (now (work .entry)) (now (out .entry)) (now (work .exit)) (now (out .exit)) node frame s r ⌝ }
 {
-    let one = rows::link(table, node, leaves::FIRST);
-    let two = rows::link(table, node, leaves::SECOND);
+    let one = rows::link(table, node, rows::FIRST);
+    let two = rows::link(table, node, rows::SECOND);
     let first = eval(table, work, out, one, depth, frame, s);
     match first {
         Outcome::Halts(why, p, t) => Outcome::Halts(why, p, t),
@@ -130,10 +130,10 @@ fn block(
     frame: Frame,
     s: Tally,
 ) -> Outcome
-    requires { ⌜ Ready (now table) (now work) (now out) node (depth + 1) frame s × (row-word (now table) node 0 ≡ LBRACE) ⌝ }
+    requires { ⌜ Ready (now table) (now work) (now out) node (depth + 1) frame s × (row-word (now table) node KIND ≡ LBRACE) ⌝ }
     ensures { λ r. ⌜ Ran (λ fs. step fs (eval fs depth)) 1 (now (table .entry)) (now (work .entry)) (now (out .entry)) (now (work .exit)) (now (out .exit)) node frame s r ⌝ }
 {
-    let inner = rows::link(table, node, leaves::FIRST);
+    let inner = rows::link(table, node, rows::FIRST);
     let live = s.cells;
     let first = eval(table, work, out, inner, depth, frame, s);
     match first {
@@ -155,12 +155,12 @@ fn bind(
     frame: Frame,
     s: Tally,
 ) -> Outcome
-    requires { ⌜ Ready (now table) (now work) (now out) node (depth + 1) frame s × (row-word (now table) node 0 ≡ LET) ⌝ }
+    requires { ⌜ Ready (now table) (now work) (now out) node (depth + 1) frame s × (row-word (now table) node KIND ≡ LET) ⌝ }
     ensures { λ r. ⌜ Ran (λ fs. step fs (eval fs depth)) 1 (now (table .entry)) (now (work .entry)) (now (out .entry)) (now (work .exit)) (now (out .exit)) node frame s r ⌝ }
 {
     let key = leaves::carried(table, node, leaves::NEXT);
-    let one = rows::link(table, node, leaves::FIRST);
-    let two = rows::link(table, node, leaves::SECOND);
+    let one = rows::link(table, node, rows::FIRST);
+    let two = rows::link(table, node, rows::SECOND);
     let defs = frame.defs;
     let base = frame.base;
     let size = frame.size;
@@ -190,12 +190,12 @@ fn branch(
     frame: Frame,
     s: Tally,
 ) -> Outcome
-    requires { ⌜ Ready (now table) (now work) (now out) node (depth + 1) frame s × (row-word (now table) node 0 ≡ IF) ⌝ }
+    requires { ⌜ Ready (now table) (now work) (now out) node (depth + 1) frame s × (row-word (now table) node KIND ≡ IF) ⌝ }
     ensures { λ r. ⌜ Ran (λ fs. step fs (eval fs depth)) 1 (now (table .entry)) (now (work .entry)) (now (out .entry)) (now (work .exit)) (now (out .exit)) node frame s r ⌝ }
 {
-    let test = rows::link(table, node, leaves::FIRST);
-    let one = rows::link(table, node, leaves::SECOND);
-    let two = rows::link(table, node, leaves::THIRD);
+    let test = rows::link(table, node, rows::FIRST);
+    let one = rows::link(table, node, rows::SECOND);
+    let two = rows::link(table, node, rows::THIRD);
     let first = eval(table, work, out, test, depth, frame, s);
     match first {
         Outcome::Halts(why, p, t) => Outcome::Halts(why, p, t),
@@ -219,11 +219,11 @@ fn passes(
     frame: Frame,
     s: Tally,
 ) -> Outcome
-    requires { ⌜ Ready (now table) (now work) (now out) node (depth + 1) frame s × (row-word (now table) node 0 ≡ WHILE) ⌝ }
+    requires { ⌜ Ready (now table) (now work) (now out) node (depth + 1) frame s × (row-word (now table) node KIND ≡ WHILE) ⌝ }
     ensures { λ r. ⌜ Ran (λ fs. step fs (eval fs depth)) 1 (now (table .entry)) (now (work .entry)) (now (out .entry)) (now (work .exit)) (now (out .exit)) node frame s r ⌝ }
 {
-    let test = rows::link(table, node, leaves::FIRST);
-    let body = rows::link(table, node, leaves::SECOND);
+    let test = rows::link(table, node, rows::FIRST);
+    let body = rows::link(table, node, rows::SECOND);
     let mut t = s;
     loop {
         let first = eval(table, work, out, test, depth, frame, t);

@@ -6,7 +6,6 @@ ghost use Rattle.runner.specs.Rows.{IsUnary, IsBinary};
 ghost use Rattle.runner.specs.Contract.{Ready, Ran};
 use crate::nodes;
 use layout::rows;
-use machine::leaves;
 use machine::operations;
 use machine::state::Frame;
 use machine::state::Outcome;
@@ -25,9 +24,9 @@ pub fn unary(
     requires { ⌜ Ready (now table) (now work) (now out) node (depth + 1) frame s × IsUnary (now table) node ⌝ }
     ensures { λ r. ⌜ Ran (λ fs. step fs (eval fs depth)) 1 (now (table .entry)) (now (work .entry)) (now (out .entry)) (now (work .exit)) (now (out .exit)) node frame s r ⌝ }
 {
-    let op = rows::word(table, node, leaves::KIND);
-    let place = rows::word(table, node, leaves::OWN);
-    let operand = rows::link(table, node, leaves::FIRST);
+    let op = rows::word(table, node, rows::KIND);
+    let place = rows::word(table, node, rows::OWN);
+    let operand = rows::link(table, node, rows::FIRST);
     let first = nodes::eval(table, work, out, operand, depth, frame, s);
     match first {
         Outcome::Halts(why, p, t) => Outcome::Halts(why, p, t),
@@ -48,10 +47,10 @@ pub fn binary(
     requires { ⌜ Ready (now table) (now work) (now out) node (depth + 1) frame s × IsBinary (now table) node ⌝ }
     ensures { λ r. ⌜ Ran (λ fs. step fs (eval fs depth)) 1 (now (table .entry)) (now (work .entry)) (now (out .entry)) (now (work .exit)) (now (out .exit)) node frame s r ⌝ }
 {
-    let op = rows::word(table, node, leaves::KIND);
-    let place = rows::word(table, node, leaves::OWN);
-    let left = rows::link(table, node, leaves::FIRST);
-    let right = rows::link(table, node, leaves::SECOND);
+    let op = rows::word(table, node, rows::KIND);
+    let place = rows::word(table, node, rows::OWN);
+    let left = rows::link(table, node, rows::FIRST);
+    let right = rows::link(table, node, rows::SECOND);
     let first = nodes::eval(table, work, out, left, depth, frame, s);
     match first {
         Outcome::Halts(why, p, t) => Outcome::Halts(why, p, t),

@@ -1,27 +1,44 @@
 -- What becomes of a source on its way through the layers: the contracts of this crate.
+use mathlib.Core.Bool.{cond}
 use mathlib.Core.List.{List}
 use mathlib.Core.Path.{_≡_}
-use Prim.Native.Nat.{ℕ, _≤_, _<_}
+use Prim.Native.Nat.{ℕ, _≤_}
+use lib.Dec.{ltb}
 use lib.ListN.{length}
-use Rattle.language.specs.Sizes.{NODES, TABLE}
-use Rattle.language.specs.Tokens.{Token, place-at}
-use Rattle.language.specs.Trees.{Ty, Program, program-nodes}
-use Rattle.language.specs.Grammar.{Reading}
+use Rattle.language.specs.Sizes.{TABLE}
+use Rattle.language.specs.Tokens.{Token}
+use Rattle.language.specs.Trees.{Ty, Program}
 use Rattle.language.specs.Types.{HasType}
 use Rattle.language.specs.Faults.{Reason, HasFault}
 use Rattle.language.specs.Meaning.{type-number}
-use Rattle.language.specs.Numbers.{Row, no-reading, many-nodes, types}
-use Rattle.language.specs.Answers.{Passes, Refused}
-use Rattle.layout.specs.Table.{zeros}
+use Rattle.language.specs.Numbers.{types}
+use Rattle.language.specs.Answers as Answers
+use Rattle.language.specs.Answers.{from-text, Proper, Denied, Passes, Refused}
+use Rattle.numbers.specs.Meanings.{refusal-meant}
+use Rattle.layout.specs.Table.{token-word, zeros}
 use Rattle.layout.specs.Names.{Stand}
 use Rattle.layout.specs.Decode.{Holds}
-use Rattle.sheets.specs.Refusals.{refusal-row}
+use Rattle.sheets.specs.declared.Spot.{Spot}
+use Rattle.sheets.specs.declared.Verdict.{Verdict}
 use Rattle.sheets.specs.declared.Seen.{Seen}
-use Rattle.sheets.specs.declared.Seen.the-variants as seen
 
 -- the required words of a table, cleared: what the layers change lies among them
 abbrev pub wiped : List ℕ → List ℕ
 wiped w = zeros w 0 TABLE
+
+-- ---- places
+
+abbrev pub spot-meant : Spot → Answers.Spot
+spot-meant Spot.Nowhere = Answers.nowhere
+spot-meant (Spot.At i) = Answers.at i
+
+-- the byte of an ordinal, from the words of a table; the source ends at `end`
+unfoldable pub byte-of : List ℕ → ℕ → ℕ → ℕ → ℕ
+byte-of w count end i = cond (ltb i count) (token-word w i 1) end
+
+abbrev pub byte-in : List ℕ → ℕ → ℕ → Spot → ℕ
+byte-in w count end Spot.Nowhere = 0
+byte-in w count end (Spot.At i) = byte-of w count end i
 
 -- ---- a program that the table holds
 
@@ -30,15 +47,14 @@ pub record Held (w : List ℕ) (count defs root : ℕ) : Type 0 where
   pub program : Program
   pub holds : Holds tokens w count defs root program
 
--- the type of p, or its fault, where it is a reading of ts
-abbrev pub OfProgram : List Token → Program → ℕ → ℕ → ℕ → Seen → Type 0
-OfProgram ts p count defs root (seen.Sheet c d r k) =
-    (c ≡ count) × (d ≡ defs) × (r ≡ root) × ((t : Ty) × HasType p t × (k ≡ type-number t))
-OfProgram ts p count defs root (seen.Refused w i) =
-    (r : Reason) × (j : ℕ) × HasFault p r j × (refusal-row w ≡ types r) × (i ≡ place-at ts j)
+-- the type of p, or its fault
+abbrev pub OfProgram : Program → ℕ → ℕ → Verdict → Type 0
+OfProgram p defs root (Verdict.Proper d r n) = (d ≡ defs) × (r ≡ root) × ((t : Ty) × HasType p t × (n ≡ type-number t))
+OfProgram p defs root (Verdict.Denied y s) =
+    (r : Reason) × (i : ℕ) × HasFault p r i × (refusal-meant y ≡ types r) × (spot-meant s ≡ Answers.at i)
 
-pub record Typed (w w′ : List ℕ) (count defs root : ℕ) (s : Seen) : Type 0 where
-  pub told : (ts : List Token) (p : Program) → Holds ts w count defs root p → OfProgram ts p count defs root s
+pub record Typed (w w′ : List ℕ) (count defs root : ℕ) (v : Verdict) : Type 0 where
+  pub told : (ts : List Token) (p : Program) → Holds ts w count defs root p → OfProgram p defs root v
   pub holds : (ts : List Token) (p : Program) → Holds ts w count defs root p → Holds ts w′ count defs root p
   pub rest : wiped w′ ≡ wiped w
   pub long : length w′ ≡ length w
@@ -50,45 +66,43 @@ pub record Standing (w : List ℕ) (count : ℕ) : Type 0 where
   pub stand : Stand w count tokens
   pub long : TABLE ≤ length w
 
--- why they are no program that runs, and at which byte
-pub data Denied (ts : List Token) : Row → ℕ → Type 0 where
-  denied-unread : ((p : Program) → Reading ts p → ⊥) → Denied ts no-reading 0
-  denied-large : {p : Program} → Reading ts p → NODES < program-nodes p → Denied ts many-nodes 0
-  denied-fault : {p : Program} {r : Reason} {j : ℕ} → Reading ts p → program-nodes p ≤ NODES → HasFault p r j → Denied ts (types r) (place-at ts j)
-
 -- they are a program of this type, which the table holds
-pub record Allowed (ts : List Token) (w : List ℕ) (count defs root kind : ℕ) : Type 0 where
+pub record Allowed (ts : List Token) (w : List ℕ) (count defs root n : ℕ) : Type 0 where
   pub program : Program
   pub type : Ty
-  pub reads : Reading ts program
-  pub small : program-nodes program ≤ NODES
-  pub typed : HasType program type
-  pub numbered : kind ≡ type-number type
+  pub proper : Proper ts program type
+  pub numbered : n ≡ type-number type
   pub holds : Holds ts w count defs root program
 
-abbrev pub OfTokens : List Token → List ℕ → Seen → Type 0
-OfTokens ts w (seen.Sheet c d r k) = Allowed ts w c d r k
-OfTokens ts w (seen.Refused y i) = Denied ts (refusal-row y) i
+abbrev pub OfTokens : List Token → List ℕ → ℕ → Verdict → Type 0
+OfTokens ts w count (Verdict.Proper d r n) = Allowed ts w count d r n
+OfTokens ts w count (Verdict.Denied y s) = Denied ts (refusal-meant y) (spot-meant s)
 
-pub record Read (w w′ : List ℕ) (count : ℕ) (s : Seen) : Type 0 where
-  pub told : (ts : List Token) → Stand w count ts → OfTokens ts w′ s
+pub record Read (w w′ : List ℕ) (count : ℕ) (v : Verdict) : Type 0 where
+  pub told : (ts : List Token) → Stand w count ts → OfTokens ts w′ count v
+  pub stands : (ts : List Token) → Stand w count ts → Stand w′ count ts
   pub rest : wiped w′ ≡ wiped w
   pub long : length w′ ≡ length w
 
 -- ---- a source
 
+-- what is seen of a source that ends at `end`, from what becomes of its tokens
+abbrev pub Placed : List ℕ → ℕ → ℕ → Verdict → Seen → Type 0
+Placed w count end (Verdict.Proper d r n) s = s ≡ Seen.Passes count d r n
+Placed w count end (Verdict.Denied y p) s = s ≡ Seen.Refused y (byte-in w count end p)
+
 -- it passes, and the table holds its program
-pub record Passing (source w : List ℕ) (count defs root kind : ℕ) : Type 0 where
+pub record Passing (source w : List ℕ) (count defs root n : ℕ) : Type 0 where
   pub tokens : List Token
   pub program : Program
   pub type : Ty
-  pub passes : Passes source tokens program type
-  pub numbered : kind ≡ type-number type
+  pub passes : Passes (from-text source) tokens program type
+  pub numbered : n ≡ type-number type
   pub holds : Holds tokens w count defs root program
 
 abbrev pub OfSource : List ℕ → List ℕ → Seen → Type 0
-OfSource source w (seen.Sheet c d r k) = Passing source w c d r k
-OfSource source w (seen.Refused y i) = Refused source (refusal-row y) i
+OfSource source w (Seen.Passes c d r n) = Passing source w c d r n
+OfSource source w (Seen.Refused y i) = Refused (from-text source) (refusal-meant y) i
 
 pub record Examined (source w w′ : List ℕ) (s : Seen) : Type 0 where
   pub told : OfSource source w′ s

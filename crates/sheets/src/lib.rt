@@ -4,61 +4,106 @@ ghost use mathlib.Core.Path.{_≡_};
 ghost use Prim.Native.Nat.{_≤_};
 ghost use lib.ListN.{length};
 ghost use Rattle.language.specs.Sizes.{TOKENS, TABLE};
-ghost use Rattle.layout.specs.Table.{place-of};
-ghost use Rattle.sheets.specs.Sheets.{Held, Typed, Standing, Read, Examined};
-
-pub mod numbers;
-pub mod refusals;
-
-use crate::refusals::Refusal;
+ghost use Rattle.sheets.specs.Sheets.{byte-of, byte-in, Held, Typed, Standing, Read, Placed, Examined};
+use numbers::Refusal;
 use reader::Found;
 use rules::Typing;
 use tokens::answer::Split;
 
-// A sheet that passes, as the table holds it, with its type's number; or why it does not, and where.
+// What an answer points at: nothing, or the token with this ordinal.
+pub enum Spot {
+    Nowhere,
+    At(u32),
+}
+
+// What becomes of tokens: a program, as the table holds it, with its type's number; or why they are none,
+// and where.
+pub enum Verdict {
+    Proper {
+        defs: usize,
+        root: usize,
+        type_number: u32,
+    },
+    Denied(Refusal, Spot),
+}
+
+// What becomes of a source: the same, with the count of its tokens and a byte for a place.
 pub enum Seen {
-    Sheet {
+    Passes {
         count: usize,
         defs: usize,
         root: usize,
-        kind: u32,
+        type_number: u32,
     },
     Refused(Refusal, usize),
 }
 
-// The place in bytes of the token with this ordinal.
-pub fn place(table: &[u32], count: usize, at: u32) -> usize
+// The byte of the token with this ordinal; past the last token, the end of the source.
+pub fn place(table: &[u32], count: usize, end: usize, at: u32) -> usize
     requires { ⌜ (TABLE ≤ length (now table)) × (count ≤ TOKENS) ⌝ }
-    ensures { λ r. ⌜ r ≡ place-of (now (table .entry)) count at ⌝ }
+    ensures { λ r. ⌜ r ≡ byte-of (now (table .entry)) count end at ⌝ }
 {
-    layout::tokens::place_of(table, count, at as usize) as usize
+    let i = at as usize;
+    if i < count {
+        return layout::token::place(table, i) as usize;
+    }
+    end
+}
+
+fn place_in(table: &[u32], count: usize, end: usize, spot: Spot) -> usize
+    requires { ⌜ (TABLE ≤ length (now table)) × (count ≤ TOKENS) ⌝ }
+    ensures { λ r. ⌜ r ≡ byte-in (now (table .entry)) count end spot ⌝ }
+{
+    match spot {
+        Spot::Nowhere => 0,
+        Spot::At(at) => place(table, count, end, at),
+    }
 }
 
 // The type of the program that the table holds.
-fn typed(table: &mut [u32], count: usize, defs: usize, root: usize) -> Seen
+fn typed(table: &mut [u32], count: usize, defs: usize, root: usize) -> Verdict
     requires { ⌜ Held (now table) count defs root ⌝ }
     ensures { λ r. ⌜ Typed (now (table .entry)) (now (table .exit)) count defs root r ⌝ }
 {
     match checker::type_of(table, count, defs, root) {
-        Typing::Type(kind) => Seen::Sheet {
-            count,
+        Typing::Type(type_number) => Verdict::Proper {
             defs,
             root,
-            kind,
+            type_number,
         },
-        Typing::Fault(why, at) => Seen::Refused(Refusal::Types(why), place(table, count, at)),
+        Typing::Fault(why, at) => Verdict::Denied(Refusal::Types(why), Spot::At(at)),
     }
 }
 
 // The reading of the tokens that the table stands for, and its type.
-fn read(table: &mut [u32], count: usize) -> Seen
+fn read(table: &mut [u32], count: usize) -> Verdict
     requires { ⌜ Standing (now table) count ⌝ }
     ensures { λ r. ⌜ Read (now (table .entry)) (now (table .exit)) count r ⌝ }
 {
     match reader::read(table, count) {
         Found::Program { defs, root } => typed(table, count, defs, root),
-        Found::None { at: _ } => Seen::Refused(Refusal::NoReading, 0),
-        Found::TooLarge => Seen::Refused(Refusal::ManyNodes, 0),
+        Found::None { at: _ } => Verdict::Denied(Refusal::NoReading, Spot::Nowhere),
+        Found::TooLarge => Verdict::Denied(Refusal::ManyNodes, Spot::Nowhere),
+    }
+}
+
+// What becomes of a source that ends at this byte, once its tokens are read.
+fn placed(table: &[u32], count: usize, end: usize, verdict: Verdict) -> Seen
+    requires { ⌜ (TABLE ≤ length (now table)) × (count ≤ TOKENS) ⌝ }
+    ensures { λ r. ⌜ Placed (now (table .entry)) count end verdict r ⌝ }
+{
+    match verdict {
+        Verdict::Proper {
+            defs,
+            root,
+            type_number,
+        } => Seen::Passes {
+            count,
+            defs,
+            root,
+            type_number,
+        },
+        Verdict::Denied(why, spot) => Seen::Refused(why, place_in(table, count, end, spot)),
     }
 }
 
@@ -68,7 +113,10 @@ pub fn examine(source: &[u8], table: &mut [u32]) -> Seen
     ensures { λ r. ⌜ Examined (now (source .entry)) (now (table .entry)) (now (table .exit)) r ⌝ }
 {
     match tokens::split(source, table) {
-        Split::Tokens(count) => read(table, count),
+        Split::Tokens(count) => {
+            let verdict = read(table, count);
+            placed(table, count, source.len(), verdict)
+        }
         Split::Stopped(flaw, at) => Seen::Refused(Refusal::Text(flaw), at),
         Split::TooLong => Seen::Refused(Refusal::LongSource, 0),
     }

@@ -20,32 +20,32 @@ fn run_whole(source: &[u8], allowance: u64) {
     let out: &mut [u8] = &mut bytes;
     match grumpy::run(source, table, work, out, allowance) {
         Ran::Value {
-            kind,
+            type_number,
             value,
             units,
             printed,
         } => {
             report::printed(out, printed);
             report::number(0);
-            report::kind(kind);
-            report::value(kind, value);
+            report::kind(type_number);
+            report::value(type_number, value);
             report::units(units, allowance);
         }
         Ran::Stopped {
             why,
             place,
-            kind,
+            type_number,
             units,
             printed,
         } => {
             report::printed(out, printed);
-            report::number(grumpy::numbers::of_stop(why));
+            report::number(numbers::of_stop(why));
             report::place(source, place);
-            report::kind(kind);
+            report::kind(type_number);
             report::units(units, allowance);
         }
         Ran::Refused(why, place) => {
-            report::refusal(source, sheets::numbers::of_refusal(why), place);
+            report::refusal(source, numbers::of_refusal(why), place);
         }
     }
 }
@@ -54,12 +54,12 @@ fn check_whole(source: &[u8]) {
     let mut words = [0u32; TABLE];
     let table: &mut [u32] = &mut words;
     match grumpy::check(source, table) {
-        Checked::Passed(kind) => {
+        Checked::Passed(type_number) => {
             report::number(0);
-            report::kind(kind);
+            report::kind(type_number);
         }
         Checked::Refused(why, place) => {
-            report::refusal(source, sheets::numbers::of_refusal(why), place);
+            report::refusal(source, numbers::of_refusal(why), place);
         }
     }
 }

@@ -5,9 +5,9 @@ use lib.Dec.{eqb}
 use lib.ListN.{length, getD, take, drop}
 use lib.Seq.{slice, length-slice, drop-cons, drop-length, getD-take, getD-drop}
 use mathlib.Core.Bool.{Bool, true, false, _&&_}
-use mathlib.Core.List.{List}
+use mathlib.Core.List.{List, [], _∷_}
 use mathlib.Core.Logic.{⊎-elim}
-use mathlib.Core.Path.{_≡_, sym, _∙_, ap₂}
+use mathlib.Core.Path.{_≡_, refl, sym, _∙_, ap, ap₂}
 use native.Mathlib.Nat.{add-zero}
 use native.Mathlib.Numerals.{add-one}
 use native.Mathlib.Omega.{arith}
@@ -15,7 +15,6 @@ use Prim.Native.Nat.{ℕ, suc, _+_, _-_, _≤_, _<_}
 use Rattle.language.proofs.Text.Choices.{outcome}
 use Rattle.language.proofs.Text.Spellings.{stands, stands-yes, stands-no, stands-slice, slice-stands}
 use Rattle.language.proofs.Text.Tables.{same-one}
-use Rattle.language.proofs.Text.Words.{same-length, same-more, same-less, same-end}
 use Rattle.language.specs.Text.{byte}
 use Rattle.language.specs.Tokens.{Spelling, same}
 use Rattle.layout.proofs.TokenLaws.{same-self}
@@ -64,6 +63,17 @@ stands-same t w p q o l n =
     (outcome (same w (slice p q t))))
     (outcome (stands t p w))
 
+both-pass : (x y : Bool) → (x ≡ true → y ≡ false) → (x && y) ≡ false
+both-pass true y h = h refl
+both-pass false y h = refl
+
+same-length : (w s : Spelling) → (length w ≡ length s → ⊥) → same w s ≡ false
+unfolding same
+same-length [] [] h = absurd (h refl)
+same-length [] (b ∷ s) h = refl
+same-length (a ∷ w) [] h = refl
+same-length (a ∷ w) (b ∷ s) h = both-pass (eqb a b) (same w s) (λ x. same-length w s (λ e. h (ap suc e)))
+
 -- bytes of another number are not
 pub length-same : (t w : List ℕ) (p q : ℕ) → q ≤ length t → (length w ≡ q - p → ⊥) → false ≡ same w (slice p q t)
 length-same t w p q l n = sym (same-length w (slice p q t) (λ e. n (e ∙ length-slice p q t l)))
@@ -77,55 +87,47 @@ same-swap s w =
 
 -- ---- other bytes of the text
 
--- the bytes from a up to b are as many as those from p up to q, agree with them up to byte i, and the rest decides
+-- the bytes from a up to b are as many as those from p up to q, and agree with them up to byte i
 pub record Alike (t : List ℕ) (a b p q i : ℕ) : Type 0 where
   pub inside : b ≤ length t
   pub order : p ≤ q
   pub ends : q ≤ length t
   pub many : b - a ≡ q - p
-  pub within : i ≤ b - a
-  pub left : same (slice a b t) (slice p q t) ≡ same (drop i (slice a b t)) (slice (p + i) q t)
+  pub agrees : Agrees t p (slice a b t) i
 
 -- at first no byte is compared
 pub alike-none : {t : List ℕ} {a b p q : ℕ} → b ≤ length t → p ≤ q → q ≤ length t → b - a ≡ q - p → Alike t a b p q 0
-alike-none {p = p} u o v n =
-    record { inside = u; order = o; ends = v; many = n; within = omega arith; left = rw (add-zero p) }
+alike-none {t} {a} {b} {p} u o v n =
+    record { inside = u; order = o; ends = v; many = n; agrees = agrees-none t p (slice a b t) }
 
 module _ {t : List ℕ} {a b p q i : ℕ} (g : Alike t a b p q i) where
   size : length (slice a b t) ≡ b - a
   size = length-slice a b t (g .inside)
 
-  as-many : length (slice a b t) ≡ q - p
-  as-many = size ∙ g .many
+  -- no more bytes are compared than there are
+  pub alike-within : i ≤ b - a
+  alike-within = omega (arith, size, g .agrees .within)
 
   first-byte : {x : ℕ} → i < b - a → x ≡ byte t (a + i) → getD (slice a b t) i 0 ≡ x
   first-byte h e = getD-drop a (take b t) i 0 ∙ getD-take b t (a + i) 0 (omega arith) ∙ sym e
 
+  settled : {r : Bool} → r ≡ stands t p (slice a b t) → r ≡ same (slice a b t) (slice p q t)
+  settled e = e ∙ stands-same t (slice a b t) p q (g .order) (g .ends) (size ∙ g .many)
+
   -- byte i agrees too
   pub alike-more : {x y : ℕ} → i < b - a → x ≡ byte t (a + i) → y ≡ byte t (p + i) → x ≡ y → Alike t a b p q (i + 1)
   alike-more h e f z =
-      record {
-        inside = g .inside;
-        order = g .order;
-        ends = g .ends;
-        many = g .many;
-        within = omega arith;
-        left =
-            g .left
-            ∙ same-more t (slice a b t) p q i as-many (g .order) (g .ends) (omega (arith, size)) (first-byte h e ∙ z ∙ f);
-      }
+      let more = agrees-more (g .agrees) (omega (arith, size)) f (sym (first-byte h e ∙ z)) in
+      record { inside = g .inside; order = g .order; ends = g .ends; many = g .many; agrees = more }
 
   -- byte i does not agree
   pub alike-less : {x y : ℕ} → i < b - a → x ≡ byte t (a + i) → y ≡ byte t (p + i) → (x ≡ y → ⊥)
       → false ≡ same (slice a b t) (slice p q t)
-  alike-less h e f n =
-      sym (g .left
-      ∙ same-less t (slice a b t) p q i as-many (g .order) (g .ends) (omega (arith, size)) (λ z. n (sym (first-byte h e) ∙ z ∙ sym f)))
+  alike-less h e f n = settled (agrees-less (g .agrees) (omega (arith, size)) f (λ z. n (sym (z ∙ first-byte h e))))
 
   -- no byte is left
   pub alike-all : b - a ≤ i → true ≡ same (slice a b t) (slice p q t)
-  alike-all h =
-      sym (g .left ∙ same-end t (slice a b t) p q i as-many (g .order) (g .ends) (omega (arith, size)) (omega (arith, size, g .within)))
+  alike-all h = settled (agrees-all (g .agrees) (omega (arith, size)))
 
 -- ---- the tokens of a table
 

@@ -1,6 +1,7 @@
 pub mod Compared
 pub mod WordRows
-pub mod MarkRows
+pub mod FirstBytes
+pub mod MarkBytes
 pub mod Digits
 pub mod Written
 pub mod Splitting

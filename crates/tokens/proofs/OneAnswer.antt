@@ -4,37 +4,20 @@ use mathlib.Core.List.{List}
 use mathlib.Core.Path.{_≡_, refl, sym, _∙_, ap, ap₂, subst}
 use native.Mathlib.Omega.{arith}
 use Prim.Native.Nat.{ℕ, _≤_}
+use Rattle.language.proofs.Text.Marks.{laws-1}
+use Rattle.language.proofs.Text.SmallNumbers.{split-small}
 use Rattle.language.proofs.Text.OneSplit.{one-list, one-split, one-flaw, not-both}
 use Rattle.language.specs.Sizes.{TABLE}
-use Rattle.language.specs.Text as Text
-use Rattle.language.specs.Text.{Reaches, Splits}
-use Rattle.language.specs.Text.Flaw.{strange-byte, open-comment, large-number, many-tokens}
+use Rattle.language.specs.Edition.{Splits}
+use Rattle.language.specs.Text.{Reaches}
 use Rattle.language.specs.Tokens as Language
+use Rattle.language.specs.Tokens.{EDITION-1}
+use Rattle.numbers.proofs.Apart.{same-flaw}
 use Rattle.layout.proofs.TokenLaws.{lay-stands}
 use Rattle.layout.specs.Names.{lay-tokens, Stand}
-use Rattle.tokens.specs.Answer.{meant, Laid, IsSplit}
-use Rattle.tokens.specs.declared.answer.Flaw as flaw
-use Rattle.tokens.specs.declared.answer.Flaw.the-variants.{StrangeByte, OpenComment, LargeNumber, ManyTokens}
+use Rattle.tokens.specs.Answer.{Laid, IsSplit}
 use Rattle.tokens.specs.declared.answer.Split as split
 use Rattle.tokens.specs.declared.answer.Split.the-variants.{Tokens, Stopped, TooLong}
-
--- ---- the code's flaw is determined by the one it means
-
-told : Text.Flaw → flaw.Flaw
-told strange-byte = StrangeByte
-told open-comment = OpenComment
-told large-number = LargeNumber
-told many-tokens = ManyTokens
-
-told-meant : (f : flaw.Flaw) → told (meant f) ≡ f
-unfolding told
-told-meant StrangeByte = refl
-told-meant OpenComment = refl
-told-meant LargeNumber = refl
-told-meant ManyTokens = refl
-
-one-meaning : (f g : flaw.Flaw) → meant f ≡ meant g → f ≡ g
-one-meaning f g e = sym (told-meant f) ∙ ap told e ∙ told-meant g
 
 -- ---- one answer
 
@@ -45,15 +28,15 @@ module _ (t w v v′ : List ℕ) where
   -- the answer and the table are determined by the text and the table before
   pub one-answer : (r r′ : split.Split) → IsSplit t w v r → IsSplit t w v′ r′ → (r ≡ r′) × (v ≡ v′)
   one-answer (Tokens n) (Tokens m) a b =
-      let e = one-split (a .splits) (b .splits) in
+      let e = one-split laws-1 (a .splits) (b .splits) in
       (ap Tokens (a .count ∙ ap length e ∙ sym (b .count)), one-table e (a .laid) (b .laid))
-  one-answer (Tokens n) (Stopped f p) a b = absurd (not-both (a .splits) (b .flawed))
+  one-answer (Tokens n) (Stopped f p) a b = absurd (not-both laws-1 (a .splits) (b .flawed))
   one-answer (Tokens n) TooLong a b = absurd (omega (arith, a .short, b .long))
-  one-answer (Stopped f p) (Tokens n) a b = absurd (not-both (b .splits) (a .flawed))
+  one-answer (Stopped f p) (Tokens n) a b = absurd (not-both laws-1 (b .splits) (a .flawed))
   one-answer (Stopped f p) (Stopped g q) a b =
-      let z = one-flaw (a .flawed) (b .flawed) in
-      let x : Reaches t q (a .flawed .tokens) = subst (λ i. Reaches t i (a .flawed .tokens)) (z .1) (a .flawed .before) in
-      (ap₂ (λ h i. Stopped h i) (one-meaning f g (z .0)) (z .1), one-table (one-list x (b .flawed .before)) (a .laid) (b .laid))
+      let z = one-flaw laws-1 (a .flawed) (b .flawed) in
+      let x : Reaches EDITION-1 t q (a .flawed .tokens) = subst (λ i. Reaches EDITION-1 t i (a .flawed .tokens)) (z .1) (a .flawed .before) in
+      (ap₂ (λ h i. Stopped h i) (same-flaw f g (z .0)) (z .1), one-table (one-list laws-1 x (b .flawed .before)) (a .laid) (b .laid))
   one-answer (Stopped f p) TooLong a b = absurd (omega (arith, a .short, b .long))
   one-answer TooLong (Tokens n) a b = absurd (omega (arith, b .short, a .long))
   one-answer TooLong (Stopped f p) a b = absurd (omega (arith, b .short, a .long))
@@ -65,7 +48,7 @@ module _ (t w v v′ : List ℕ) where
 pub split-stands : (t w v : List ℕ) (n : ℕ) (ts : List Language.Token)
     → TABLE ≤ length w → IsSplit t w v (Tokens n) → Splits t ts → Stand v n ts
 split-stands t w v n ts room a s =
-    let e : a .tokens ≡ ts = one-split (a .splits) s in
+    let e : a .tokens ≡ ts = one-split laws-1 (a .splits) s in
     let x : v ≡ lay-tokens ts w 0 ts = a .laid ∙ ap (λ us. lay-tokens us w 0 us) e in
     let y : n ≡ length ts = a .count ∙ ap length e in
-    rw (x, y) (lay-stands ts w (s .few) room)
+    rw (x, y) (lay-stands ts w (s .few) (λ i _. split-small s i) room)

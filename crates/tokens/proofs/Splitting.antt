@@ -11,7 +11,7 @@ use Rattle.language.specs.Text as Text
 use Rattle.language.specs.Text.{Piece, Reaches, Wrong, token-of}
 use Rattle.language.specs.Text.Content.{space, token}
 use Rattle.language.specs.Text.Reaches.{start, skip, next}
-use Rattle.language.specs.Tokens.{Token}
+use Rattle.language.specs.Tokens.{EDITION-1, Token}
 use Rattle.layout.proofs.TokenLaws.{lay-length, lay-more}
 use Rattle.layout.specs.Names.{lay-tokens, payload}
 use Rattle.layout.specs.Table.{put-token}
@@ -22,7 +22,7 @@ use Rattle.tokens.specs.Found.{Spans, Payload}
 -- the split comes as far as p with n tokens, which lie in the table: w₀ before, w now
 pub record Reached (t w₀ w : List ℕ) (p n : ℕ) : Type 0 where
   pub tokens : List Token
-  pub reaches : Reaches t p tokens
+  pub reaches : Reaches EDITION-1 t p tokens
   pub count : n ≡ length tokens
   pub few : n ≤ TOKENS
   pub laid : Laid tokens w₀ w
@@ -38,11 +38,11 @@ module _ {t w₀ w : List ℕ} {p n : ℕ} (r : Reached t w₀ w p n) where
   reached-length = ap length (r .laid) ∙ lay-length (r .tokens) w₀ 0 (r .tokens)
 
   -- a piece that is no token is passed over
-  pub reached-skip : {q : ℕ} → Piece t p q space → Reached t w₀ w q n
+  pub reached-skip : {q : ℕ} → Piece EDITION-1 t p q space → Reached t w₀ w q n
   reached-skip x = record { tokens = r .tokens; reaches = skip (r .reaches) x; count = r .count; few = r .few; laid = r .laid }
 
   -- the flaw at p stops the split
-  pub reached-broken : (f : Text.Flaw) → length t ≤ SOURCE → ((ts : List Token) → n ≡ length ts → Wrong t p ts f)
+  pub reached-broken : (f : Text.Flaw) → length t ≤ SOURCE → ((ts : List Token) → n ≡ length ts → Wrong EDITION-1 t p ts f)
       → Broken t w₀ w f p
   reached-broken f l x =
       record {
@@ -58,7 +58,7 @@ module _ {t w₀ w : List ℕ} {p n : ℕ} (r : Reached t w₀ w p n) where
       record {
         short = l;
         tokens = r .tokens;
-        splits = record { whole = subst (λ q. Reaches t q (r .tokens)) e (r .reaches); few = omega (arith, r .count, r .few) };
+        splits = record { whole = subst (λ q. Reaches EDITION-1 t q (r .tokens)) e (r .reaches); few = omega (arith, r .count, r .few) };
         count = r .count;
         laid = r .laid;
       }
@@ -73,7 +73,7 @@ module _ {t w₀ w : List ℕ} {p n : ℕ} (r : Reached t w₀ w p n) where
         subst₂ (λ v m. Spans t v m) (sym (r .laid)) (sym (r .count)) (table-spans t w₀ (r .tokens) (r .reaches) fits)
 
     -- a token is written behind the others
-    pub reached-next : {q k v m : ℕ} {w′ : List ℕ} → n < TOKENS → Piece t p q (token k v) → v ≤ LARGEST
+    pub reached-next : {q k v m : ℕ} {w′ : List ℕ} → n < TOKENS → Piece EDITION-1 t p q (token k v) → v ≤ LARGEST
         → Payload t w n k (slice p q t) v m → w′ ≡ put-token w n k p q m → Reached t w₀ w′ q (n + 1)
     reached-next {q} {k} {v} {m} l x h y z =
         let ts = r .tokens in

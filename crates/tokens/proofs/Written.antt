@@ -17,7 +17,7 @@ use Rattle.language.specs.Text.{Content, Form, token-of, Reaches}
 use Rattle.language.specs.Text.Content.{token}
 use Rattle.language.specs.Text.Form.{blank, line, comment, unended, name, number, mark}
 use Rattle.language.specs.Text.Reaches.{start, skip, next}
-use Rattle.language.specs.Tokens.{same, Token, NAME, NUMBER, past}
+use Rattle.language.specs.Tokens.{same, Vocabulary, Token, NAME, NUMBER, past}
 use Rattle.language.specs.Trees.{PUTCHAR}
 use Rattle.layout.proofs.TokenLaws.{same-self, first-is, lay-holds}
 use Rattle.layout.specs.Names.{first-from, name-number, payload, lay-tokens}
@@ -40,10 +40,11 @@ spot t p q k v o l =
     record { inside = omega arith; spells = rw e }
 
 -- so it is with every token that is reached
-pub reached-spot : {t : List ℕ} {p : ℕ} {ts : List Token} → Reaches t p ts → (i : ℕ) → i < length ts → Spot t (getD ts i past)
+pub reached-spot : {voc : Vocabulary} {t : List ℕ} {p : ℕ} {ts : List Token} → Reaches voc t p ts
+    → (i : ℕ) → i < length ts → Spot t (getD ts i past)
 reached-spot start i h = absurd (omega arith)
 reached-spot (skip a x) i h = reached-spot a i h
-reached-spot {t} {p = q} {ts = us} (next {p = p} {k = k} {v = v} {ts = ts} a x l e) i h =
+reached-spot {t = t} {p = q} {ts = us} (next {p = p} {k = k} {v = v} {ts = ts} a x l e) i h =
     let u = token-of t p q k v in
     let b = form-bounds t p q (token k v) (x .form) in
     let y : getD us i past ≡ getD (ts ++ (u ∷ [])) i past = ap (λ l. getD l i past) e in
@@ -53,7 +54,8 @@ reached-spot {t} {p = q} {ts = us} (next {p = p} {k = k} {v = v} {ts = ts} a x l
     (either i (length ts))
 
 -- what is no number has no value
-no-value : (t : List ℕ) (p q : ℕ) (c : Content) → Form t p q c → (k v : ℕ) → c ≡ token k v → (k ≡ NUMBER → ⊥) → v ≡ 0
+no-value : {voc : Vocabulary} (t : List ℕ) (p q : ℕ) (c : Content) → Form voc t p q c
+    → (k v : ℕ) → c ≡ token k v → (k ≡ NUMBER → ⊥) → v ≡ 0
 no-value t p q c (blank h b e) k v z n = absurd (let y : _≡_ {A = ℕ} 0 1 = cc in omega arith)
 no-value t p q c (line s a b e) k v z n = absurd (let y : _≡_ {A = ℕ} 0 1 = cc in omega arith)
 no-value t p q c (comment d) k v z n = absurd (let y : _≡_ {A = ℕ} 0 1 = cc in omega arith)
@@ -64,7 +66,7 @@ no-value t p q c (mark w e) k v z n = cc
 
 -- ---- the table of the tokens that are reached
 
-module _ (t w₀ : List ℕ) (ts : List Token) {p : ℕ} (r : Reaches t p ts) (room : 4 * length ts ≤ length w₀) where
+module _ {voc : Vocabulary} (t w₀ : List ℕ) (ts : List Token) {p : ℕ} (r : Reaches voc t p ts) (room : 4 * length ts ≤ length w₀) where
   -- token i of the table is token i of the list
   read-back : (i : ℕ) → i < length ts → bytes-of t (lay-tokens ts w₀ 0 ts) i ≡ getD ts i past .spelling
   read-back i h =
@@ -96,7 +98,7 @@ module _ (t w₀ : List ℕ) (ts : List Token) {p : ℕ} (r : Reaches t p ts) (r
       ⊎-elim (λ e. rw e (sym (m .putchar e))) (λ e. rw e (first-number u n (m .first e))) (outcome (same (u .spelling) PUTCHAR))
 
   -- the fourth word of the next token
-  pub payload-found : (q e k v n : ℕ) → Form t q e (token k v)
+  pub payload-found : (q e k v n : ℕ) → Form voc t q e (token k v)
       → Payload t (lay-tokens ts w₀ 0 ts) (length ts) k (slice q e t) v n
       → payload (ts ++ (token-of t q e k v ∷ [])) (token-of t q e k v) ≡ n
   unfolding payload

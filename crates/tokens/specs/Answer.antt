@@ -5,21 +5,12 @@ use mathlib.Core.Path.{_≡_}
 use Prim.Native.Nat.{ℕ, _≤_, _<_}
 use Rattle.language.specs.Sizes.{SOURCE}
 use Rattle.language.specs.Text as Text
-use Rattle.language.specs.Text.{Splits, Flawed}
-use Rattle.language.specs.Text.Flaw.{strange-byte, open-comment, large-number, many-tokens}
+use Rattle.language.specs.Edition.{Splits, Flawed}
 use Rattle.language.specs.Tokens as Tokens
+use Rattle.numbers.specs.Meanings.{flaw-meant}
 use Rattle.layout.specs.Names.{lay-tokens}
-use Rattle.tokens.specs.declared.answer.Flaw as flaw
-use Rattle.tokens.specs.declared.answer.Flaw.the-variants.{StrangeByte, OpenComment, LargeNumber, ManyTokens}
 use Rattle.tokens.specs.declared.answer.Split as split
 use Rattle.tokens.specs.declared.answer.Split.the-variants.{Tokens, Stopped, TooLong}
-
--- the flaw of the language that the code's flaw is
-abbrev pub meant : flaw.Flaw → Text.Flaw
-meant StrangeByte = strange-byte
-meant OpenComment = open-comment
-meant LargeNumber = large-number
-meant ManyTokens = many-tokens
 
 -- the table w with the tokens ts is v
 abbrev pub Laid : List Tokens.Token → List ℕ → List ℕ → Type 0
@@ -47,5 +38,5 @@ pub record Long (t w v : List ℕ) : Type 0 where
 -- what the answer says of the text t, the table w before and the table v after
 abbrev pub IsSplit : List ℕ → List ℕ → List ℕ → split.Split → Type 0
 IsSplit t w v (Tokens n) = Whole t w v n
-IsSplit t w v (Stopped f p) = Broken t w v (meant f) p
+IsSplit t w v (Stopped f p) = Broken t w v (flaw-meant f) p
 IsSplit t w v TooLong = Long t w v

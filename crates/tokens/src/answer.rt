@@ -1,12 +1,6 @@
 // What comes of splitting a text.
 
-// What stops a split.
-pub enum Flaw {
-    StrangeByte,
-    OpenComment,
-    LargeNumber,
-    ManyTokens,
-}
+use numbers::Flaw;
 
 pub enum Split {
     // The whole text is split into so many tokens.

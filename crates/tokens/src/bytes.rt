@@ -1,4 +1,5 @@
-// Bytes of a text: how one is read, and the classes that tell what may begin at a place.
+// Bytes of a text: how one is read, the classes that tell what may begin at a place, and where a run of
+// bytes of one class ends.
 ghost use mathlib.Core.Path.{_≡_};
 ghost use Prim.Native.Nat.{_≤_};
 ghost use lib.ListN.{length};
@@ -6,6 +7,7 @@ ghost use Rattle.language.specs.Text as Text;
 ghost use Rattle.language.specs.Text.{is-blank, is-letter, is-digit, is-name-byte, is-in-line};
 ghost use Rattle.language.proofs.Text.Runs.{Run};
 ghost use Rattle.language.proofs.Text.Spellings.{stands};
+ghost use Rattle.tokens.specs.Found.{is-of};
 
 // The byte at a place, 0 past the end. Every other function reads the text through this one, so a text
 // that lies in several parts changes nothing else.
@@ -66,14 +68,32 @@ pub fn is_blank(b: u8) -> bool
     b == b'\n'
 }
 
-// Where the run of name bytes from a place on ends.
-pub fn name_end(source: &[u8], at: usize) -> usize
+// What the bytes of a run have in common.
+pub enum Class {
+    NameByte,
+    Digit,
+    // Not the LF that ends a line.
+    InLine,
+}
+
+pub fn is_of(class: Class, b: u8) -> bool
+    ensures { λ r. ⌜ r ≡ is-of class b ⌝ }
+{
+    match class {
+        Class::NameByte => is_name_byte(b),
+        Class::Digit => is_digit(b),
+        Class::InLine => b != b'\n',
+    }
+}
+
+// Where the run of bytes of a class from a place on ends.
+pub fn run_end(source: &[u8], at: usize, class: Class) -> usize
     requires { ⌜ at ≤ length (now source) ⌝ }
-    ensures { λ r. ⌜ Run is-name-byte (now (source .entry)) at r ⌝ }
+    ensures { λ r. ⌜ Run (is-of class) (now (source .entry)) at r ⌝ }
 {
     let mut i = at;
     while i < source.len() {
-        if !is_name_byte(byte(source, i)) {
+        if !is_of(class, byte(source, i)) {
             return i;
         }
         i += 1;
@@ -81,19 +101,20 @@ pub fn name_end(source: &[u8], at: usize) -> usize
     i
 }
 
-// Where the run of digits from a place on ends.
+// Where the name that goes on at a place ends.
+pub fn name_end(source: &[u8], at: usize) -> usize
+    requires { ⌜ at ≤ length (now source) ⌝ }
+    ensures { λ r. ⌜ Run is-name-byte (now (source .entry)) at r ⌝ }
+{
+    run_end(source, at, Class::NameByte)
+}
+
+// Where the digits that go on at a place end.
 pub fn digits_end(source: &[u8], at: usize) -> usize
     requires { ⌜ at ≤ length (now source) ⌝ }
     ensures { λ r. ⌜ Run is-digit (now (source .entry)) at r ⌝ }
 {
-    let mut i = at;
-    while i < source.len() {
-        if !is_digit(byte(source, i)) {
-            return i;
-        }
-        i += 1;
-    }
-    i
+    run_end(source, at, Class::Digit)
 }
 
 // Where the line that goes on at a place ends: at its LF, which is not among its bytes, or with the text.
@@ -101,14 +122,7 @@ pub fn line_end(source: &[u8], at: usize) -> usize
     requires { ⌜ at ≤ length (now source) ⌝ }
     ensures { λ r. ⌜ Run is-in-line (now (source .entry)) at r ⌝ }
 {
-    let mut i = at;
-    while i < source.len() {
-        if byte(source, i) == b'\n' {
-            return i;
-        }
-        i += 1;
-    }
-    i
+    run_end(source, at, Class::InLine)
 }
 
 // Do these bytes stand at a place?

@@ -8,20 +8,20 @@ ghost use Rattle.tokens.specs.Found.{Comparable, Payload};
 ghost use Rattle.tokens.specs.Answer.{IsSplit};
 
 pub mod answer;
-mod bytes;
+pub mod bytes;
 mod comments;
 mod marks;
 mod names;
-mod numbers;
 mod pieces;
 mod words;
+mod worth;
 
-use crate::answer::Flaw;
 use crate::answer::Split;
 use crate::pieces::Piece;
 use language::SOURCE;
 use language::TOKENS;
 use language::kinds;
+use numbers::Flaw;
 
 // The fourth word of the token that is to be the next one of the table.
 fn payload(
@@ -34,7 +34,8 @@ fn payload(
     value: u32,
 ) -> u32
     requires { ⌜ Comparable (now source) (now table) count p q ⌝ }
-    ensures { λ r. ⌜ Payload (now (source .entry)) (now (table .entry)) count kind (slice p q (now (source .entry))) value r ⌝ }
+    ensures { λ r.
+        ⌜ Payload (now (source .entry)) (now (table .entry)) count kind (slice p q (now (source .entry))) value r ⌝ }
 {
     if kind == kinds::NAME {
         return names::name_number(source, table, count, p, q);
@@ -63,7 +64,7 @@ pub fn split(source: &[u8], table: &mut [u32]) -> Split
                     return Split::Stopped(Flaw::ManyTokens, at);
                 }
                 let word = payload(source, table, count, kind, at, end, value);
-                layout::tokens::put(table, count, kind, at as u32, end as u32, word);
+                layout::token::put(table, count, kind, at as u32, end as u32, word);
                 count += 1;
                 at = end;
             }

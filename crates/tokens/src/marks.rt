@@ -1,11 +1,14 @@
 // Marks.
+ghost use mathlib.Core.Bool.{cond};
+ghost use mathlib.Core.List.{[], _∷_};
+ghost use mathlib.Core.Path.{_≡_};
 ghost use Prim.Native.Nat.{_<_};
 ghost use lib.ListN.{length};
-ghost use Rattle.language.proofs.Text.MarkOrder.{Missed, longer-first};
 ghost use Rattle.language.proofs.Text.Places.{Begins};
 ghost use Rattle.language.proofs.Text.Places.Sort.{others};
-ghost use Rattle.tokens.specs.Found.{IsMark};
-use crate::bytes::stands_at;
+ghost use Rattle.language.specs.Tokens.{PAST};
+ghost use Rattle.tokens.specs.Found.{IsMark, mark-kind};
+use crate::bytes::byte;
 use language::kinds;
 
 pub enum Mark {
@@ -14,73 +17,62 @@ pub enum Mark {
     None,
 }
 
-// The mark at a place where no blank, name, number or comment begins. The marks of two bytes are tried
-// before those of one, so the first that stands there is the longest.
+// The mark at a place where no blank, name, number or comment begins: of those that stand there the
+// longest.
 pub fn mark_at(source: &[u8], at: usize) -> Mark
     requires { ⌜ (at < length (now source)) × Begins (now source) at others ⌝ }
     ensures { λ r. ⌜ IsMark (now (source .entry)) at r ⌝ }
 {
-    if stands_at(source, at, b"==") {
-        return Mark::Is(kinds::EQUAL, 2);
+    let first = byte(source, at);
+    let two = double(first, byte(source, at + 1));
+    if two != kinds::PAST {
+        return Mark::Is(two, 2);
     }
-    if stands_at(source, at, b":=") {
-        return Mark::Is(kinds::BECOMES, 2);
-    }
-    if stands_at(source, at, b"&&") {
-        return Mark::Is(kinds::AND, 2);
-    }
-    if stands_at(source, at, b"||") {
-        return Mark::Is(kinds::OR, 2);
-    }
-    if stands_at(source, at, b"+") {
-        return Mark::Is(kinds::PLUS, 1);
-    }
-    if stands_at(source, at, b"-") {
-        return Mark::Is(kinds::MINUS, 1);
-    }
-    if stands_at(source, at, b"*") {
-        return Mark::Is(kinds::STAR, 1);
-    }
-    if stands_at(source, at, b"/") {
-        return Mark::Is(kinds::SLASH, 1);
-    }
-    if stands_at(source, at, b"<") {
-        return Mark::Is(kinds::LESS, 1);
-    }
-    if stands_at(source, at, b"=") {
-        return Mark::Is(kinds::IS, 1);
-    }
-    if stands_at(source, at, b"!") {
-        return Mark::Is(kinds::BANG, 1);
-    }
-    punctuation(source, at)
-}
-
-// The same where none of the marks above stands: punctuation is left.
-fn punctuation(source: &[u8], at: usize) -> Mark
-    requires { ⌜ (at < length (now source)) × Begins (now source) at others × Missed longer-first (now source) at 11 ⌝ }
-    ensures { λ r. ⌜ IsMark (now (source .entry)) at r ⌝ }
-{
-    if stands_at(source, at, b";") {
-        return Mark::Is(kinds::SEMI, 1);
-    }
-    if stands_at(source, at, b",") {
-        return Mark::Is(kinds::COMMA, 1);
-    }
-    if stands_at(source, at, b":") {
-        return Mark::Is(kinds::COLON, 1);
-    }
-    if stands_at(source, at, b"(") {
-        return Mark::Is(kinds::LPAR, 1);
-    }
-    if stands_at(source, at, b")") {
-        return Mark::Is(kinds::RPAR, 1);
-    }
-    if stands_at(source, at, b"{") {
-        return Mark::Is(kinds::LBRACE, 1);
-    }
-    if stands_at(source, at, b"}") {
-        return Mark::Is(kinds::RBRACE, 1);
+    let one = single(first);
+    if one != kinds::PAST {
+        return Mark::Is(one, 1);
     }
     Mark::None
+}
+
+// The kind of the mark of two bytes, PAST where they are none.
+fn double(a: u8, b: u8) -> u32
+    ensures { λ r. ⌜ r ≡ mark-kind (a ∷ b ∷ []) ⌝ }
+{
+    match a {
+        b'=' => when(b == b'=', kinds::EQUAL),
+        b':' => when(b == b'=', kinds::BECOMES),
+        b'&' => when(b == b'&', kinds::AND),
+        b'|' => when(b == b'|', kinds::OR),
+        _ => kinds::PAST,
+    }
+}
+
+fn when(yes: bool, kind: u32) -> u32
+    ensures { λ r. ⌜ r ≡ cond yes kind PAST ⌝ }
+{
+    if yes { kind } else { kinds::PAST }
+}
+
+// The kind of the mark of one byte, PAST where it is none.
+fn single(a: u8) -> u32
+    ensures { λ r. ⌜ r ≡ mark-kind (a ∷ []) ⌝ }
+{
+    match a {
+        b'+' => kinds::PLUS,
+        b'-' => kinds::MINUS,
+        b'*' => kinds::STAR,
+        b'/' => kinds::SLASH,
+        b'<' => kinds::LESS,
+        b'=' => kinds::IS,
+        b'!' => kinds::BANG,
+        b';' => kinds::SEMI,
+        b',' => kinds::COMMA,
+        b':' => kinds::COLON,
+        b'(' => kinds::LPAR,
+        b')' => kinds::RPAR,
+        b'{' => kinds::LBRACE,
+        b'}' => kinds::RBRACE,
+        _ => kinds::PAST,
+    }
 }

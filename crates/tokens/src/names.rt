@@ -8,7 +8,7 @@ ghost use Rattle.tokens.specs.Found.{Comparable, First, Numbered};
 use crate::bytes::byte;
 use crate::bytes::stands_at;
 use layout::PUTCHAR;
-use layout::tokens;
+use layout::token;
 
 // Do the bytes from p up to q spell this?
 pub fn spells(source: &[u8], p: usize, q: usize, bytes: &[u8]) -> bool
@@ -47,8 +47,8 @@ pub fn first_alike(source: &[u8], table: &[u32], count: usize, p: usize, q: usiz
 {
     let mut i = 0;
     while i < count {
-        let from = tokens::place(table, i) as usize;
-        let to = tokens::end(table, i) as usize;
+        let from = token::place(table, i) as usize;
+        let to = token::end(table, i) as usize;
         if alike(source, from, to, p, q) {
             return i;
         }

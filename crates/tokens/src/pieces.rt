@@ -13,9 +13,9 @@ use crate::comments::Close;
 use crate::comments::comment_end;
 use crate::marks::Mark;
 use crate::marks::mark_at;
-use crate::numbers::Worth;
-use crate::numbers::number;
 use crate::words::word;
+use crate::worth::Worth;
+use crate::worth::number;
 use language::kinds;
 
 pub enum Piece {

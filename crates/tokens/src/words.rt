@@ -1,18 +1,17 @@
 // Reserved words.
 ghost use mathlib.Core.Path.{_≡_};
 ghost use Prim.Native.Nat.{_≤_};
-ghost use lib.ListN.{length};
+ghost use lib.ListN.{length, drop};
 ghost use lib.Seq.{slice};
-ghost use Rattle.language.proofs.Text.Words.{Past};
-ghost use Rattle.language.specs.Text.{word-kind};
-ghost use Rattle.language.specs.Tokens.{words};
+ghost use Rattle.language.specs.Text.{word-kind, or-name};
+ghost use Rattle.language.specs.Tokens.{words, EDITION-1, spelled};
 use crate::names::spells;
 use language::kinds;
 
 // The kind of the name from p up to q: a word's own, or NAME.
 pub fn word(source: &[u8], p: usize, q: usize) -> u32
     requires { ⌜ (p ≤ q) × (q ≤ length (now source)) ⌝ }
-    ensures { λ r. ⌜ r ≡ word-kind (slice p q (now (source .entry))) ⌝ }
+    ensures { λ r. ⌜ r ≡ word-kind EDITION-1 (slice p q (now (source .entry))) ⌝ }
 {
     if spells(source, p, q, b"def") {
         return kinds::DEF;
@@ -50,10 +49,10 @@ pub fn word(source: &[u8], p: usize, q: usize) -> u32
     type_word(source, p, q)
 }
 
-// The same for a name that is none of the words above: the words of types and constants are left.
+// The same by the words that are left, those of types and constants.
 fn type_word(source: &[u8], p: usize, q: usize) -> u32
-    requires { ⌜ (p ≤ q) × (q ≤ length (now source)) × Past words 11 (slice p q (now source)) ⌝ }
-    ensures { λ r. ⌜ r ≡ word-kind (slice p q (now (source .entry))) ⌝ }
+    requires { ⌜ (p ≤ q) × (q ≤ length (now source)) ⌝ }
+    ensures { λ r. ⌜ r ≡ or-name (spelled (drop 11 words) (slice p q (now (source .entry)))) ⌝ }
 {
     if spells(source, p, q, b"int") {
         return kinds::INT;

@@ -10,8 +10,6 @@ use mir.Val.{toZ, ofZ, SFits}
 use Rattle.grumpy_c.proofs.TwosComplement.{one-up-fits, below-zero, complement-below, complement-up}
 use Rattle.grumpy_c.proofs.complement.Statement.{statement}
 use Rattle.grumpy_c.proofs.complement.Tie as tie
-use Rattle.grumpy_c.proofs.complement.Reads as reads
-use Rattle.grumpy_c.proofs.complement.Lts as lts
 
 module _ (c : tie.Then1) where
   fits : SFits w64 (c .before .args .v)

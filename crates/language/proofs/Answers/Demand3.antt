@@ -1,102 +1,125 @@
--- Demand 3 in its own words. Within the sizes, check passes with the type t exactly when the text splits into tokens, the
--- tokens have a reading and the reading has the type t; and it says "not a program" exactly when the text splits and no
--- reading exists.
+-- Demand 3 in its own words, of any lawful origin and of both services. Within the sizes, check passes with the type t, and
+-- run ends in a value or a stop with the type t, exactly when the origin comes to tokens, the tokens have a reading and the
+-- reading has the type t; and both say "not a program" exactly when it comes to tokens and no reading exists.
 use mathlib.Core.List.{List}
 use mathlib.Core.Logic.{_↔_}
-use mathlib.Core.Path.{_≡_, refl, ap, subst}
+use mathlib.Core.Path.{_≡_, refl, sym, ap, subst, _∙_}
 use Prim.Native.Nat.{ℕ, _≤_}
-use lib.ListN.{length}
-use Rattle.language.specs.Sizes.{SOURCE, TABLE}
+use native.Mathlib.Omega.{arith}
+use Rattle.language.specs.Sizes.{ALLOWANCE, TABLE}
 use Rattle.language.specs.Tokens.{Token}
-use Rattle.language.specs.Text.{Splits}
 use Rattle.language.specs.Trees.{Ty, Program}
 use Rattle.language.specs.Grammar.{Reading}
 use Rattle.language.specs.Types.{HasType}
 use Rattle.language.specs.Meaning.{type-number}
-use Rattle.language.specs.Numbers.{Row, passed, short-memory, large-allowance, long-source, text, no-reading, many-nodes, types, stopped}
-use Rattle.language.specs.Answers.{Refused, too-long, flawed, unread, too-large, faulty, check-report, CheckReport, Checked, check-short, check-refused, check-passed}
+use Rattle.language.specs.Numbers.{Refusal, no-reading, passed, refused}
+use Rattle.language.specs.Answers.{Origin, unread, too-large, faulty, Passes, Refused, by-origin, by-tokens, CheckReport, Checked, check-short, check-refused, check-passed, Lent, Enough, RunReport, Ran, run-short, run-large, run-refused, run-ended}
 use Rattle.language.proofs.Grammar.FewNodes.{never-too-large}
 use Rattle.language.proofs.Types.TypeNumbers.{one-number}
+use Rattle.language.proofs.Answers.Endings.{IsRun, is-run, some-ending}
+use Rattle.language.proofs.Answers.Origins.{Lawful}
+use Rattle.language.proofs.Answers.OneAnswer.{one-checked, one-ran}
 
--- the text splits, the tokens have a reading, the reading has the type t
-pub record Proper (s : List ℕ) (t : Ty) : Type 0 where
-  pub tokens : List Token
-  pub reading : Program
-  pub splits : Splits s tokens
-  pub reads : Reading tokens reading
-  pub typed : HasType reading t
+module _ {P : Type 0} (o : Origin P) where
+  -- it comes to tokens that have a reading of the type t
+  pub record IsProgram (t : Ty) : Type 0 where
+    pub tokens : List Token
+    pub reading : Program
+    pub given : o .gives tokens
+    pub reads : Reading tokens reading
+    pub typed : HasType reading t
 
--- the text splits and the tokens have no reading
-pub record NoProgram (s : List ℕ) : Type 0 where
-  pub tokens : List Token
-  pub splits : Splits s tokens
-  pub unread : (p : Program) → Reading tokens p → ⊥
+  -- it comes to tokens that have no reading
+  pub record NoProgram : Type 0 where
+    pub tokens : List Token
+    pub given : o .gives tokens
+    pub unread : (p : Program) → Reading tokens p → ⊥
 
--- ---- rows told apart
+module _ {P : Type 0} {o : Origin P} (law : Lawful o) where
+  has-passed : (t : Ty) (h : IsProgram o t) → Passes o (h .tokens) (h .reading) t
+  has-passed t h = record {
+    given = h .given;
+    proper = record {
+      reads = h .reads;
+      small = never-too-large (h .tokens) (h .reading) (h .reads) (law .few (h .tokens) (h .given));
+      typed = h .typed;
+    };
+  }
 
-abbrev IsPassed : Row → Type 0
-IsPassed passed = Unit {0}
-IsPassed short-memory = ⊥
-IsPassed large-allowance = ⊥
-IsPassed long-source = ⊥
-IsPassed (text f) = ⊥
-IsPassed no-reading = ⊥
-IsPassed many-nodes = ⊥
-IsPassed (types r) = ⊥
-IsPassed (stopped w) = ⊥
+  passed-has : {ts : List Token} {p : Program} {u : Ty} (t : Ty) → type-number u ≡ type-number t → Passes o ts p u → IsProgram o t
+  passed-has {ts} {p} {u} t e a = record {
+    tokens = ts;
+    reading = p;
+    given = a .given;
+    reads = a .proper .reads;
+    typed = subst (HasType p) (one-number u t e) (a .proper .typed);
+  }
 
-abbrev IsUnread : Row → Type 0
-IsUnread passed = ⊥
-IsUnread short-memory = ⊥
-IsUnread large-allowance = ⊥
-IsUnread long-source = ⊥
-IsUnread (text f) = ⊥
-IsUnread no-reading = Unit {0}
-IsUnread many-nodes = ⊥
-IsUnread (types r) = ⊥
-IsUnread (stopped w) = ⊥
+  refused-unread : {r : Refusal} {x : P} → Refused o r x → r ≡ no-reading → NoProgram o
+  refused-unread (by-origin {r} {x} d) e = absurd (law .not-reading x (subst (λ (r : Refusal). o .denies r x) e d))
+  refused-unread (by-tokens {ts} g (unread h)) e = record { tokens = ts; given = g; unread = h }
+  refused-unread (by-tokens g (too-large a n)) e = let z : _≡_ {A = ℕ} 0 1 = cc in absurd (omega arith)
+  refused-unread (by-tokens g (faulty a n f)) e = let z : _≡_ {A = ℕ} 0 1 = cc in absurd (omega arith)
 
-refused-not-passed : {s : List ℕ} {w : Row} {i : ℕ} → Refused s w i → IsPassed w → ⊥
-refused-not-passed (too-long h) e = e
-refused-not-passed (flawed h a) e = e
-refused-not-passed (unread h a b) e = e
-refused-not-passed (too-large h a b n) e = e
-refused-not-passed (faulty h a b n f) e = e
+  -- ---- check
 
-refused-unread : {s : List ℕ} {w : Row} {i : ℕ} → Refused s w i → IsUnread w → NoProgram s
-refused-unread (too-long h) e = absurd e
-refused-unread (flawed h a) e = absurd e
-refused-unread (unread {ts} h a b) e = record { tokens = ts; splits = a; unread = b }
-refused-unread (too-large h a b n) e = absurd e
-refused-unread (faulty h a b n f) e = absurd e
+  module _ {table : ℕ} (room : TABLE ≤ table) where
+    of-passed : {r : CheckReport P} (t : Ty) → Checked o table r → r .told ≡ passed → r .type ≡ type-number t → IsProgram o t
+    of-passed t (check-short h) e f = let z : _≡_ {A = ℕ} 0 1 = cc in absurd (omega arith)
+    of-passed t (check-refused h a) e f = let z : _≡_ {A = ℕ} 0 1 = cc in absurd (omega arith)
+    of-passed t (check-passed h a) e f = passed-has t f a
 
--- ---- exactly when
+    of-unread : {r : CheckReport P} → Checked o table r → r .told ≡ refused no-reading → NoProgram o
+    of-unread (check-short h) e = let z : _≡_ {A = ℕ} 0 1 = cc in absurd (omega arith)
+    of-unread (check-refused h a) e = refused-unread a (cc)
+    of-unread (check-passed h a) e = let z : _≡_ {A = ℕ} 0 1 = cc in absurd (omega arith)
 
-module _ (s : List ℕ) (table : ℕ) where
-  of-passed : {w : Row} {r : CheckReport} (t : Ty) → Checked s table w r → IsPassed w → r ≡ check-report passed 0 (type-number t) → Proper s t
-  of-passed t (check-short h) e f = absurd e
-  of-passed t (check-refused h a) e f = absurd (refused-not-passed a e)
-  of-passed t (check-passed {ts} {p} {t = u} h a) e f =
-      let q : u ≡ t = one-number u t (ap (λ (r : CheckReport). r .type) f) in
-      record { tokens = ts; reading = p; splits = a .splits; reads = a .reads; typed = subst (HasType p) q (a .typed) }
+    module _ {r : CheckReport P} (a : Checked o table r) where
+      pub check-type-exactly : (t : Ty) → ((r .told ≡ passed) × (r .type ≡ type-number t)) ↔ IsProgram o t
+      check-type-exactly t = (
+        λ e. of-passed t a (e .0) (e .1),
+        λ h.
+            let e = one-checked law table a (check-passed room (has-passed t h)) in
+            (ap (λ (r : CheckReport P). r .told) e, ap (λ (r : CheckReport P). r .type) e),
+      )
 
-  of-unread : {w : Row} {r : CheckReport} → Checked s table w r → IsUnread w → NoProgram s
-  of-unread (check-short h) e = absurd e
-  of-unread (check-refused h a) e = refused-unread a e
-  of-unread (check-passed h a) e = absurd e
+      pub check-none-exactly : (r .told ≡ refused no-reading) ↔ NoProgram o
+      check-none-exactly = (
+        λ e. of-unread a e,
+        λ h.
+            let e = one-checked law table a (check-refused room (by-tokens (h .given) (unread (h .unread)))) in
+            ap (λ (r : CheckReport P). r .told) e,
+      )
 
-  module _ (room : TABLE ≤ table) (short : length s ≤ SOURCE) where
-    pub passes-exactly : (t : Ty) → Checked s table passed (check-report passed 0 (type-number t)) ↔ Proper s t
-    passes-exactly t = (
-      λ a. of-passed t a tt refl,
-      λ h. check-passed room record {
-        short = short;
-        splits = h .splits;
-        reads = h .reads;
-        small = never-too-large (h .tokens) (h .reading) (h .reads) (h .splits .few);
-        typed = h .typed;
-      },
-    )
+  -- ---- run
 
-    pub no-program-exactly : Checked s table no-reading (check-report no-reading 0 0) ↔ NoProgram s
-    no-program-exactly = (λ a. of-unread a tt, λ h. check-refused room (unread short (h .splits) (h .unread)))
+  module _ {l : Lent} (enough : Enough l) (fair : l .allowance ≤ ALLOWANCE) where
+    of-run : {r : RunReport P} {bs : List ℕ} (t : Ty) → Ran o l r bs → IsRun (r .told) → r .type ≡ type-number t → IsProgram o t
+    of-run t (run-short h) e f = absurd e
+    of-run t (run-large h k) e f = absurd e
+    of-run t (run-refused h k a) e f = absurd e
+    of-run t (run-ended h k a x) e f = passed-has t f a
+
+    of-no-run : {r : RunReport P} {bs : List ℕ} → Ran o l r bs → r .told ≡ refused no-reading → NoProgram o
+    of-no-run (run-short h) e = let z : _≡_ {A = ℕ} 0 1 = cc in absurd (omega arith)
+    of-no-run (run-large h k) e = let z : _≡_ {A = ℕ} 0 1 = cc in absurd (omega arith)
+    of-no-run (run-refused h k a) e = refused-unread a (cc)
+    of-no-run (run-ended {p = p} h k a x) e = absurd (subst IsRun e (is-run (l .allowance) _ x))
+
+    module _ {r : RunReport P} {bs : List ℕ} (a : Ran o l r bs) where
+      pub run-type-exactly : (t : Ty) → (IsRun (r .told) × (r .type ≡ type-number t)) ↔ IsProgram o t
+      run-type-exactly t = (
+        λ e. of-run t a (e .0) (e .1),
+        λ h.
+            let z = some-ending (h .reading) t (l .allowance) (l .output) (h .typed) in
+            let e = one-ran law l a (run-ended enough fair (has-passed t h) (z .1)) in
+            (subst (λ (r : RunReport P). IsRun (r .told)) (sym (e .0)) (is-run (l .allowance) _ (z .1)), ap (λ (r : RunReport P). r .type) (e .0)),
+      )
+
+      pub run-none-exactly : (r .told ≡ refused no-reading) ↔ NoProgram o
+      run-none-exactly = (
+        λ e. of-no-run a e,
+        λ h.
+            let e = one-ran law l a (run-refused enough fair (by-tokens (h .given) (unread (h .unread)))) in
+            ap (λ (r : RunReport P). r .told) (e .0),
+      )

@@ -1,78 +1,95 @@
 -- The paper's fifteen examples marked P: one table, and one statement over the whole of it, by computation.
-use mathlib.Core.Bool.{true}
-use mathlib.Core.List.{List, [], _∷_, reverse}
-use mathlib.Core.Path.{_≡_, refl, subst}
+use mathlib.Core.Bool.{Bool, true, _&&_}
+use mathlib.Core.List.{List, [], _∷_}
+use mathlib.Core.Option.{Option, none, some}
+use mathlib.Core.Path.{_≡_, refl, sym, ap, subst}
 use Prim.Native.Nat.{ℕ, _≤_}
 use Prim.Native.String.{String}
 use native.Mathlib.Decide.{decLe, decLt, ℕ-discrete}
 use native.Mathlib.Omega.{arith}
+use lib.Dec.{leb}
 use lib.IntN.{ℤ, pos, negsuc}
 use lib.ListN.{length}
+use borrow.Author.Tests.{leb-true}
 use Rattle.language.specs.Sizes.{ALLOWANCE, TABLE, WORK}
 use Rattle.language.specs.Tokens.{spell, same, spelled, entry, kind-at, value-at, spelling-at, place-at, Token}
-use Rattle.language.specs.Trees.{Ty, Program, refs, size, nearest, own, nodes, def-nodes, program-nodes}
-use Rattle.language.specs.State.{Outcome, value, stop, stuck, count, held, store, keep, then, want-int, want-bool, want-unit, want-cell, want-one, choose, when-some}
+use Rattle.language.specs.Trees.{Ty, refs, size, nearest, own, nodes, def-nodes, program-nodes}
+use Rattle.language.specs.State.{count, held, store, keep, then, choose, when-some, only}
 use Rattle.language.specs.Meaning.{charge, begin, in-range, fit, is-zero, same-int, create, apply-unary, apply-binary, settles, emit, put, literal-value, enter, arguments, invoke, passes, step, eval, functions, run, value-number, type-number}
 use Rattle.language.specs.Faults.{unsuited}
-use Rattle.language.specs.Numbers.{Row, number, flaw-number, reason-number, stop-number, passed, stopped}
-use Rattle.language.specs.Answers.{Passes, RunReport, Lent, refusal, after-run, Ran, run-refused, run-value, run-stop}
-use Rattle.language.proofs.Grammar.Parses as Parses
-use Rattle.language.proofs.Grammar.Parser as Parser
-use Rattle.language.proofs.Types.Verdict as Types
-use Rattle.language.proofs.Types.Operators.{unop, binop, if-yes, both}
-use Rattle.language.proofs.Types.Checker.{check, check-from, check-def, take-params, infer, literal-type, unbound, same-types, join}
-use Rattle.language.proofs.Answers.Verdict.{Verdict, refused, passing, verdict, Told, verdict-told}
-use Rattle.language.proofs.Meaning.NeverStuck.{never-stuck}
+use Rattle.language.specs.Numbers.{short-memory, number}
+use Rattle.language.specs.Answers.{from-text, Ending, ending, RunReport, Lent, refusal, after-run, Ran, run-refused, run-ended}
+use Rattle.language.proofs.Executable.Parses as Parses
+use Rattle.language.proofs.Executable.Parser as Parser
+use Rattle.language.proofs.Executable.Checks as Types
+use Rattle.language.proofs.Executable.Operators.{unop, binop, if-yes, both}
+use Rattle.language.proofs.Executable.Checker.{check, check-from, check-def, take-params, infer, literal-type, unbound, same-types, join}
+use Rattle.language.proofs.Answers.Verdict.{verdict}
+use Rattle.language.proofs.Answers.Origins.{text-lawful, Fate, fails, Comes, fate, fate-comes}
+use Rattle.language.proofs.Answers.Origins as Origins
+use Rattle.language.proofs.Answers.Endings.{some-ending}
+use Rattle.language.proofs.Meaning.NeverStuck.{and-left, and-right}
 
 -- ---- the answer, worked out, with memory enough
 
-pub record Answer : Type 0 where
-  pub row : Row
-  pub report : RunReport
-  pub printed : List ℕ
+record Answer : Type 0 where
+  report : RunReport ℕ
+  printed : List ℕ
 
 module _ (allowance output : ℕ) where
   abbrev lent : Lent
   lent = record { table = TABLE; work = WORK; output = output; allowance = allowance }
 
-  unfoldable ended : List Token → Ty → Outcome → Answer
-  ended ts t (value v s) = record { row = passed; report = after-run passed 0 t (value-number v) allowance s; printed = reverse (s .printed) }
-  ended ts t (stop w i s) =
-      record { row = stopped w; report = after-run (stopped w) (place-at ts i) t (pos 0) allowance s; printed = reverse (s .printed) }
-  ended ts t stuck = record { row = passed; report = refusal passed 0; printed = [] }
+  module _ (s : List ℕ) where
+    -- where there is no end anything is said
+    unfoldable at-end : List Token → Ty → Option Ending → Answer
+    at-end ts t none = record { report = refusal short-memory 0; printed = [] }
+    at-end ts t (some e) = record { report = after-run (from-text s) ts t e; printed = e .printed }
 
-  unfoldable answered : Verdict → Answer
-  answered (refused w i) = record { row = w; report = refusal w i; printed = [] }
-  answered (passing ts p t) = ended ts t (run p allowance output)
+    unfoldable answered : Fate ℕ → Answer
+    answered (fails r x) = record { report = refusal r x; printed = [] }
+    answered (Origins.passes ts p t) = at-end ts t (ending allowance (run p allowance output))
 
-  abbrev Right : List ℕ → Answer → Type 0
-  Right s a = Ran s lent (a .row) (a .report) (a .printed)
+    abbrev Right : Answer → Type 0
+    Right a = Ran (from-text s) lent (a .report) (a .printed)
 
-  module _ (s : List ℕ) (fair : allowance ≤ ALLOWANCE) where
-    ended-right : (ts : List Token) (p : Program) (t : Ty) → Passes s ts p t → (o : Outcome) → run p allowance output ≡ o → Right s (ended ts t o)
-    unfolding ended
-    ended-right ts p t h (value v z) e = run-value record { table = omega arith; work = omega arith } fair h e
-    ended-right ts p t h (stop w i z) e = run-stop record { table = omega arith; work = omega arith } fair h e
-    ended-right ts p t h stuck e = absurd (never-stuck p t allowance output (h .typed) e)
-
-    answered-right : (v : Verdict) → Told s v → Right s (answered v)
-    unfolding answered
-    answered-right (refused w i) a = run-refused record { table = omega arith; work = omega arith } fair a
-    answered-right (passing ts p t) a = ended-right ts p t a (run p allowance output) refl
-
-    respond-right : Right s (answered (verdict s))
-    respond-right = answered-right (verdict s) (verdict-told s)
+    answered-right : allowance ≤ ALLOWANCE → (f : Fate ℕ) → Comes (from-text s) f → Right (answered f)
+    unfolding answered at-end
+    answered-right fair (fails r x) a = run-refused record { table = omega arith; work = omega arith } fair a
+    answered-right fair (Origins.passes ts p t) a =
+        let z = some-ending p t allowance output (a .proper .typed) in
+        subst (λ (e : Option Ending). Right (at-end ts t e)) (sym (z .1))
+        (run-ended record { table = omega arith; work = omega arith } fair a (z .1))
 
 -- ---- the table
+
+-- a report in numbers
+pub record Figures : Type 0 where
+  pub number : ℕ
+  pub place : ℕ
+  pub type : ℕ
+  pub value : ℤ
+  pub units : ℕ
+  pub printed : ℕ
+
+abbrev pub figures : RunReport ℕ → Figures
+figures r = record {
+  number = number (r .told);
+  place = r .place;
+  type = r .type;
+  value = r .value;
+  units = r .units;
+  printed = r .printed;
+}
 
 pub record Example : Type 0 where
   pub source : String
   pub allowance : ℕ
   pub output : ℕ
-  pub report : RunReport
+  pub report : Figures
   pub printed : List ℕ
 
-abbrev example : String → ℕ → ℕ → ℕ → ℕ → ℤ → ℕ → List ℕ → Example
+abbrev pub example : String → ℕ → ℕ → ℕ → ℕ → ℤ → ℕ → List ℕ → Example
 example s allowance n i t v u bs = record {
   source = s;
   allowance = allowance;
@@ -105,33 +122,65 @@ examples =
 
 -- this is what run answers
 abbrev pub Answered : Example → Type 0
-Answered e = (w : Row) × Ran (spell (e .source)) (lent (e .allowance) (e .output)) w (e .report) (e .printed)
+Answered e =
+    (r : RunReport ℕ) × (figures r ≡ e .report) × Ran (from-text (spell (e .source))) (lent (e .allowance) (e .output)) r (e .printed)
 
 abbrev pub All : List Example → Type 0
 All [] = Unit {0}
 All (e ∷ es) = Answered e × All es
 
--- what is worked out is what the table has
-abbrev Computes : Example → Type 0
-Computes e =
-    (w : Row)
-    × (answered (e .allowance) (e .output) (verdict (spell (e .source))) ≡ record { row = w; report = e .report; printed = e .printed })
-    × (e .allowance ≤ ALLOWANCE)
+-- what is worked out, and what the table has: report and bytes
+pub record Said : Type 0 where
+  pub report : Figures
+  pub printed : List ℕ
 
-abbrev AllCompute : List Example → Type 0
-AllCompute [] = Unit {0}
-AllCompute (e ∷ es) = Computes e × AllCompute es
+unfoldable worked : Example → Answer
+worked e = answered (e .allowance) (e .output) (spell (e .source)) (fate (text-lawful (spell (e .source))))
 
-answered-all : (es : List Example) → AllCompute es → All es
-answered-all [] h = tt
-answered-all (e ∷ es) h =
-    let r = respond-right (e .allowance) (e .output) (spell (e .source)) (h .0 .2) in
-    ((h .0 .0, subst (Right (e .allowance) (e .output) (spell (e .source))) (h .0 .1) r), answered-all es (h .1))
+unfoldable pub worked-out : List Example → List Said
+unfolding worked answered at-end ending fate text-lawful decLe decLt ℕ-discrete Parser.answer Parser.parse Parser.step
+    Parses.then Parses.test Parses.look Parses.need kind-at value-at spelling-at place-at entry same spelled check
+    check-from check-def take-params infer literal-type unbound same-types join unop binop if-yes both nearest size
+    refs Types.after Types.told Types.need type-number unsuited run eval begin charge functions step then choose
+    settles apply-binary apply-unary only when-some literal-value in-range fit create held store keep count put emit
+    enter arguments invoke passes is-zero same-int own value-number nodes def-nodes program-nodes
+worked-out [] = []
+worked-out (e ∷ es) = record { report = figures (worked e .report); printed = worked e .printed } ∷ worked-out es
 
-all-compute : AllCompute examples
-unfolding answered ended verdict decLe decLt ℕ-discrete Parser.answer Parser.parse Parser.step Parses.then Parses.test Parses.look Parses.need kind-at value-at spelling-at place-at entry same spelled check check-from check-def take-params infer literal-type unbound same-types join unop binop if-yes both nearest size refs Types.after Types.told Types.need type-number number flaw-number reason-number stop-number unsuited run eval begin charge functions step then choose settles apply-binary apply-unary want-int want-bool want-unit want-cell want-one when-some literal-value in-range fit create held store keep count put emit enter arguments invoke passes is-zero same-int own value-number nodes def-nodes program-nodes
-all-compute = ((_, refl, omega arith), ((_, refl, omega arith), ((_, refl, omega arith), ((_, refl, omega arith), ((_, refl, omega arith), ((_, refl, omega arith), ((_, refl, omega arith), ((_, refl, omega arith), ((_, refl, omega arith), ((_, refl, omega arith), ((_, refl, omega arith), ((_, refl, omega arith), ((_, refl, omega arith), ((_, refl, omega arith), ((_, refl, omega arith), tt)))))))))))))))
+abbrev pub written-down : List Example → List Said
+written-down [] = []
+written-down (e ∷ es) = record { report = e .report; printed = e .printed } ∷ written-down es
+
+-- no allowance is too large
+abbrev pub fair : List Example → Bool
+fair [] = true
+fair (e ∷ es) = leb (e .allowance) ALLOWANCE && fair es
+
+first : {x y : Said} {xs ys : List Said} → (x ∷ xs) ≡ (y ∷ ys) → x ≡ y
+first e = cc
+
+later : {x y : Said} {xs ys : List Said} → (x ∷ xs) ≡ (y ∷ ys) → xs ≡ ys
+later e = cc
+
+worked-right : (e : Example) → e .allowance ≤ ALLOWANCE → Right (e .allowance) (e .output) (spell (e .source)) (worked e)
+unfolding worked
+worked-right e low =
+    let law = text-lawful (spell (e .source)) in
+    answered-right (e .allowance) (e .output) (spell (e .source)) low (fate law) (fate-comes law)
+
+-- where the two are the same, the table is right
+pub by-computation : (es : List Example) → worked-out es ≡ written-down es → fair es ≡ true → All es
+unfolding worked-out
+by-computation [] h f = tt
+by-computation (e ∷ es) h f =
+    let low = leb-true (e .allowance) ALLOWANCE (and-left (leb (e .allowance) ALLOWANCE) (fair es) f) in
+    let same-bytes = ap (λ (x : Said). x .printed) (first h) in
+    let ran : List ℕ → Type 0 = λ bs. Ran (from-text (spell (e .source))) (lent (e .allowance) (e .output)) (worked e .report) bs in (
+      (worked e .report, ap (λ (x : Said). x .report) (first h), subst ran same-bytes (worked-right e low)),
+      by-computation es (later h) (and-right (leb (e .allowance) ALLOWANCE) (fair es) f),
+    )
 
 -- all fifteen
 pub all-answered : All examples
-all-answered = answered-all examples all-compute
+unfolding worked-out
+all-answered = by-computation examples refl refl

@@ -1,104 +1,87 @@
--- Of every source and everything lent with it there is exactly one answer of check and exactly one of run: row, report,
+-- Of every lawful origin and everything lent with it there is exactly one answer of check and exactly one of run: report,
 -- bytes printed, and what is left in the two memories and the output.
-use mathlib.Core.List.{List, [], _++_, reverse}
+use mathlib.Core.List.{List, [], _++_}
 use mathlib.Core.Logic.{_⊎_, inl, inr}
-use mathlib.Core.Path.{_≡_, refl, sym, ap, subst, _∙_}
+use mathlib.Core.Option.{Option, none, some}
+use mathlib.Core.Path.{_≡_, refl, sym, ap, _∙_}
 use Prim.Native.Nat.{ℕ, _≤_, _<_}
 use native.Mathlib.Decide.{decLe}
 use native.Mathlib.Omega.{arith}
-use lib.IntN.{pos}
 use lib.ListN.{length, drop}
 use Rattle.language.specs.Sizes.{ALLOWANCE, TABLE, WORK}
-use Rattle.language.specs.Tokens.{Token, place-at}
-use Rattle.language.specs.Trees.{Ty, Program}
-use Rattle.language.specs.State.{Outcome, value, stop, stuck}
-use Rattle.language.specs.Meaning.{run, value-number, type-number}
-use Rattle.language.specs.Numbers.{Row, passed, short-memory, large-allowance, stopped}
-use Rattle.language.specs.Answers.{Passes, Refused, left, CheckReport, check-report, Checked, check-short, check-refused, check-passed, Check, RunReport, Lent, Enough, refusal, after-run, Ran, run-short, run-large, run-refused, run-value, run-stop, Run}
-use Rattle.language.proofs.Answers.Verdict.{Verdict, refused, passing, verdict, Told, verdict-told, passes-is, refused-is}
-use Rattle.language.proofs.Meaning.NeverStuck.{never-stuck}
-
--- ---- what a verdict comes to
-
-abbrev IsRefused : Verdict → Type 0
-IsRefused (refused w i) = Unit {0}
-IsRefused (passing ts p t) = ⊥
-
--- a source is not both refused and passed
-pub not-both : {s : List ℕ} {w : Row} {i : ℕ} {ts : List Token} {p : Program} {t : Ty} → Refused s w i → Passes s ts p t → ⊥
-not-both {s} a b = subst IsRefused (sym (refused-is s a) ∙ passes-is s b) tt
+use Rattle.language.specs.Tokens.{Token}
+use Rattle.language.specs.Trees.{Ty}
+use Rattle.language.specs.Meaning.{run, type-number}
+use Rattle.language.specs.Numbers.{short-memory, large-allowance, passed, refused}
+use Rattle.language.specs.Answers.{Origin, left, Ending, ending, CheckReport, check-report, Checked, check-short, check-refused, check-passed, Check, RunReport, Lent, Enough, refusal, after-run, Ran, run-short, run-large, run-refused, run-ended, Run}
+use Rattle.language.proofs.Answers.Endings.{some-ending}
+use Rattle.language.proofs.Answers.Origins.{Lawful, Fate, fails, passes, Comes, fate, fate-comes, passes-is, refused-is}
 
 -- ---- check
 
-module _ (s : List ℕ) (table : ℕ) where
-  -- row and report together
-  record Said : Type 0 where
-    row : Row
-    report : CheckReport
+module _ {P : Type 0} {o : Origin P} (law : Lawful o) (table : ℕ) where
+  abbrev said : Fate P → CheckReport P
+  said (fails r x) = check-report (refused r) x 0
+  said (passes ts p t) = check-report passed (o .nowhere) (type-number t)
 
-  abbrev said : Verdict → Said
-  said (refused w i) = record { row = w; report = check-report w i 0 }
-  said (passing ts p t) = record { row = passed; report = check-report passed 0 (type-number t) }
+  long-said : {r : CheckReport P} → TABLE ≤ table → Checked o table r → said (fate law) ≡ r
+  long-said h (check-short l) = absurd (omega arith)
+  long-said h (check-refused k a) = ap said (refused-is law a)
+  long-said h (check-passed k a) = ap said (passes-is law a)
 
-  checked-said : {w : Row} {r : CheckReport} → TABLE ≤ table → Checked s table w r → said (verdict s) ≡ record { row = w; report = r }
-  checked-said h (check-short l) = absurd (omega arith)
-  checked-said h (check-refused k a) = ap said (refused-is s a)
-  checked-said h (check-passed k a) = ap said (passes-is s a)
-
-  short-said : {w : Row} {r : CheckReport} → table < TABLE → Checked s table w r
-      → _≡_ {A = Said} record { row = short-memory; report = check-report short-memory 0 0 } record { row = w; report = r }
+  short-said : {r : CheckReport P} → table < TABLE → Checked o table r → check-report (refused short-memory) (o .nowhere) 0 ≡ r
   short-said h (check-short l) = refl
   short-said h (check-refused k a) = absurd (omega arith)
   short-said h (check-passed k a) = absurd (omega arith)
 
-  same-said : {w v : Row} {r q : CheckReport} → Dec (TABLE ≤ table) → Checked s table w r → Checked s table v q
-      → _≡_ {A = Said} record { row = w; report = r } record { row = v; report = q }
-  same-said (yes h) a b = sym (checked-said h a) ∙ checked-said h b
-  same-said (no h) a b = sym (short-said (omega (arith, h)) a) ∙ short-said (omega (arith, h)) b
-
-  pub one-checked : {w v : Row} {r q : CheckReport} → Checked s table w r → Checked s table v q → (w ≡ v) × (r ≡ q)
-  one-checked a b = let e = same-said (decLe TABLE table) a b in (ap (λ (x : Said). x .row) e, ap (λ (x : Said). x .report) e)
-
-  pub some-checked : (w : Row) × (r : CheckReport) × Checked s table w r
-  some-checked = go (decLe TABLE table) (verdict s) (verdict-told s)
+  pub one-checked : {r q : CheckReport P} → Checked o table r → Checked o table q → r ≡ q
+  one-checked {r} {q} a b = go (decLe TABLE table)
     where
-      go : Dec (TABLE ≤ table) → (v : Verdict) → Told s v → (w : Row) × (r : CheckReport) × Checked s table w r
-      go (yes h) (refused w i) a = (w, check-report w i 0, check-refused h a)
-      go (yes h) (passing ts p t) a = (passed, check-report passed 0 (type-number t), check-passed h a)
-      go (no h) v a = (short-memory, check-report short-memory 0 0, check-short (omega (arith, h)))
+      go : Dec (TABLE ≤ table) → r ≡ q
+      go (yes h) = sym (long-said h a) ∙ long-said h b
+      go (no h) = sym (short-said (omega (arith, h)) a) ∙ short-said (omega (arith, h)) b
 
--- no two answers of check, nor two tables left
-pub one-check : {s table : List ℕ} {w v : Row} {r q : CheckReport} {t′ u′ : List ℕ} → Check s table w r t′ → Check s table v q u′
-    → (w ≡ v) × (r ≡ q) × (t′ ≡ u′)
-one-check {s} {table} a b =
-    let e = one-checked s (length table) (a .answer) (b .answer) in
-    (e .0, e .1, a .table-left ∙ ap (λ (w : Row). left w TABLE table) (e .0) ∙ sym (b .table-left))
+  pub some-checked : (r : CheckReport P) × Checked o table r
+  some-checked = go (decLe TABLE table) (fate law) (fate-comes law)
+    where
+      go : Dec (TABLE ≤ table) → (f : Fate P) → Comes o f → (r : CheckReport P) × Checked o table r
+      go (yes h) (fails r x) a = (_, check-refused h a)
+      go (yes h) (passes ts p t) a = (_, check-passed h a)
+      go (no h) f a = (_, check-short (omega (arith, h)))
 
--- and one there is
-pub some-check : (s table : List ℕ) → (w : Row) × (r : CheckReport) × (t′ : List ℕ) × Check s table w r t′
-some-check s table =
-    let a = some-checked s (length table) in
-    (a .0, a .1, left (a .0) TABLE table, record { answer = a .2; table-left = refl })
+module _ {P : Type 0} {o : Origin P} (law : Lawful o) where
+  -- no two answers of check, nor two tables left
+  pub one-check : {table : List ℕ} {r q : CheckReport P} {t′ u′ : List ℕ}
+      → Check o table r t′ → Check o table q u′ → (r ≡ q) × (t′ ≡ u′)
+  one-check {table} a b =
+      let e = one-checked law (length table) (a .answer) (b .answer) in
+      (e, a .table-left ∙ ap (λ (r : CheckReport P). left (r .told) TABLE table) e ∙ sym (b .table-left))
+
+  -- and one there is
+  pub some-check : (table : List ℕ) → (r : CheckReport P) × (t′ : List ℕ) × Check o table r t′
+  some-check table =
+      let a = some-checked law (length table) in
+      (a .0, left (a .0 .told) TABLE table, record { answer = a .1; table-left = refl })
 
 -- ---- run
 
-module _ (s : List ℕ) (l : Lent) where
-  record Spoken : Type 0 where
-    row : Row
-    report : RunReport
-    printed : List ℕ
+-- a report and the bytes printed
+record Spoken (P : Type 0) : Type 0 where
+  report : RunReport P
+  printed : List ℕ
 
-  abbrev spoken : Row → RunReport → List ℕ → Spoken
-  spoken w r bs = record { row = w; report = r; printed = bs }
+abbrev spoken : {P : Type 0} → RunReport P → List ℕ → Spoken P
+spoken r bs = record { report = r; printed = bs }
 
-  abbrev finished : List Token → Ty → Outcome → Spoken
-  finished ts t (value v z) = spoken passed (after-run passed 0 t (value-number v) (l .allowance) z) (reverse (z .printed))
-  finished ts t (stop w i z) = spoken (stopped w) (after-run (stopped w) (place-at ts i) t (pos 0) (l .allowance) z) (reverse (z .printed))
-  finished ts t stuck = spoken passed (refusal passed 0) []
+module _ {P : Type 0} {o : Origin P} (law : Lawful o) (l : Lent) where
+  -- where there is no end anything is said
+  abbrev at-end : List Token → Ty → Option Ending → Spoken P
+  at-end ts t none = spoken (refusal short-memory (o .nowhere)) []
+  at-end ts t (some e) = spoken (after-run o ts t e) (e .printed)
 
-  abbrev ran : Verdict → Spoken
-  ran (refused w i) = spoken w (refusal w i) []
-  ran (passing ts p t) = finished ts t (run p (l .allowance) (l .output))
+  abbrev speaks : Fate P → Spoken P
+  speaks (fails r x) = spoken (refusal r x) []
+  speaks (passes ts p t) = at-end ts t (ending (l .allowance) (run p (l .allowance) (l .output)))
 
   abbrev Short : Type 0
   Short = (l .table < TABLE) ⊎ (l .work < WORK)
@@ -116,90 +99,76 @@ module _ (s : List ℕ) (l : Lent) where
       go (no a) d = inr (inl (omega (arith, a)))
 
   -- what is said where memory is short, where the allowance is large, and else
-  short-ran : {w : Row} {r : RunReport} {bs : List ℕ} → Short → Ran s l w r bs → spoken short-memory (refusal short-memory 0) [] ≡ spoken w r bs
+  short-ran : {r : RunReport P} {bs : List ℕ} → Short → Ran o l r bs → spoken (refusal short-memory (o .nowhere)) [] ≡ spoken r bs
   short-ran h (run-short k) = refl
   short-ran h (run-large e k) = absurd (not-enough h e)
   short-ran h (run-refused e k a) = absurd (not-enough h e)
-  short-ran h (run-value e k a x) = absurd (not-enough h e)
-  short-ran h (run-stop e k a x) = absurd (not-enough h e)
+  short-ran h (run-ended e k a x) = absurd (not-enough h e)
 
-  large-ran : {w : Row} {r : RunReport} {bs : List ℕ} → Enough l → ALLOWANCE < l .allowance → Ran s l w r bs
-      → spoken large-allowance (refusal large-allowance 0) [] ≡ spoken w r bs
+  large-ran : {r : RunReport P} {bs : List ℕ} → Enough l → ALLOWANCE < l .allowance → Ran o l r bs
+      → spoken (refusal large-allowance (o .nowhere)) [] ≡ spoken r bs
   large-ran e h (run-short k) = absurd (not-enough k e)
   large-ran e h (run-large d k) = refl
   large-ran e h (run-refused d k a) = absurd (omega arith)
-  large-ran e h (run-value d k a x) = absurd (omega arith)
-  large-ran e h (run-stop d k a x) = absurd (omega arith)
+  large-ran e h (run-ended d k a x) = absurd (omega arith)
 
-  fair-ran : {w : Row} {r : RunReport} {bs : List ℕ} → Enough l → l .allowance ≤ ALLOWANCE → Ran s l w r bs → ran (verdict s) ≡ spoken w r bs
+  fair-ran : {r : RunReport P} {bs : List ℕ} → Enough l → l .allowance ≤ ALLOWANCE → Ran o l r bs → speaks (fate law) ≡ spoken r bs
   fair-ran e h (run-short k) = absurd (not-enough k e)
   fair-ran e h (run-large d k) = absurd (omega arith)
-  fair-ran e h (run-refused d k a) = ap ran (refused-is s a)
-  fair-ran e h (run-value {ts} {t = t} d k a x) = ap ran (passes-is s a) ∙ ap (finished ts t) x
-  fair-ran e h (run-stop {ts} {t = t} d k a x) = ap ran (passes-is s a) ∙ ap (finished ts t) x
+  fair-ran e h (run-refused d k a) = ap speaks (refused-is law a)
+  fair-ran e h (run-ended {ts} {t = t} d k a x) = ap speaks (passes-is law a) ∙ ap (at-end ts t) x
 
-  same-ran : {w v : Row} {r q : RunReport} {bs cs : List ℕ} → Enough l ⊎ Short → Dec (l .allowance ≤ ALLOWANCE) → Ran s l w r bs → Ran s l v q cs
-      → spoken w r bs ≡ spoken v q cs
+  same-ran : {r q : RunReport P} {bs cs : List ℕ} → Enough l ⊎ Short → Dec (l .allowance ≤ ALLOWANCE) → Ran o l r bs → Ran o l q cs
+      → spoken r bs ≡ spoken q cs
   same-ran (inl e) (yes h) a b = sym (fair-ran e h a) ∙ fair-ran e h b
   same-ran (inl e) (no h) a b = sym (large-ran e (omega (arith, h)) a) ∙ large-ran e (omega (arith, h)) b
   same-ran (inr k) d a b = sym (short-ran k a) ∙ short-ran k b
 
-  pub one-ran : {w v : Row} {r q : RunReport} {bs cs : List ℕ} → Ran s l w r bs → Ran s l v q cs → (w ≡ v) × (r ≡ q) × (bs ≡ cs)
+  pub one-ran : {r q : RunReport P} {bs cs : List ℕ} → Ran o l r bs → Ran o l q cs → (r ≡ q) × (bs ≡ cs)
   one-ran a b =
       let e = same-ran enough? (decLe (l .allowance) ALLOWANCE) a b in
-      (ap (λ (x : Spoken). x .row) e, ap (λ (x : Spoken). x .report) e, ap (λ (x : Spoken). x .printed) e)
+      (ap (λ (x : Spoken P). x .report) e, ap (λ (x : Spoken P). x .printed) e)
 
-  record SomeRan : Type 0 where
-    row : Row
-    report : RunReport
-    printed : List ℕ
-    ran : Ran s l row report printed
-
-  some-ran : SomeRan
-  some-ran = go enough? (decLe (l .allowance) ALLOWANCE) (verdict s) (verdict-told s)
+  pub some-ran : (r : RunReport P) × (bs : List ℕ) × Ran o l r bs
+  some-ran = go enough? (decLe (l .allowance) ALLOWANCE) (fate law) (fate-comes law)
     where
-      from : (ts : List Token) (p : Program) (t : Ty) → Enough l → l .allowance ≤ ALLOWANCE → Passes s ts p t
-          → (o : Outcome) → run p (l .allowance) (l .output) ≡ o → SomeRan
-      from ts p t e h a (value v z) x = record { row = _; report = _; printed = _; ran = run-value e h a x }
-      from ts p t e h a (stop w i z) x = record { row = _; report = _; printed = _; ran = run-stop e h a x }
-      from ts p t e h a stuck x = absurd (never-stuck p t (l .allowance) (l .output) (a .typed) x)
+      go : Enough l ⊎ Short → Dec (l .allowance ≤ ALLOWANCE) → (f : Fate P) → Comes o f → (r : RunReport P) × (bs : List ℕ) × Ran o l r bs
+      go (inl e) (yes h) (fails r x) a = (_, _, run-refused e h a)
+      go (inl e) (yes h) (passes ts p t) a =
+          let z = some-ending p t (l .allowance) (l .output) (a .proper .typed) in
+          (_, _, run-ended e h a (z .1))
+      go (inl e) (no h) f a = (_, _, run-large e (omega (arith, h)))
+      go (inr k) d f a = (_, _, run-short k)
 
-      go : Enough l ⊎ Short → Dec (l .allowance ≤ ALLOWANCE) → (v : Verdict) → Told s v → SomeRan
-      go (inl e) (yes h) (refused w i) a = record { row = _; report = _; printed = _; ran = run-refused e h a }
-      go (inl e) (yes h) (passing ts p t) a = from ts p t e h a (run p (l .allowance) (l .output)) refl
-      go (inl e) (no h) v a = record { row = _; report = _; printed = _; ran = run-large e (omega (arith, h)) }
-      go (inr k) d v a = record { row = _; report = _; printed = _; ran = run-short k }
-
--- no two answers of run, nor memories or outputs left
-pub one-run : {s table work output : List ℕ} {allowance : ℕ} {w v : Row} {r q : RunReport} {t′ w′ o′ t″ w″ o″ : List ℕ}
-    → Run s table work output allowance w r t′ w′ o′ → Run s table work output allowance v q t″ w″ o″
-    → (w ≡ v) × (r ≡ q) × (t′ ≡ t″) × (w′ ≡ w″) × (o′ ≡ o″)
-one-run {s} {table} {work} {output} a b =
-    let e = one-ran s _ (a .answer) (b .answer) in (
-      e .0,
-      e .1,
-      a .table-left ∙ ap (λ (w : Row). left w TABLE table) (e .0) ∙ sym (b .table-left),
-      a .work-left ∙ ap (λ (w : Row). left w WORK work) (e .0) ∙ sym (b .work-left),
-      a .output-left ∙ ap (λ (bs : List ℕ). bs ++ drop (length bs) output) (e .2) ∙ sym (b .output-left),
-    )
-
--- and one there is
-pub record SomeRun (s table work output : List ℕ) (allowance : ℕ) : Type 0 where
-  pub row : Row
-  pub report : RunReport
+-- and what is left of everything that a run was lent
+pub record SomeRun {P : Type 0} (o : Origin P) (table work output : List ℕ) (allowance : ℕ) : Type 0 where
+  pub report : RunReport P
   pub table-left : List ℕ
   pub work-left : List ℕ
   pub output-left : List ℕ
-  pub answer : Run s table work output allowance row report table-left work-left output-left
+  pub answer : Run o table work output allowance report table-left work-left output-left
 
-pub some-run : (s table work output : List ℕ) (allowance : ℕ) → SomeRun s table work output allowance
-some-run s table work output allowance =
-    let a = some-ran s record { table = length table; work = length work; output = length output; allowance = allowance } in
-    record {
-      row = a .row;
-      report = a .report;
-      table-left = left (a .row) TABLE table;
-      work-left = left (a .row) WORK work;
-      output-left = a .printed ++ drop (length (a .printed)) output;
-      answer = record { printed = a .printed; answer = a .ran; table-left = refl; work-left = refl; output-left = refl };
-    }
+module _ {P : Type 0} {o : Origin P} (law : Lawful o) where
+  -- no two answers of run, nor memories or outputs left
+  pub one-run : {table work output : List ℕ} {allowance : ℕ} {r q : RunReport P} {t′ w′ o′ t″ w″ o″ : List ℕ}
+      → Run o table work output allowance r t′ w′ o′ → Run o table work output allowance q t″ w″ o″
+      → (r ≡ q) × (t′ ≡ t″) × (w′ ≡ w″) × (o′ ≡ o″)
+  one-run {table} {work} {output} a b =
+      let e = one-ran law _ (a .answer) (b .answer) in (
+        e .0,
+        a .table-left ∙ ap (λ (r : RunReport P). left (r .told) TABLE table) (e .0) ∙ sym (b .table-left),
+        a .work-left ∙ ap (λ (r : RunReport P). left (r .told) WORK work) (e .0) ∙ sym (b .work-left),
+        a .output-left ∙ ap (λ (bs : List ℕ). bs ++ drop (length bs) output) (e .1) ∙ sym (b .output-left),
+      )
+
+  -- and one there is
+  pub some-run : (table work output : List ℕ) (allowance : ℕ) → SomeRun o table work output allowance
+  some-run table work output allowance =
+      let a = some-ran law record { table = length table; work = length work; output = length output; allowance = allowance } in
+      record {
+        report = a .0;
+        table-left = left (a .0 .told) TABLE table;
+        work-left = left (a .0 .told) WORK work;
+        output-left = a .1 ++ drop (length (a .1)) output;
+        answer = record { printed = a .1; answer = a .2; table-left = refl; work-left = refl; output-left = refl };
+      }

@@ -1,150 +1,106 @@
--- What becomes of a source, worked out: the scanner, the parser and the type checker one after the other. It is proof
--- vocabulary and no definition of the language; it is shown to say exactly what the written Refused and Passes say.
+-- What becomes of tokens, worked out: the parser and the type checker one after the other. It is proof vocabulary and no
+-- definition of the language; it is shown to say exactly what the written Proper and Denied say.
 use mathlib.Core.List.{List}
 use mathlib.Core.Path.{_≡_, refl, ap, _∙_}
 use Prim.Native.Nat.{ℕ, _≤_, _<_}
 use native.Mathlib.Decide.{decLe}
 use native.Mathlib.Omega.{arith}
-use lib.ListN.{length}
-use Rattle.language.specs.Sizes.{SOURCE, NODES}
-use Rattle.language.specs.Tokens.{Token, place-at}
-use Rattle.language.specs.Text.{Splits}
+use Rattle.language.specs.Sizes.{NODES}
+use Rattle.language.specs.Tokens.{Token}
 use Rattle.language.specs.Trees.{Ty, Program, program-nodes}
 use Rattle.language.specs.Grammar.{Reading}
 use Rattle.language.specs.Types.{HasType}
 use Rattle.language.specs.Faults.{HasFault}
-use Rattle.language.specs.Numbers.{Row, long-source, text, no-reading, many-nodes, types}
-use Rattle.language.specs.Answers.{Passes, Refused, too-long, flawed, unread, too-large, faulty}
-use Rattle.language.proofs.Text.Scanner as Scanner
-use Rattle.language.proofs.Text.Scanner.{scan, scanned, split-scanned, flaw-scanned}
-use Rattle.language.proofs.Grammar.Parses as Parses
-use Rattle.language.proofs.Grammar.Parses.{failed, got}
-use Rattle.language.proofs.Grammar.Parser.{answer}
-use Rattle.language.proofs.Grammar.ParserSound.{answer-sound}
+use Rattle.language.specs.Numbers.{Refusal, no-reading, many-nodes, types}
+use Rattle.language.specs.Answers.{Spot, nowhere, at, Proper, Denied, unread, too-large, faulty}
+use Rattle.language.proofs.Executable.Parses as Parses
+use Rattle.language.proofs.Executable.Parses.{failed, got}
+use Rattle.language.proofs.Executable.Parser.{answer}
+use Rattle.language.proofs.Executable.ParserSound.{answer-sound}
 use Rattle.language.proofs.Grammar.OneReading.{answers}
 use Rattle.language.proofs.Grammar.OneReading as OneReading
-use Rattle.language.proofs.Types.Verdict as Types
-use Rattle.language.proofs.Types.Verdict.{ok, bad, Says, says, faults}
-use Rattle.language.proofs.Types.Checker.{check}
-use Rattle.language.proofs.Types.CheckerSound.{check-sound}
-use Rattle.language.proofs.Types.CheckerComplete.{check-complete, check-fault}
+use Rattle.language.proofs.Executable.Checks as Types
+use Rattle.language.proofs.Executable.Checks.{ok, bad, says, faults}
+use Rattle.language.proofs.Executable.Checker.{check}
+use Rattle.language.proofs.Executable.CheckerSound.{check-sound}
+use Rattle.language.proofs.Executable.CheckerComplete.{check-complete, check-fault}
 
 pub data Verdict : Type 0 where
-  refused : Row → ℕ → Verdict
-  passing : List Token → Program → Ty → Verdict
+  denied : Refusal → Spot → Verdict
+  proper : Program → Ty → Verdict
 
-unfoldable by-type : List Token → Program → Types.Res Ty → Verdict
-by-type ts p (ok t) = passing ts p t
-by-type ts p (bad r i) = refused (types r) (place-at ts i)
+unfoldable by-type : Program → Types.Res Ty → Verdict
+by-type p (ok t) = proper p t
+by-type p (bad r i) = denied (types r) (at i)
 
-unfoldable by-size : List Token → (p : Program) → Dec (program-nodes p ≤ NODES) → Verdict
-by-size ts p (yes h) = by-type ts p (check p)
-by-size ts p (no h) = refused many-nodes 0
+unfoldable by-size : (p : Program) → Dec (program-nodes p ≤ NODES) → Verdict
+by-size p (yes h) = by-type p (check p)
+by-size p (no h) = denied many-nodes nowhere
 
-unfoldable by-reading : List Token → Parses.Result Program → Verdict
-by-reading ts (failed k) = refused no-reading 0
-by-reading ts (got p j) = by-size ts p (decLe (program-nodes p) NODES)
+unfoldable by-reading : Parses.Result Program → Verdict
+by-reading (failed k) = denied no-reading nowhere
+by-reading (got p j) = by-size p (decLe (program-nodes p) NODES)
 
-unfoldable by-text : Scanner.Result → Verdict
-by-text (Scanner.split ts) = by-reading ts (answer ts)
-by-text (Scanner.flawed f i) = refused (text f) i
+unfoldable pub verdict : List Token → Verdict
+unfolding by-type by-size by-reading answer check decLe
+verdict ts = by-reading (answer ts)
 
-unfoldable by-length : (s : List ℕ) → Dec (length s ≤ SOURCE) → Verdict
-by-length s (yes h) = by-text (scan s)
-by-length s (no h) = refused long-source 0
+module _ (ts : List Token) where
+  abbrev pub Says : Verdict → Type 0
+  Says (denied r s) = Denied ts r s
+  Says (proper p t) = Proper ts p t
 
-unfoldable pub verdict : List ℕ → Verdict
-unfolding by-type by-size by-reading by-text by-length scan answer check decLe
-verdict s = by-length s (decLe (length s) SOURCE)
+  -- ---- what it says is so
 
--- ---- what it says is so
-
-module _ (s : List ℕ) where
-  abbrev pub Told : Verdict → Type 0
-  Told (refused w i) = Refused s w i
-  Told (passing ts p t) = Passes s ts p t
-
-  module _ (short : length s ≤ SOURCE) where
-    type-told : (ts : List Token) (p : Program) → Splits s ts → Reading ts p → program-nodes p ≤ NODES
-        → (c : Types.Res Ty) → Says (HasType p) (HasFault p) c → Told (by-type ts p c)
-    unfolding by-type
-    type-told ts p a b n (ok t) (says h) = record { short = short; splits = a; reads = b; small = n; typed = h }
-    type-told ts p a b n (bad r i) (faults h) = faulty short a b n h
-
-    size-told : (ts : List Token) (p : Program) → Splits s ts → Reading ts p → (d : Dec (program-nodes p ≤ NODES)) → Told (by-size ts p d)
-    unfolding by-size
-    size-told ts p a b (yes h) = type-told ts p a b h (check p) (check-sound p)
-    size-told ts p a b (no h) = too-large short a b (omega (arith, h))
-
-    reading-told : (ts : List Token) → Splits s ts → (r : Parses.Result Program) → answer ts ≡ r → Told (by-reading ts r)
-    unfolding by-reading
-    reading-told ts a (failed k) e = unread short a (OneReading.no-reading ts k e)
-    reading-told ts a (got p j) e = size-told ts p a (answer-sound ts p j e) (decLe (program-nodes p) NODES)
-
-    text-told : (r : Scanner.Result) → Scanner.Says s r → Told (by-text r)
-    unfolding by-text
-    text-told (Scanner.split ts) a = reading-told ts a (answer ts) refl
-    text-told (Scanner.flawed f i) a = flawed short a
-
-  length-told : (d : Dec (length s ≤ SOURCE)) → Told (by-length s d)
-  unfolding by-length
-  length-told (yes h) = text-told h (scan s) (scanned s)
-  length-told (no h) = too-long (omega (arith, h))
-
-  pub verdict-told : Told (verdict s)
-  unfolding verdict
-  verdict-told = length-told (decLe (length s) SOURCE)
-
--- ---- what is so it says
-
-module _ (s : List ℕ) where
-  short-is : length s ≤ SOURCE → (d : Dec (length s ≤ SOURCE)) → by-length s d ≡ by-text (scan s)
-  unfolding by-length
-  short-is h (yes k) = refl
-  short-is h (no k) = absurd (k h)
-
-  split-is : {ts : List Token} → length s ≤ SOURCE → Splits s ts → verdict s ≡ by-reading ts (answer ts)
-  unfolding verdict by-text
-  split-is h a = short-is h (decLe (length s) SOURCE) ∙ ap by-text (split-scanned a)
-
-  reads-is : {ts : List Token} {p : Program} → length s ≤ SOURCE → Splits s ts → Reading ts p
-      → verdict s ≡ by-size ts p (decLe (program-nodes p) NODES)
-  unfolding by-reading
-  reads-is {ts} {p} h a b = split-is h a ∙ ap (by-reading ts) (answers ts p b)
-
-  small-is : (ts : List Token) (p : Program) (d : Dec (program-nodes p ≤ NODES)) → program-nodes p ≤ NODES → by-size ts p d ≡ by-type ts p (check p)
-  unfolding by-size
-  small-is ts p (yes k) h = refl
-  small-is ts p (no k) h = absurd (k h)
-
-  large-is : (ts : List Token) (p : Program) (d : Dec (program-nodes p ≤ NODES)) → NODES < program-nodes p → by-size ts p d ≡ refused many-nodes 0
-  unfolding by-size
-  large-is ts p (yes k) h = absurd (omega arith)
-  large-is ts p (no k) h = refl
-
-  -- a source that passes
-  pub passes-is : {ts : List Token} {p : Program} {t : Ty} → Passes s ts p t → verdict s ≡ passing ts p t
+  type-says : (p : Program) → Reading ts p → program-nodes p ≤ NODES
+      → (c : Types.Res Ty) → Types.Says (HasType p) (HasFault p) c → Says (by-type p c)
   unfolding by-type
-  passes-is {ts} {p} {t} h =
-      reads-is (h .short) (h .splits) (h .reads) ∙ small-is ts p (decLe (program-nodes p) NODES) (h .small)
-      ∙ ap (by-type ts p) (check-complete p t (h .typed))
+  type-says p a n (ok t) (says h) = record { reads = a; small = n; typed = h }
+  type-says p a n (bad r i) (faults h) = faulty a n h
 
-  long-is : SOURCE < length s → (d : Dec (length s ≤ SOURCE)) → by-length s d ≡ refused long-source 0
-  unfolding by-length
-  long-is h (yes k) = absurd (omega arith)
-  long-is h (no k) = refl
+  size-says : (p : Program) → Reading ts p → (d : Dec (program-nodes p ≤ NODES)) → Says (by-size p d)
+  unfolding by-size
+  size-says p a (yes h) = type-says p a h (check p) (check-sound p)
+  size-says p a (no h) = too-large a (omega (arith, h))
 
-  unread-is : (ts : List Token) (r : Parses.Result Program) → answer ts ≡ r → ((p : Program) → Reading ts p → ⊥) → by-reading ts r ≡ refused no-reading 0
+  reading-says : (r : Parses.Result Program) → answer ts ≡ r → Says (by-reading r)
   unfolding by-reading
-  unread-is ts (failed k) e h = refl
-  unread-is ts (got p j) e h = absurd (h p (answer-sound ts p j e))
+  reading-says (failed k) e = unread (OneReading.no-reading ts k e)
+  reading-says (got p j) e = size-says p (answer-sound ts p j e) (decLe (program-nodes p) NODES)
 
-  -- a source that is refused
-  pub refused-is : {w : Row} {i : ℕ} → Refused s w i → verdict s ≡ refused w i
-  unfolding verdict by-text by-type
-  refused-is (too-long h) = long-is h (decLe (length s) SOURCE)
-  refused-is (flawed h a) = short-is h (decLe (length s) SOURCE) ∙ ap by-text (flaw-scanned a)
-  refused-is (unread {ts} h a b) = split-is h a ∙ unread-is ts (answer ts) refl b
-  refused-is (too-large {ts} {p} h a b n) = reads-is h a b ∙ large-is ts p (decLe (program-nodes p) NODES) n
-  refused-is (faulty {ts} {p} {r} {i} h a b n f) =
-      reads-is h a b ∙ small-is ts p (decLe (program-nodes p) NODES) n ∙ ap (by-type ts p) (check-fault p r i f)
+  pub verdict-says : Says (verdict ts)
+  unfolding verdict
+  verdict-says = reading-says (answer ts) refl
+
+  -- ---- what is so it says
+
+  reads-is : {p : Program} → Reading ts p → verdict ts ≡ by-size p (decLe (program-nodes p) NODES)
+  unfolding verdict by-reading
+  reads-is {p} a = ap by-reading (answers ts p a)
+
+  small-is : (p : Program) (d : Dec (program-nodes p ≤ NODES)) → program-nodes p ≤ NODES → by-size p d ≡ by-type p (check p)
+  unfolding by-size
+  small-is p (yes k) h = refl
+  small-is p (no k) h = absurd (k h)
+
+  large-is : (p : Program) (d : Dec (program-nodes p ≤ NODES)) → NODES < program-nodes p → by-size p d ≡ denied many-nodes nowhere
+  unfolding by-size
+  large-is p (yes k) h = absurd (omega arith)
+  large-is p (no k) h = refl
+
+  unread-is : (r : Parses.Result Program) → answer ts ≡ r → ((p : Program) → Reading ts p → ⊥) → by-reading r ≡ denied no-reading nowhere
+  unfolding by-reading
+  unread-is (failed k) e h = refl
+  unread-is (got p j) e h = absurd (h p (answer-sound ts p j e))
+
+  pub proper-is : {p : Program} {t : Ty} → Proper ts p t → verdict ts ≡ proper p t
+  unfolding by-type
+  proper-is {p} {t} h =
+      reads-is (h .reads) ∙ small-is p (decLe (program-nodes p) NODES) (h .small) ∙ ap (by-type p) (check-complete p t (h .typed))
+
+  pub denied-is : {r : Refusal} {s : Spot} → Denied ts r s → verdict ts ≡ denied r s
+  unfolding verdict by-type
+  denied-is (unread h) = unread-is (answer ts) refl h
+  denied-is (too-large {p} a n) = reads-is a ∙ large-is p (decLe (program-nodes p) NODES) n
+  denied-is (faulty {p} {r} {i} a n f) =
+      reads-is a ∙ small-is p (decLe (program-nodes p) NODES) n ∙ ap (by-type p) (check-fault p r i f)

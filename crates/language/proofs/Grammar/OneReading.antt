@@ -9,11 +9,11 @@ use borrow.Author.Tests.{eq-eqb}
 use Rattle.language.specs.Tokens.{Token, PAST, past, kind-at, entry}
 use Rattle.language.specs.Trees.{Program}
 use Rattle.language.specs.Grammar.{Of, Sym, Reads, Reading}
-use Rattle.language.proofs.Grammar.Parses.{Result, failed, got, then, need}
-use Rattle.language.proofs.Grammar.Parser.{entire, step, parse, answer}
+use Rattle.language.proofs.Executable.Parses.{Result, failed, got, then, need}
+use Rattle.language.proofs.Executable.Parser.{entire, step, parse, answer}
 use Rattle.language.proofs.Grammar.FirstTokens.{pull, ends}
-use Rattle.language.proofs.Grammar.ParserSound.{answer-sound}
-use Rattle.language.proofs.Grammar.ParserComplete.{run, found, rank}
+use Rattle.language.proofs.Executable.ParserSound.{answer-sound}
+use Rattle.language.proofs.Executable.ParserComplete.{run, found, rank}
 
 module _ (ts : List Token) where
   kind-past : kind-at ts (length ts) ≡ PAST

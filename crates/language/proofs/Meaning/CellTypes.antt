@@ -6,6 +6,7 @@ use mathlib.Core.Option.{Option, none, some}
 use Prim.Native.Nat.{ℕ, suc, _≤_}
 use native.Mathlib.Omega.{arith}
 use lib.ListN.{length}
+use lib.IntN.{ℤ}
 use lib.Dec.{eqb, leb}
 use borrow.Author.Tests.{eqb-true}
 use Rattle.language.specs.Tokens.{same}
@@ -39,7 +40,13 @@ pub grows-trans : {A B C : List Ty} → Grows A B → Grows B C → Grows A C
 grows-trans g stays = g
 grows-trans g (gains h) = gains (grows-trans g h)
 
-born-le : {Σ : List Ty} {b : ℕ} {t : Ty} → Born Σ b t → b ≤ length Σ
+-- birth numbers begin with 1
+pub born-first : {Σ : List Ty} {b : ℕ} {t : Ty} → Born Σ b t → 1 ≤ b
+born-first (newest e) = omega arith
+born-first (older p) = born-first p
+
+-- and end with the newest
+pub born-le : {Σ : List Ty} {b : ℕ} {t : Ty} → Born Σ b t → b ≤ length Σ
 born-le (newest e) = omega arith
 born-le (older p) = let h = born-le p in omega arith
 
@@ -53,10 +60,11 @@ pub born-grows : {Σ Σ′ : List Ty} {b : ℕ} {t : Ty} → Grows Σ Σ′ → 
 born-grows stays p = p
 born-grows (gains g) p = older (born-grows g p)
 
-module _ (Σ : List Ty) where
+-- R is what is asked of every int
+module _ (R : ℤ → Type 0) (Σ : List Ty) where
   -- v is a value of the type t
   pub data Fits : Value → Ty → Type 0 where
-    fits-int : {z : _} → Fits (number z) int
+    fits-int : {z : ℤ} → R z → Fits (number z) int
     fits-bool : {b : Bool} → Fits (flag b) bool
     fits-unit : Fits nothing unit
     fits-ref : {b : ℕ} {t : Ty} → Born Σ b t → Fits (cell b) (ref t)
@@ -77,54 +85,55 @@ module _ (Σ : List Ty) where
     pub counted : s .births ≡ length Σ
     pub holds : Holds (s .cells)
 
-  pub keep-holds : (b : ℕ) (cs : Cells) → Holds cs → Holds (keep b cs)
+module _ {R : ℤ → Type 0} (Σ : List Ty) where
+  pub keep-holds : (b : ℕ) (cs : Cells) → Holds R Σ cs → Holds R Σ (keep b cs)
   unfolding keep
   keep-holds b no-cell h = h
   keep-holds b (live c v cs) (holds-live p q h) =
-      let r = keep-holds b cs h in cond-all Holds (leb c b) (λ _. holds-live p q r) λ _. r
+      let r = keep-holds b cs h in cond-all (Holds R Σ) (leb c b) (λ _. holds-live p q r) λ _. r
 
-  pub store-holds : (b : ℕ) (t : Ty) (w : Value) (cs : Cells) → Born Σ b t → Fits w t → Holds cs → Holds (store b w cs)
+  pub store-holds : (b : ℕ) (t : Ty) (w : Value) (cs : Cells) → Born Σ b t → Fits R Σ w t → Holds R Σ cs → Holds R Σ (store b w cs)
   unfolding store
   store-holds b t w no-cell p q h = h
   store-holds b t w (live c v cs) p q (holds-live r f h) =
       let k = store-holds b t w cs p q h in
-      cond-all Holds (eqb b c) (λ e. holds-live (subst (λ n. Born Σ n t) (eqb-true b c e) p) q h) λ _. holds-live r f k
+      cond-all (Holds R Σ) (eqb b c) (λ e. holds-live (subst (λ n. Born Σ n t) (eqb-true b c e) p) q h) λ _. holds-live r f k
 
-  pub held-fits : (b : ℕ) (t : Ty) (v : Value) (cs : Cells) → Born Σ b t → Holds cs → held b cs ≡ some v → Fits v t
+  pub held-fits : (b : ℕ) (t : Ty) (v : Value) (cs : Cells) → Born Σ b t → Holds R Σ cs → held b cs ≡ some v → Fits R Σ v t
   unfolding held
   held-fits b t v no-cell p h e = absurd (none-some e)
   held-fits b t v (live c w cs) p (holds-live {t = u} r f h) e =
-      let k : held b cs ≡ some v → Fits v t = λ m. held-fits b t v cs p h m in
-      cond-all (λ o. o ≡ some v → Fits v t) (eqb b c)
-      (λ d m. subst (Fits v) (born-one (subst (λ n. Born Σ n u) (sym (eqb-true b c d)) r) p) (subst (λ x. Fits x u) (some-one m) f))
+      let k : held b cs ≡ some v → Fits R Σ v t = λ m. held-fits b t v cs p h m in
+      cond-all (λ o. o ≡ some v → Fits R Σ v t) (eqb b c)
+      (λ d m. subst (Fits R Σ v) (born-one (subst (λ n. Born Σ n u) (sym (eqb-true b c d)) r) p) (subst (λ x. Fits R Σ x u) (some-one m) f))
       (λ _. k) e
 
-  pub env-find : {env : Env} {Γ : Scope Ty} (x : Name) (t : Ty) → EnvFits env Γ → nearest x Γ ≡ some t
-      → (v : Value) × (nearest x env ≡ some v) × Fits v t
+  pub env-find : {env : Env} {Γ : Scope Ty} (x : Name) (t : Ty) → EnvFits R Σ env Γ → nearest x Γ ≡ some t
+      → (v : Value) × (nearest x env ≡ some v) × Fits R Σ v t
   unfolding nearest
   env-find x t env-empty e = absurd (none-some e)
   env-find x t (env-push {x = y} {v = v} {t = u} {env = env} {Γ = Γ} f h) e =
       go (same x y) e (λ m. env-find x t h m)
     where
-      go : (b : Bool) → cond b (some u) (nearest x Γ) ≡ some t → (nearest x Γ ≡ some t → (v : Value) × (nearest x env ≡ some v) × Fits v t)
-          → (w : Value) × (cond b (some v) (nearest x env) ≡ some w) × Fits w t
-      go true e k = (v, refl, subst (Fits v) (some-one e) f)
+      go : (b : Bool) → cond b (some u) (nearest x Γ) ≡ some t → (nearest x Γ ≡ some t → (v : Value) × (nearest x env ≡ some v) × Fits R Σ v t)
+          → (w : Value) × (cond b (some v) (nearest x env) ≡ some w) × Fits R Σ w t
+      go true e k = (v, refl, subst (Fits R Σ v) (some-one e) f)
       go false e k = k e
 
-pub fits-grows : {Σ Σ′ : List Ty} {v : Value} {t : Ty} → Grows Σ Σ′ → Fits Σ v t → Fits Σ′ v t
-fits-grows g fits-int = fits-int
+pub fits-grows : {R : ℤ → Type 0} {Σ Σ′ : List Ty} {v : Value} {t : Ty} → Grows Σ Σ′ → Fits R Σ v t → Fits R Σ′ v t
+fits-grows g (fits-int r) = fits-int r
 fits-grows g fits-bool = fits-bool
 fits-grows g fits-unit = fits-unit
 fits-grows g (fits-ref p) = fits-ref (born-grows g p)
 
-pub all-grows : {Σ Σ′ : List Ty} {vs : List Value} {ts : List Ty} → Grows Σ Σ′ → FitsAll Σ vs ts → FitsAll Σ′ vs ts
+pub all-grows : {R : ℤ → Type 0} {Σ Σ′ : List Ty} {vs : List Value} {ts : List Ty} → Grows Σ Σ′ → FitsAll R Σ vs ts → FitsAll R Σ′ vs ts
 all-grows g fits-none = fits-none
 all-grows g (fits-more p q) = fits-more (fits-grows g p) (all-grows g q)
 
-pub env-grows : {Σ Σ′ : List Ty} {env : Env} {Γ : Scope Ty} → Grows Σ Σ′ → EnvFits Σ env Γ → EnvFits Σ′ env Γ
+pub env-grows : {R : ℤ → Type 0} {Σ Σ′ : List Ty} {env : Env} {Γ : Scope Ty} → Grows Σ Σ′ → EnvFits R Σ env Γ → EnvFits R Σ′ env Γ
 env-grows g env-empty = env-empty
 env-grows g (env-push p q) = env-push (fits-grows g p) (env-grows g q)
 
-pub holds-grows : {Σ Σ′ : List Ty} {cs : Cells} → Grows Σ Σ′ → Holds Σ cs → Holds Σ′ cs
+pub holds-grows : {R : ℤ → Type 0} {Σ Σ′ : List Ty} {cs : Cells} → Grows Σ Σ′ → Holds R Σ cs → Holds R Σ′ cs
 holds-grows g holds-none = holds-none
 holds-grows g (holds-live p q h) = holds-live (born-grows g p) (fits-grows g q) (holds-grows g h)

@@ -8,7 +8,7 @@ use native.Mathlib.Omega.{arith}
 use lib.IntN.{ℤ, pos, negsuc}
 use Rattle.language.specs.Sizes.{ACTIVE}
 use Rattle.language.specs.Trees.{Unary, minus, not, fetch, new, Binary, add, sub, mul, div, less, equal, and, or, assign, Exp, name, literal, unary, binary, follow, group, block, call, bind, branch, loop, Exps, last, more, Param, Program, Scope, empty, push}
-use Rattle.language.specs.State.{Stop, no-unit, Value, number, flag, nothing, cell, State, Outcome, value, stop, stuck, then, want-int, want-bool, want-unit, want-cell, want-one, choose, when-some}
+use Rattle.language.specs.State.{Stop, no-unit, Value, State, Outcome, value, stop, stuck, then, choose, when-some, want}
 use Rattle.language.specs.Meaning.{Env, charge, begin, fit, create, apply-unary, apply-binary, emit, put, Fun, putchar, defined, enter, arguments, invoke, passes, step, eval, run, start}
 
 abbrev pub plus : ℕ → State → State
@@ -30,40 +30,6 @@ module _ (k : ℕ) where
   more-then f g more-50 h = more-50
   more-then f g more-stuck h = more-stuck
 
-  more-int : (v : Value) (f g : ℤ → Outcome) → ((z : ℤ) → More k (f z) (g z)) → More k (want-int v f) (want-int v g)
-  unfolding want-int
-  more-int (number z) f g h = h z
-  more-int (flag b) f g h = more-stuck
-  more-int nothing f g h = more-stuck
-  more-int (cell b) f g h = more-stuck
-
-  more-bool : (v : Value) (f g : Bool → Outcome) → ((z : Bool) → More k (f z) (g z)) → More k (want-bool v f) (want-bool v g)
-  unfolding want-bool
-  more-bool (number z) f g h = more-stuck
-  more-bool (flag b) f g h = h b
-  more-bool nothing f g h = more-stuck
-  more-bool (cell b) f g h = more-stuck
-
-  more-unit : (v : Value) (f g : Unit {0} → Outcome) → More k (f tt) (g tt) → More k (want-unit v f) (want-unit v g)
-  unfolding want-unit
-  more-unit (number z) f g h = more-stuck
-  more-unit (flag b) f g h = more-stuck
-  more-unit nothing f g h = h
-  more-unit (cell b) f g h = more-stuck
-
-  more-cell : (v : Value) (f g : ℕ → Outcome) → ((z : ℕ) → More k (f z) (g z)) → More k (want-cell v f) (want-cell v g)
-  unfolding want-cell
-  more-cell (number z) f g h = more-stuck
-  more-cell (flag b) f g h = more-stuck
-  more-cell nothing f g h = more-stuck
-  more-cell (cell b) f g h = h b
-
-  more-one : (vs : List Value) (f g : Value → Outcome) → ((v : Value) → More k (f v) (g v)) → More k (want-one vs f) (want-one vs g)
-  unfolding want-one
-  more-one [] f g h = more-stuck
-  more-one (v ∷ []) f g h = h v
-  more-one (v ∷ w ∷ vs) f g h = more-stuck
-
   more-choose : (b : Bool) (x y x′ y′ : Unit {0} → Outcome) → More k (x tt) (x′ tt) → More k (y tt) (y′ tt) → More k (choose b x y) (choose b x′ y′)
   unfolding choose
   more-choose true x y x′ y′ f g = f
@@ -74,6 +40,9 @@ module _ (k : ℕ) where
   unfolding when-some
   more-when none f g x y h p = p
   more-when (some a) f g x y h p = h a
+
+  more-want : {A : Type 0} (o : Option A) (f g : A → Outcome) → ((a : A) → More k (f a) (g a)) → More k (want o f) (want o g)
+  more-want o f g h = more-when o f g _ _ h more-stuck
 
   more-charge : (n m i : ℕ) (s : State) (f g : State → Outcome) → m ≡ n + k → ((s : State) → More k (f s) (g (plus k s)))
       → More k (charge n i s f) (charge m i (plus k s) g)
@@ -94,22 +63,22 @@ module _ (k : ℕ) where
 
   more-unary : (i : ℕ) (o : Unary) (v : Value) (s : State) → More k (apply-unary i o v s) (apply-unary i o v (plus k s))
   unfolding apply-unary create
-  more-unary i minus v s = more-int v _ _ λ x. more-fit i _ s
-  more-unary i not v s = more-bool v _ _ λ b. more-value
-  more-unary i fetch v s = more-cell v _ _ λ b. more-when _ _ _ _ _ (λ w. more-value) more-stop
+  more-unary i minus v s = more-want _ _ _ λ x. more-fit i _ s
+  more-unary i not v s = more-want _ _ _ λ b. more-value
+  more-unary i fetch v s = more-want _ _ _ λ b. more-when _ _ _ _ _ (λ w. more-value) more-stop
   more-unary i new v s = more-choose _ _ _ _ _ more-value more-stop
 
   more-binary : (i : ℕ) (o : Binary) (v w : Value) (s : State) → More k (apply-binary i o v w s) (apply-binary i o v w (plus k s))
   unfolding apply-binary
-  more-binary i add v w s = more-int v _ _ λ x. more-int w _ _ λ y. more-fit i _ s
-  more-binary i sub v w s = more-int v _ _ λ x. more-int w _ _ λ y. more-fit i _ s
-  more-binary i mul v w s = more-int v _ _ λ x. more-int w _ _ λ y. more-fit i _ s
-  more-binary i div v w s = more-int v _ _ λ x. more-int w _ _ λ y. more-choose _ _ _ _ _ more-stop (more-fit i _ s)
-  more-binary i less v w s = more-int v _ _ λ x. more-int w _ _ λ y. more-value
-  more-binary i equal v w s = more-int v _ _ λ x. more-int w _ _ λ y. more-value
-  more-binary i and v w s = more-bool v _ _ λ x. more-bool w _ _ λ y. more-value
-  more-binary i or v w s = more-bool v _ _ λ x. more-bool w _ _ λ y. more-value
-  more-binary i assign v w s = more-cell v _ _ λ b. more-when _ _ _ _ _ (λ _. more-value) more-stop
+  more-binary i add v w s = more-want _ _ _ λ x. more-want _ _ _ λ y. more-fit i _ s
+  more-binary i sub v w s = more-want _ _ _ λ x. more-want _ _ _ λ y. more-fit i _ s
+  more-binary i mul v w s = more-want _ _ _ λ x. more-want _ _ _ λ y. more-fit i _ s
+  more-binary i div v w s = more-want _ _ _ λ x. more-want _ _ _ λ y. more-choose _ _ _ _ _ more-stop (more-fit i _ s)
+  more-binary i less v w s = more-want _ _ _ λ x. more-want _ _ _ λ y. more-value
+  more-binary i equal v w s = more-want _ _ _ λ x. more-want _ _ _ λ y. more-value
+  more-binary i and v w s = more-want _ _ _ λ x. more-want _ _ _ λ y. more-value
+  more-binary i or v w s = more-want _ _ _ λ x. more-want _ _ _ λ y. more-value
+  more-binary i assign v w s = more-want _ _ _ λ b. more-when _ _ _ _ _ (λ _. more-value) more-stop
 
   more-emit : (r i n : ℕ) (s : State) → More k (emit r i n s) (emit r i n (plus k s))
   unfolding emit
@@ -140,7 +109,7 @@ module _ (k : ℕ) where
 
     more-invoke : (i : ℕ) (g : Fun) (vs : List Value) (s : State) → More k (invoke fs go i g vs s) (invoke fs go i g vs (plus k s))
     unfolding invoke
-    more-invoke i putchar vs s = more-one vs _ _ λ v. more-int v _ _ λ z. more-put i z s
+    more-invoke i putchar vs s = more-want _ _ _ λ v. more-want _ _ _ λ z. more-put i z s
     more-invoke i (defined ps e) vs s = more-enter ps vs empty _ _ λ env. ih e env s
 
     more-passes : (n m : ℕ) (c e : Exp) (env : Env) (s : State) → n ≤ m → More k (passes fs go n c e env s) (passes fs go m c e env (plus k s))
@@ -149,27 +118,27 @@ module _ (k : ℕ) where
     more-passes (suc n) zero c e env s h = absurd (omega arith)
     more-passes (suc n) (suc m) c e env s h =
         more-then _ _ (ih c env s) λ v s₁.
-        more-bool v _ _ λ b.
+        more-want _ _ _ λ b.
         more-choose b _ _ _ _
-        (more-then _ _ (ih e env s₁) λ w s₂. more-unit w _ _ (more-passes n m c e env s₂ (omega arith)))
+        (more-then _ _ (ih e env s₁) λ w s₂. more-want _ _ _ (λ _. more-passes n m c e env s₂ (omega arith)))
         more-value
 
     more-step : (e : Exp) (env : Env) (s : State) → More k (step fs go e env s) (step fs go e env (plus k s))
     unfolding step
-    more-step (name i x) env s = more-when _ _ _ _ _ (λ v. more-value) more-stuck
+    more-step (name i x) env s = more-want _ _ _ λ v. more-value
     more-step (literal i l) env s = more-value
     more-step (unary i o e) env s = more-then _ _ (ih e env s) λ v s₁. more-unary i o v s₁
     more-step (binary i o e f) env s =
         more-then _ _ (ih e env s) λ v s₁.
         more-choose _ _ _ _ _ more-value
         (more-then _ _ (ih f env s₁) λ w s₂. more-binary i o v w s₂)
-    more-step (follow i e f) env s = more-then _ _ (ih e env s) λ v s₁. more-unit v _ _ (ih f env s₁)
+    more-step (follow i e f) env s = more-then _ _ (ih e env s) λ v s₁. more-want _ _ _ (λ _. ih f env s₁)
     more-step (group i e) env s = ih e env s
     more-step (block i e) env s = more-then _ _ (ih e env s) λ v s₁. more-value
-    more-step (call i f es) env s = more-arguments es env s _ _ λ vs s₁. more-when _ _ _ _ _ (λ g. more-invoke i g vs s₁) more-stuck
+    more-step (call i f es) env s = more-arguments es env s _ _ λ vs s₁. more-want _ _ _ λ g. more-invoke i g vs s₁
     more-step (bind i x e f) env s = more-then _ _ (ih e env s) λ v s₁. ih f (push x v env) s₁
     more-step (branch i c e f) env s =
-        more-then _ _ (ih c env s) λ v s₁. more-bool v _ _ λ b. more-choose b _ _ _ _ (ih e env s₁) (ih f env s₁)
+        more-then _ _ (ih c env s) λ v s₁. more-want _ _ _ λ b. more-choose b _ _ _ _ (ih e env s₁) (ih f env s₁)
     more-step (loop i c e) env s = more-passes (s .units) (s .units + k) c e env s (omega arith)
 
   pub more-eval : (fs : Scope Fun) (d : ℕ) (e : Exp) (env : Env) (s : State) → More k (eval fs d e env s) (eval fs d e env (plus k s))
@@ -198,7 +167,8 @@ value-more {k} (more-stop {w} {i} {s}) e = ap (raise k) e
 value-more more-50 e = absurd (subst Not-value e tt)
 value-more {k} more-stuck e = ap (raise k) e
 
-pub same-value : (p : Program) (allowance room k : ℕ) (v : Value) (s : State) → run p allowance room ≡ value v s → run p (allowance + k) room ≡ value v (plus k s)
+pub same-value : (p : Program) (allowance room k : ℕ) (v : Value) (s : State)
+    → run p allowance room ≡ value v s → run p (allowance + k) room ≡ value v (plus k s)
 same-value p allowance room k v s e = value-more (more-run k p allowance room) e
 
 stop-more : {k : ℕ} {o p : Outcome} {w : Stop} {i : ℕ} {s : State} → More k o p → o ≡ stop w i s → (w ≡ no-unit → ⊥) → p ≡ stop w i (plus k s)

@@ -1,25 +1,27 @@
--- A program that has a type is never stuck, and its value is of that type.
+-- A program that has a type is never stuck.
 use mathlib.Core.Path.{_≡_, refl, sym, ap, subst, _∙_}
 use mathlib.Core.Bool.{Bool, true, false, cond, _&&_}
 use mathlib.Core.List.{List, [], _∷_}
 use mathlib.Core.Option.{none, some}
 use Prim.Native.Nat.{ℕ}
 use lib.Dec.{eqb}
+use lib.IntN.{ℤ}
 use borrow.Author.Tests.{eqb-true}
 use Rattle.language.specs.Sizes.{ACTIVE}
 use Rattle.language.specs.Tokens.{same}
 use Rattle.language.specs.Trees.{Name, Ty, Exp, Exps, Def, Program, Scope, empty, push, nearest}
 use Rattle.language.specs.Types.{Sig, Typed, t-name, t-whole, t-truth, t-trivial, t-unary, t-binary, t-follow, t-group, t-block, t-call, t-bind, t-branch, t-loop, TypedAll, t-last, t-more, fine, with-def, TypedFrom, typed-main, typed-def, given, HasType}
-use Rattle.language.specs.State.{Value, State, Outcome, value, stop, stuck}
-use Rattle.language.specs.Meaning.{Fun, functions, start, run}
-use Rattle.language.proofs.Meaning.CellTypes.{none-some, some-one, Fits, holds-none, env-empty}
-use Rattle.language.proofs.Meaning.Safety.{Good, good-value, good-stop, FunFits, fun-putchar, fun-defined, eval-good}
+use Rattle.language.specs.State.{Outcome, value, stop, stuck}
+use Rattle.language.specs.Meaning.{in-range, Fun, functions, start, run}
+use Rattle.language.proofs.Grammar.OwnTokens.{Own, owns, def-owns, program-owns, front, back, everywhere, main-owned}
+use Rattle.language.proofs.Meaning.CellTypes.{none-some, some-one, holds-none, env-empty}
+use Rattle.language.proofs.Meaning.Safety.{Good, good-value, good-stop, Fair, FunFits, fun-putchar, fun-defined, eval-good}
 
-and-left : (a b : Bool) → a && b ≡ true → a ≡ true
+pub and-left : (a b : Bool) → a && b ≡ true → a ≡ true
 and-left true b e = refl
 and-left false b e = e
 
-and-right : (a b : Bool) → a && b ≡ true → b ≡ true
+pub and-right : (a b : Bool) → a && b ≡ true → b ≡ true
 and-right true b e = e
 and-right false true e = refl
 and-right false false e = e
@@ -82,55 +84,55 @@ knows-final (typed-main p) f s h = h
 knows-final (typed-def {Δ} {d} (fine a b c m n) q) f s h = knows-final q f s (knows-push Δ (d .called) _ b f s h)
 
 -- functions and what they take and give, in one order
-data Tabled (Δ : Scope Sig) : Scope Fun → Scope Sig → Type 0 where
-  tabled-none : Tabled Δ empty empty
-  tabled-push : {f : Name} {g : Fun} {s : Sig} {fs : Scope Fun} {ss : Scope Sig} → FunFits Δ g s → Tabled Δ fs ss → Tabled Δ (push f g fs) (push f s ss)
+data Tabled (R : ℤ → Type 0) (Δ : Scope Sig) : Scope Fun → Scope Sig → Type 0 where
+  tabled-none : Tabled R Δ empty empty
+  tabled-push : {f : Name} {g : Fun} {s : Sig} {fs : Scope Fun} {ss : Scope Sig} → FunFits R Δ g s → Tabled R Δ fs ss
+      → Tabled R Δ (push f g fs) (push f s ss)
 
-find : {Δ ss : Scope Sig} {fs : Scope Fun} (f : Name) (s : Sig) → Tabled Δ fs ss → nearest f ss ≡ some s → (g : Fun) × (nearest f fs ≡ some g) × FunFits Δ g s
-unfolding nearest
-find f s tabled-none e = absurd (none-some e)
-find {Δ} f s (tabled-push {f = h} {g = g} {s = r} {fs = fs} {ss = ss} p q) e = go (same f h) e (λ m. find f s q m)
-  where
-    go : (b : Bool) → cond b (some r) (nearest f ss) ≡ some s → (nearest f ss ≡ some s → (g : Fun) × (nearest f fs ≡ some g) × FunFits Δ g s)
-        → (x : Fun) × (cond b (some g) (nearest f fs) ≡ some x) × FunFits Δ x s
-    go true e k = (g, refl, subst (FunFits Δ g) (some-one e) p)
-    go false e k = k e
+module _ {R : ℤ → Type 0} where
+  find : {Δ ss : Scope Sig} {fs : Scope Fun} (f : Name) (s : Sig) → Tabled R Δ fs ss → nearest f ss ≡ some s
+      → (g : Fun) × (nearest f fs ≡ some g) × FunFits R Δ g s
+  unfolding nearest
+  find f s tabled-none e = absurd (none-some e)
+  find {Δ} f s (tabled-push {f = h} {g = g} {s = r} {fs = fs} {ss = ss} p q) e = go (same f h) e (λ m. find f s q m)
+    where
+      go : (b : Bool) → cond b (some r) (nearest f ss) ≡ some s
+          → (nearest f ss ≡ some s → (g : Fun) × (nearest f fs ≡ some g) × FunFits R Δ g s)
+          → (x : Fun) × (cond b (some g) (nearest f fs) ≡ some x) × FunFits R Δ x s
+      go true e k = (g, refl, subst (FunFits R Δ g) (some-one e) p)
+      go false e k = k e
 
-tables : {Δ Δ′ : Scope Sig} {ds : List Def} {e : Exp} {t : Ty} {fs : Scope Fun} → TypedFrom Δ ds e t → Knows (final Δ ds) Δ′ → Tabled Δ′ fs Δ
-    → Tabled Δ′ (functions ds fs) (final Δ ds)
-unfolding final functions
-tables (typed-main p) k h = h
-tables (typed-def {Δ} {d} (fine a b c m n) q) k h =
-    tables q k (tabled-push (fun-defined c refl (weaken (with-def Δ d) _ (λ f s e. k f s (knows-final q f s e)) n)) h)
+  tables : {Δ Δ′ : Scope Sig} {ds : List Def} {e : Exp} {t : Ty} {fs : Scope Fun} (os : List Own) → TypedFrom Δ ds e t
+      → Fair R (def-owns ds os) → Knows (final Δ ds) Δ′ → Tabled R Δ′ fs Δ → Tabled R Δ′ (functions ds fs) (final Δ ds)
+  unfolding final functions def-owns
+  tables os (typed-main p) m k h = h
+  tables os (typed-def {Δ} {d} (fine a b c r n) q) m k h =
+      let body = weaken (with-def Δ d) _ (λ f s e. k f s (knows-final q f s e)) n in
+      tables os q (back (owns (d .body)) _ m) k (tabled-push (fun-defined c refl body (front (owns (d .body)) _ m)) h)
 
 main-typed : {Δ : Scope Sig} {ds : List Def} {e : Exp} {t : Ty} → TypedFrom Δ ds e t → Typed (final Δ ds) empty e t
 unfolding final
 main-typed (typed-main p) = p
 main-typed (typed-def p q) = main-typed q
 
-pub run-good : (p : Program) (t : Ty) (allowance room : ℕ) → HasType p t → Good [] t (run p allowance room)
-unfolding run
-run-good p t allowance room h =
-    eval-good (final given (p .defs)) _ (λ f s e. find f s (tables h (λ g r k. k) (tabled-push fun-putchar tabled-none)) e) ACTIVE empty (start allowance room)
-    (main-typed h) env-empty record { counted = refl; holds = holds-none }
+-- a run is not stuck; with numbers that are what is asked, so is every int that it makes
+pub run-good : {R : ℤ → Type 0} → ((z : ℤ) → in-range z ≡ true → R z) → (p : Program) (t : Ty) (allowance room : ℕ) → HasType p t
+    → Fair R (program-owns p) → Good R [] t (run p allowance room)
+unfolding run program-owns
+run-good wide p t allowance room h m =
+    eval-good wide (final given (p .defs)) _
+    (λ f s e. find f s (tables (owns (p .main)) h m (λ g r k. k) (tabled-push fun-putchar tabled-none)) e) ACTIVE empty
+    (start allowance room) (main-typed h) (main-owned (p .defs) _ m) env-empty record { counted = refl; holds = holds-none }
 
 abbrev IsMoving : Outcome → Type 0
 IsMoving (value v s) = Unit {0}
 IsMoving (stop n i s) = Unit {0}
 IsMoving stuck = ⊥
 
-not-stuck : {Σ : List Ty} {t : Ty} {o : Outcome} → Good Σ t o → o ≡ stuck → ⊥
+not-stuck : {R : ℤ → Type 0} {Σ : List Ty} {t : Ty} {o : Outcome} → Good R Σ t o → o ≡ stuck → ⊥
 not-stuck (good-value g p q) e = subst IsMoving e tt
 not-stuck good-stop e = subst IsMoving e tt
 
-of-type : {Σ : List Ty} {t : Ty} {v : Value} {s : State} → Good Σ t (value v s) → (Σ′ : List Ty) × Fits Σ′ v t
-of-type (good-value {Σ′} g p q) = (Σ′, q)
-
 -- never stuck
 pub never-stuck : (p : Program) (t : Ty) (allowance room : ℕ) → HasType p t → run p allowance room ≡ stuck → ⊥
-never-stuck p t a r h e = not-stuck (run-good p t a r h) e
-
--- a value is of the program's type
-pub value-of-type : (p : Program) (t : Ty) (allowance room : ℕ) (v : Value) (s : State) → HasType p t → run p allowance room ≡ value v s
-    → (Σ : List Ty) × Fits Σ v t
-value-of-type p t a r v s h e = of-type (subst (Good [] t) e (run-good p t a r h))
+never-stuck p t a r h e = not-stuck (run-good {R = λ _. Unit {0}} (λ _ _. tt) p t a r h (everywhere _ λ _. tt)) e

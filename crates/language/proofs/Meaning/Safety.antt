@@ -4,238 +4,267 @@ use mathlib.Core.Bool.{Bool, true, false}
 use mathlib.Core.List.{List, [], _∷_, map}
 use mathlib.Core.Option.{Option, none, some}
 use Prim.Native.Nat.{ℕ, zero, suc}
+use native.Mathlib.Omega.{arith}
 use lib.IntN.{ℤ, pos, negsuc}
+use lib.Dec.{leb}
+use borrow.Author.Tests.{leb-true, le-leb}
+use Rattle.language.specs.Sizes.{BYTE}
 use Rattle.language.specs.Trees.{Name, Ty, int, bool, unit, ref, Unary, Binary, Exp, Exps, Param, Scope, empty, push, nearest}
 use Rattle.language.specs.Types.{Sig, UnopType, u-minus, u-not, u-fetch, u-new, BinopType, b-add, b-sub, b-mul, b-div, b-less, b-equal, b-and, b-or, b-assign, Typed, t-name, t-whole, t-truth, t-trivial, t-unary, t-binary, t-follow, t-group, t-block, t-call, t-bind, t-branch, t-loop, TypedAll, t-last, t-more, Takes, takes-none, takes-more}
-use Rattle.language.specs.State.{Stop, Value, flag, State, Outcome, value, stop, then, want-int, want-bool, want-unit, want-cell, want-one, choose, when-some}
-use Rattle.language.specs.Meaning.{Env, charge, begin, fit, literal-value, create, apply-unary, apply-binary, settles, emit, put, Fun, putchar, defined, enter, arguments, invoke, passes, step, eval}
+use Rattle.language.specs.State.{Stop, Value, flag, State, Outcome, value, stop, then, as-int, as-bool, as-unit, as-cell, choose, when-some, want, only}
+use Rattle.language.specs.Meaning.{Env, charge, begin, in-range, fit, literal-value, create, apply-unary, apply-binary, settles, emit, put, Fun, putchar, defined, enter, arguments, invoke, passes, step, eval}
+use Rattle.language.proofs.Grammar.OwnTokens.{Own, owns, all-owns, All, first, rest, front, back}
 use Rattle.language.proofs.Meaning.CellTypes.{none-some, some-one, Born, newest, Grows, stays, gains, grows-trans, Fits, fits-int, fits-bool, fits-unit, fits-ref, FitsAll, fits-none, fits-more, holds-live, EnvFits, env-empty, env-push, StateFits, keep-holds, store-holds, held-fits, env-find, fits-grows, env-grows, holds-grows}
 
 -- not stuck; a value is of the type t, under the cells born up to then
-pub data Good (Σ : List Ty) (t : Ty) : Outcome → Type 0 where
-  good-value : {Σ′ : List Ty} {v : Value} {s : State} → Grows Σ Σ′ → StateFits Σ′ s → Fits Σ′ v t → Good Σ t (value v s)
-  good-stop : {w : Stop} {i : ℕ} {s : State} → Good Σ t (stop w i s)
+pub data Good (R : ℤ → Type 0) (Σ : List Ty) (t : Ty) : Outcome → Type 0 where
+  good-value : {Σ′ : List Ty} {v : Value} {s : State} → Grows Σ Σ′ → StateFits R Σ′ s → Fits R Σ′ v t → Good R Σ t (value v s)
+  good-stop : {w : Stop} {i : ℕ} {s : State} → Good R Σ t (stop w i s)
 
-lift : {Σ Σ′ : List Ty} {t : Ty} {o : Outcome} → Grows Σ Σ′ → Good Σ′ t o → Good Σ t o
-lift g (good-value h p q) = good-value (grows-trans g h) p q
-lift g good-stop = good-stop
-
-good-then : {Σ : List Ty} {t u : Ty} {o : Outcome} (k : Value → State → Outcome) → Good Σ t o
-    → ((Σ′ : List Ty) (v : Value) (s : State) → Grows Σ Σ′ → StateFits Σ′ s → Fits Σ′ v t → Good Σ′ u (k v s)) → Good Σ u (then o k)
-unfolding then
-good-then k (good-value {Σ′} {v} {s} g p q) f = lift g (f Σ′ v s g p q)
-good-then k good-stop f = good-stop
-
-good-int : {Σ : List Ty} {u : Ty} {v : Value} (k : ℤ → Outcome) → Fits Σ v int → ((z : ℤ) → Good Σ u (k z)) → Good Σ u (want-int v k)
-unfolding want-int
-good-int k (fits-int {z}) f = f z
-
-good-bool : {Σ : List Ty} {u : Ty} {v : Value} (k : Bool → Outcome) → Fits Σ v bool → ((b : Bool) → v ≡ flag b → Good Σ u (k b)) → Good Σ u (want-bool v k)
-unfolding want-bool
-good-bool k (fits-bool {b}) f = f b refl
-
-good-unit : {Σ : List Ty} {u : Ty} {v : Value} (k : Unit {0} → Outcome) → Fits Σ v unit → Good Σ u (k tt) → Good Σ u (want-unit v k)
-unfolding want-unit
-good-unit k fits-unit f = f
-
-good-cell : {Σ : List Ty} {t u : Ty} {v : Value} (k : ℕ → Outcome) → Fits Σ v (ref t) → ((b : ℕ) → Born Σ b t → Good Σ u (k b)) → Good Σ u (want-cell v k)
-unfolding want-cell
-good-cell k (fits-ref {b} p) f = f b p
-
-good-choose : {Σ : List Ty} {u : Ty} (b : Bool) (x y : Unit {0} → Outcome) → (b ≡ true → Good Σ u (x tt)) → (b ≡ false → Good Σ u (y tt)) → Good Σ u (choose b x y)
-unfolding choose
-good-choose true x y f g = f refl
-good-choose false x y f g = g refl
-
-good-when : {A : Type 0} {Σ : List Ty} {u : Ty} (o : Option A) (f : A → Outcome) (x : Unit {0} → Outcome)
-    → ((a : A) → o ≡ some a → Good Σ u (f a)) → (o ≡ none → Good Σ u (x tt)) → Good Σ u (when-some o f x)
-unfolding when-some
-good-when none f x g h = h refl
-good-when (some a) f x g h = g a refl
-
-good-charge : {Σ : List Ty} {u : Ty} (n i : ℕ) (s : State) (k : State → Outcome) → StateFits Σ s
-    → ((s : State) → StateFits Σ s → Good Σ u (k s)) → Good Σ u (charge n i s k)
-unfolding charge
-good-charge zero i s k p f = good-stop
-good-charge (suc n) i s k p f = f _ record { counted = p .counted; holds = p .holds }
-
-good-begin : {Σ : List Ty} {u : Ty} (i : ℕ) (s : State) (k : State → Outcome) → StateFits Σ s
-    → ((s : State) → StateFits Σ s → Good Σ u (k s)) → Good Σ u (begin i s k)
-unfolding begin
-good-begin i s k p f = good-charge (s .units) i s k p f
-
-good-fit : {Σ : List Ty} (i : ℕ) (z : ℤ) (s : State) → StateFits Σ s → Good Σ int (fit i z s)
-unfolding fit
-good-fit i z s p = good-choose _ _ _ (λ _. good-value stays p fits-int) λ _. good-stop
-
-good-create : {Σ : List Ty} {t : Ty} (i : ℕ) (v : Value) (s : State) → StateFits Σ s → Fits Σ v t → Good Σ (ref t) (create i v s)
-unfolding create
-good-create i v s p q =
-    good-choose _ _ _
-    (λ _. let b = newest (ap suc (p .counted)) in
-    good-value (gains stays)
-    record { counted = ap suc (p .counted); holds = holds-live b (fits-grows (gains stays) q) (holds-grows (gains stays) (p .holds)) }
-    (fits-ref b))
-    λ _. good-stop
-
-unary-good : {Σ : List Ty} {o : Unary} {t u : Ty} (i : ℕ) (v : Value) (s : State)
-    → UnopType o t u → StateFits Σ s → Fits Σ v t → Good Σ u (apply-unary i o v s)
-unfolding apply-unary
-unary-good i v s u-minus p q = good-int _ q λ z. good-fit i _ s p
-unary-good i v s u-not p q = good-bool _ q λ b _. good-value stays p fits-bool
-unary-good {Σ} i v s (u-fetch {t}) p q =
-    good-cell _ q λ b r. good-when _ _ _ (λ w e. good-value stays p (held-fits Σ b t w (s .cells) r (p .holds) e)) λ _. good-stop
-unary-good i v s (u-new h) p q = good-create i v s p q
-
-binary-good : {Σ : List Ty} {o : Binary} {t u r : Ty} (i : ℕ) (v w : Value) (s : State)
-    → BinopType o t u r → StateFits Σ s → Fits Σ v t → Fits Σ w u → Good Σ r (apply-binary i o v w s)
-unfolding apply-binary
-binary-good i v w s b-add p q r = good-int _ q λ x. good-int _ r λ y. good-fit i _ s p
-binary-good i v w s b-sub p q r = good-int _ q λ x. good-int _ r λ y. good-fit i _ s p
-binary-good i v w s b-mul p q r = good-int _ q λ x. good-int _ r λ y. good-fit i _ s p
-binary-good i v w s b-div p q r = good-int _ q λ x. good-int _ r λ y. good-choose _ _ _ (λ _. good-stop) λ _. good-fit i _ s p
-binary-good i v w s b-less p q r = good-int _ q λ x. good-int _ r λ y. good-value stays p fits-bool
-binary-good i v w s b-equal p q r = good-int _ q λ x. good-int _ r λ y. good-value stays p fits-bool
-binary-good i v w s b-and p q r = good-bool _ q λ x _. good-bool _ r λ y _. good-value stays p fits-bool
-binary-good i v w s b-or p q r = good-bool _ q λ x _. good-bool _ r λ y _. good-value stays p fits-bool
-binary-good {Σ} i v w s (b-assign {t}) p q r =
-    good-cell _ q λ b m.
-    good-when _ _ _
-    (λ _ e. good-value stays record { counted = p .counted; holds = store-holds Σ b t w (s .cells) m r (p .holds) } fits-unit)
-    λ _. good-stop
-
-abbrev IsFalse : Bool → Type 0
-IsFalse false = Unit {0}
-IsFalse true = ⊥
-
-false-true : false ≡ true → ⊥
-false-true e = subst IsFalse e tt
-
--- where the left side settles it, its value is the result
-settled : {Σ : List Ty} {o : Binary} {t u r : Ty} {v : Value} → BinopType o t u r → settles o v ≡ true → Fits Σ v t → Fits Σ v r
-unfolding settles
-settled b-add e p = absurd (false-true e)
-settled b-sub e p = absurd (false-true e)
-settled b-mul e p = absurd (false-true e)
-settled b-div e p = absurd (false-true e)
-settled b-less e p = absurd (false-true e)
-settled b-equal e p = absurd (false-true e)
-settled b-and e p = p
-settled b-or e p = p
-settled b-assign e p = absurd (false-true e)
-
-good-emit : {Σ : List Ty} (r i n : ℕ) (s : State) → StateFits Σ s → Good Σ int (emit r i n s)
-unfolding emit
-good-emit zero i n s p = good-stop
-good-emit (suc r) i n s p = good-value stays record { counted = p .counted; holds = p .holds } fits-int
-
-good-put : {Σ : List Ty} (i : ℕ) (z : ℤ) (s : State) → StateFits Σ s → Good Σ int (put i z s)
-unfolding put
-good-put i (pos n) s p = good-choose _ _ _ (λ _. good-emit (s .room) i n s p) λ _. good-stop
-good-put i (negsuc n) s p = good-stop
-
-good-one : {Σ : List Ty} {t u : Ty} {vs : List Value} (k : Value → Outcome) → FitsAll Σ vs (t ∷ []) → ((v : Value) → Fits Σ v t → Good Σ u (k v)) → Good Σ u (want-one vs k)
-unfolding want-one
-good-one k (fits-more {v = v} p fits-none) f = f v p
-
-good-enter : {Σ : List Ty} {Γ Γ′ : Scope Ty} {ps : List Param} {u : Ty} (vs : List Value) (env : Env) (k : Env → Outcome)
-    → Takes Γ ps Γ′ → FitsAll Σ vs (map (λ (p : Param). p .type) ps) → EnvFits Σ env Γ
-    → ((env : Env) → EnvFits Σ env Γ′ → Good Σ u (k env)) → Good Σ u (enter ps vs env k)
-unfolding enter
-good-enter vs env k takes-none fits-none h f = f env h
-good-enter vs env k (takes-more a b c q) (fits-more {v = v} {vs = ws} p r) h f = good-enter ws (push _ v env) k q r (env-push p h) f
+-- all numbers that are written are what is asked
+abbrev pub Fair : (ℤ → Type 0) → List Own → Type 0
+Fair R os = All (λ o. R (pos (o .worth))) os
 
 -- g is a function of the kind that s tells
-pub data FunFits (Δ : Scope Sig) : Fun → Sig → Type 0 where
-  fun-putchar : FunFits Δ putchar record { takes = int ∷ []; gives = int }
+pub data FunFits (R : ℤ → Type 0) (Δ : Scope Sig) : Fun → Sig → Type 0 where
+  fun-putchar : FunFits R Δ putchar record { takes = int ∷ []; gives = int }
   fun-defined : {Γ : Scope Ty} {ps : List Param} {e : Exp} {ts : List Ty} {t : Ty}
-      → Takes empty ps Γ → ts ≡ map (λ (p : Param). p .type) ps → Typed Δ Γ e t
-      → FunFits Δ (defined ps e) record { takes = ts; gives = t }
+      → Takes empty ps Γ → ts ≡ map (λ (p : Param). p .type) ps → Typed Δ Γ e t → Fair R (owns e)
+      → FunFits R Δ (defined ps e) record { takes = ts; gives = t }
 
-abbrev pub Ready : Scope Sig → Scope Fun → Type 0
-Ready Δ fs = (f : Name) (s : Sig) → nearest f Δ ≡ some s → (g : Fun) × (nearest f fs ≡ some g) × FunFits Δ g s
+abbrev pub Ready : (ℤ → Type 0) → Scope Sig → Scope Fun → Type 0
+Ready R Δ fs = (f : Name) (s : Sig) → nearest f Δ ≡ some s → (g : Fun) × (nearest f fs ≡ some g) × FunFits R Δ g s
 
-record Safe (Δ : Scope Sig) (go : Exp → Env → State → Outcome) : Type 0 where
+record Safe (R : ℤ → Type 0) (Δ : Scope Sig) (go : Exp → Env → State → Outcome) : Type 0 where
   at : {Σ : List Ty} {Γ : Scope Ty} {e : Exp} {t : Ty} (env : Env) (s : State)
-      → Typed Δ Γ e t → EnvFits Σ env Γ → StateFits Σ s → Good Σ t (go e env s)
+      → Typed Δ Γ e t → Fair R (owns e) → EnvFits R Σ env Γ → StateFits R Σ s → Good R Σ t (go e env s)
 
-module _ (Δ : Scope Sig) (fs : Scope Fun) (ready : Ready Δ fs) (go : Exp → Env → State → Outcome) (all : Safe Δ go) where
-  safe : {Σ : List Ty} {Γ : Scope Ty} {e : Exp} {t : Ty} (env : Env) (s : State)
-      → Typed Δ Γ e t → EnvFits Σ env Γ → StateFits Σ s → Good Σ t (go e env s)
-  safe env s a h p = all .at env s a h p
+-- every int within the range is what is asked
+module _ {R : ℤ → Type 0} (wide : (z : ℤ) → in-range z ≡ true → R z) where
+  lift : {Σ Σ′ : List Ty} {t : Ty} {o : Outcome} → Grows Σ Σ′ → Good R Σ′ t o → Good R Σ t o
+  lift g (good-value h p q) = good-value (grows-trans g h) p q
+  lift g good-stop = good-stop
 
-  arguments-good : {Σ : List Ty} {Γ : Scope Ty} {es : Exps} {ts : List Ty} {u : Ty} (env : Env) (s : State) (k : List Value → State → Outcome)
-      → TypedAll Δ Γ es ts → EnvFits Σ env Γ → StateFits Σ s
-      → ((Σ′ : List Ty) (vs : List Value) (s : State) → Grows Σ Σ′ → StateFits Σ′ s → FitsAll Σ′ vs ts → Good Σ′ u (k vs s))
-      → Good Σ u (arguments fs go es env s k)
-  unfolding arguments
-  arguments-good env s k t-last h p f = f _ [] s stays p fits-none
-  arguments-good env s k (t-more a b) h p f =
-      good-then _ (safe env s a h p) λ Σ₁ v s₁ g₁ p₁ q₁.
-      arguments-good env s₁ _ b (env-grows g₁ h) p₁ λ Σ₂ vs s₂ g₂ p₂ q₂.
-      f Σ₂ (v ∷ vs) s₂ (grows-trans g₁ g₂) p₂ (fits-more (fits-grows g₂ q₁) q₂)
+  good-then : {Σ : List Ty} {t u : Ty} {o : Outcome} (k : Value → State → Outcome) → Good R Σ t o
+      → ((Σ′ : List Ty) (v : Value) (s : State) → Grows Σ Σ′ → StateFits R Σ′ s → Fits R Σ′ v t → Good R Σ′ u (k v s)) → Good R Σ u (then o k)
+  unfolding then
+  good-then k (good-value {Σ′} {v} {s} g p q) f = lift g (f Σ′ v s g p q)
+  good-then k good-stop f = good-stop
 
-  invoke-good : {Σ : List Ty} {g : Fun} {s : Sig} (i : ℕ) (vs : List Value) (st : State)
-      → FunFits Δ g s → FitsAll Σ vs (s .takes) → StateFits Σ st → Good Σ (s .gives) (invoke fs go i g vs st)
-  unfolding invoke
-  invoke-good i vs st fun-putchar q p = good-one _ q λ v r. good-int _ r λ z. good-put i z st p
-  invoke-good {Σ} i vs st (fun-defined a b c) q p =
-      good-enter vs empty _ a (subst (FitsAll Σ vs) b q) env-empty λ env h. safe env st c h p
+  good-int : {Σ : List Ty} {u : Ty} {v : Value} (k : ℤ → Outcome) → Fits R Σ v int → ((z : ℤ) → Good R Σ u (k z)) → Good R Σ u (want (as-int v) k)
+  unfolding when-some
+  good-int k (fits-int {z} r) f = f z
 
-  passes-good : {Σ : List Ty} {Γ : Scope Ty} {c e : Exp} (n : ℕ) (env : Env) (s : State)
-      → Typed Δ Γ c bool → Typed Δ Γ e unit → EnvFits Σ env Γ → StateFits Σ s → Good Σ unit (passes fs go n c e env s)
-  unfolding passes
-  passes-good zero env s a b h p = good-stop
-  passes-good (suc n) env s a b h p =
-      good-then _ (safe env s a h p) λ Σ₁ v s₁ g₁ p₁ q₁.
-      good-bool _ q₁ λ x _.
+  good-bool : {Σ : List Ty} {u : Ty} {v : Value} (k : Bool → Outcome) → Fits R Σ v bool
+      → ((b : Bool) → v ≡ flag b → Good R Σ u (k b)) → Good R Σ u (want (as-bool v) k)
+  unfolding when-some
+  good-bool k (fits-bool {b}) f = f b refl
+
+  good-unit : {Σ : List Ty} {u : Ty} {v : Value} (k : Unit {0} → Outcome) → Fits R Σ v unit → Good R Σ u (k tt) → Good R Σ u (want (as-unit v) k)
+  unfolding when-some
+  good-unit k fits-unit f = f
+
+  good-cell : {Σ : List Ty} {t u : Ty} {v : Value} (k : ℕ → Outcome) → Fits R Σ v (ref t)
+      → ((b : ℕ) → Born Σ b t → Good R Σ u (k b)) → Good R Σ u (want (as-cell v) k)
+  unfolding when-some
+  good-cell k (fits-ref {b} p) f = f b p
+
+  good-choose : {Σ : List Ty} {u : Ty} (b : Bool) (x y : Unit {0} → Outcome) → (b ≡ true → Good R Σ u (x tt))
+      → (b ≡ false → Good R Σ u (y tt)) → Good R Σ u (choose b x y)
+  unfolding choose
+  good-choose true x y f g = f refl
+  good-choose false x y f g = g refl
+
+  good-when : {A : Type 0} {Σ : List Ty} {u : Ty} (o : Option A) (f : A → Outcome) (x : Unit {0} → Outcome)
+      → ((a : A) → o ≡ some a → Good R Σ u (f a)) → (o ≡ none → Good R Σ u (x tt)) → Good R Σ u (when-some o f x)
+  unfolding when-some
+  good-when none f x g h = h refl
+  good-when (some a) f x g h = g a refl
+
+  good-charge : {Σ : List Ty} {u : Ty} (n i : ℕ) (s : State) (k : State → Outcome) → StateFits R Σ s
+      → ((s : State) → StateFits R Σ s → Good R Σ u (k s)) → Good R Σ u (charge n i s k)
+  unfolding charge
+  good-charge zero i s k p f = good-stop
+  good-charge (suc n) i s k p f = f _ record { counted = p .counted; holds = p .holds }
+
+  good-begin : {Σ : List Ty} {u : Ty} (i : ℕ) (s : State) (k : State → Outcome) → StateFits R Σ s
+      → ((s : State) → StateFits R Σ s → Good R Σ u (k s)) → Good R Σ u (begin i s k)
+  unfolding begin
+  good-begin i s k p f = good-charge (s .units) i s k p f
+
+  good-fit : {Σ : List Ty} (i : ℕ) (z : ℤ) (s : State) → StateFits R Σ s → Good R Σ int (fit i z s)
+  unfolding fit
+  good-fit i z s p = good-choose _ _ _ (λ e. good-value stays p (fits-int (wide z e))) λ _. good-stop
+
+  good-create : {Σ : List Ty} {t : Ty} (i : ℕ) (v : Value) (s : State) → StateFits R Σ s → Fits R Σ v t → Good R Σ (ref t) (create i v s)
+  unfolding create
+  good-create i v s p q =
       good-choose _ _ _
-      (λ _.
-      good-then _ (safe env s₁ b (env-grows g₁ h) p₁) λ Σ₂ w s₂ g₂ p₂ q₂.
-      good-unit _ q₂ (passes-good n env s₂ a b (env-grows (grows-trans g₁ g₂) h) p₂))
-      λ _. good-value stays p₁ fits-unit
+      (λ _. let b = newest (ap suc (p .counted)) in
+      good-value (gains stays)
+      record { counted = ap suc (p .counted); holds = holds-live b (fits-grows (gains stays) q) (holds-grows (gains stays) (p .holds)) }
+      (fits-ref b))
+      λ _. good-stop
 
-  step-good : {Σ : List Ty} {Γ : Scope Ty} {e : Exp} {t : Ty} (env : Env) (s : State)
-      → Typed Δ Γ e t → EnvFits Σ env Γ → StateFits Σ s → Good Σ t (step fs go e env s)
-  unfolding step literal-value
-  step-good {Σ} env s (t-name {x = x} {t = t} e) h p =
-      let f = env-find Σ x t h e in
-      good-when _ _ _ (λ v d. good-value stays p (subst (λ w. Fits Σ w t) (some-one (sym (f .1) ∙ d)) (f .2))) λ d. absurd (none-some (sym d ∙ f .1))
-  step-good env s t-whole h p = good-value stays p fits-int
-  step-good env s t-truth h p = good-value stays p fits-bool
-  step-good env s t-trivial h p = good-value stays p fits-unit
-  step-good env s (t-unary {i = i} a b) h p = good-then _ (safe env s a h p) λ Σ₁ v s₁ g₁ p₁ q₁. unary-good i v s₁ b p₁ q₁
-  step-good env s (t-binary {i = i} a b c) h p =
-      good-then _ (safe env s a h p) λ Σ₁ v s₁ g₁ p₁ q₁.
-      good-choose _ _ _ (λ d. good-value stays p₁ (settled c d q₁)) λ _.
-      good-then _ (safe env s₁ b (env-grows g₁ h) p₁) λ Σ₂ w s₂ g₂ p₂ q₂.
-      binary-good i v w s₂ c p₂ (fits-grows g₂ q₁) q₂
-  step-good env s (t-follow a b) h p =
-      good-then _ (safe env s a h p) λ Σ₁ v s₁ g₁ p₁ q₁. good-unit _ q₁ (safe env s₁ b (env-grows g₁ h) p₁)
-  step-good env s (t-group a) h p = safe env s a h p
-  step-good env s (t-block a) h p =
-      good-then _ (safe env s a h p) λ Σ₁ v s₁ g₁ p₁ q₁.
-      good-value stays record { counted = p₁ .counted; holds = keep-holds Σ₁ _ (s₁ .cells) (p₁ .holds) } q₁
-  step-good env s (t-call {i = i} {f = f} {ts = ts} {t = t} a e) h p =
-      let r = ready f record { takes = ts; gives = t } e in
-      arguments-good env s _ a h p λ Σ₁ vs s₁ g₁ p₁ q₁.
-      good-when _ _ _ (λ g d. invoke-good i vs s₁ (subst (λ x. FunFits Δ x record { takes = ts; gives = t }) (some-one (sym (r .1) ∙ d)) (r .2)) q₁ p₁) λ d. absurd (none-some (sym d ∙ r .1))
-  step-good env s (t-bind a b) h p =
-      good-then _ (safe env s a h p) λ Σ₁ v s₁ g₁ p₁ q₁. safe (push _ v env) s₁ b (env-push q₁ (env-grows g₁ h)) p₁
-  step-good env s (t-branch a b c) h p =
-      good-then _ (safe env s a h p) λ Σ₁ v s₁ g₁ p₁ q₁.
-      good-bool _ q₁ λ x _.
-      good-choose _ _ _ (λ _. safe env s₁ b (env-grows g₁ h) p₁) λ _. safe env s₁ c (env-grows g₁ h) p₁
-  step-good env s (t-loop a b) h p = passes-good (s .units) env s a b h p
+  unary-good : {Σ : List Ty} {o : Unary} {t u : Ty} (i : ℕ) (v : Value) (s : State)
+      → UnopType o t u → StateFits R Σ s → Fits R Σ v t → Good R Σ u (apply-unary i o v s)
+  unfolding apply-unary
+  unary-good i v s u-minus p q = good-int _ q λ z. good-fit i _ s p
+  unary-good i v s u-not p q = good-bool _ q λ b _. good-value stays p fits-bool
+  unary-good {Σ} i v s (u-fetch {t}) p q =
+      good-cell _ q λ b r. good-when _ _ _ (λ w e. good-value stays p (held-fits Σ b t w (s .cells) r (p .holds) e)) λ _. good-stop
+  unary-good i v s (u-new h) p q = good-create i v s p q
 
-module _ (Δ : Scope Sig) (fs : Scope Fun) (ready : Ready Δ fs) where
-  safe-at : (d : ℕ) → Safe Δ (eval fs d)
-  unfolding eval
-  safe-at zero = record { at = λ env s a h p. good-begin _ s _ p λ s₁ p₁. good-stop }
-  safe-at (suc d) =
-      let ih = safe-at d in
-      record { at = λ env s a h p. good-begin _ s _ p λ s₁ p₁. step-good Δ fs ready (eval fs d) ih env s₁ a h p₁ }
+  binary-good : {Σ : List Ty} {o : Binary} {t u r : Ty} (i : ℕ) (v w : Value) (s : State)
+      → BinopType o t u r → StateFits R Σ s → Fits R Σ v t → Fits R Σ w u → Good R Σ r (apply-binary i o v w s)
+  unfolding apply-binary
+  binary-good i v w s b-add p q r = good-int _ q λ x. good-int _ r λ y. good-fit i _ s p
+  binary-good i v w s b-sub p q r = good-int _ q λ x. good-int _ r λ y. good-fit i _ s p
+  binary-good i v w s b-mul p q r = good-int _ q λ x. good-int _ r λ y. good-fit i _ s p
+  binary-good i v w s b-div p q r = good-int _ q λ x. good-int _ r λ y. good-choose _ _ _ (λ _. good-stop) λ _. good-fit i _ s p
+  binary-good i v w s b-less p q r = good-int _ q λ x. good-int _ r λ y. good-value stays p fits-bool
+  binary-good i v w s b-equal p q r = good-int _ q λ x. good-int _ r λ y. good-value stays p fits-bool
+  binary-good i v w s b-and p q r = good-bool _ q λ x _. good-bool _ r λ y _. good-value stays p fits-bool
+  binary-good i v w s b-or p q r = good-bool _ q λ x _. good-bool _ r λ y _. good-value stays p fits-bool
+  binary-good {Σ} i v w s (b-assign {t}) p q r =
+      good-cell _ q λ b m.
+      good-when _ _ _
+      (λ _ e. good-value stays record { counted = p .counted; holds = store-holds Σ b t w (s .cells) m r (p .holds) } fits-unit)
+      λ _. good-stop
 
-  pub eval-good : {Σ : List Ty} {Γ : Scope Ty} {e : Exp} {t : Ty} (d : ℕ) (env : Env) (s : State)
-      → Typed Δ Γ e t → EnvFits Σ env Γ → StateFits Σ s → Good Σ t (eval fs d e env s)
-  eval-good d env s a h p = (safe-at d) .at env s a h p
+  abbrev IsFalse : Bool → Type 0
+  IsFalse false = Unit {0}
+  IsFalse true = ⊥
+
+  false-true : false ≡ true → ⊥
+  false-true e = subst IsFalse e tt
+
+  -- where the left side settles it, its value is the result
+  settled : {Σ : List Ty} {o : Binary} {t u r : Ty} {v : Value} → BinopType o t u r → settles o v ≡ true → Fits R Σ v t → Fits R Σ v r
+  unfolding settles
+  settled b-add e p = absurd (false-true e)
+  settled b-sub e p = absurd (false-true e)
+  settled b-mul e p = absurd (false-true e)
+  settled b-div e p = absurd (false-true e)
+  settled b-less e p = absurd (false-true e)
+  settled b-equal e p = absurd (false-true e)
+  settled b-and e p = p
+  settled b-or e p = p
+  settled b-assign e p = absurd (false-true e)
+
+  good-emit : {Σ : List Ty} (r i n : ℕ) (s : State) → R (pos n) → StateFits R Σ s → Good R Σ int (emit r i n s)
+  unfolding emit
+  good-emit zero i n s q p = good-stop
+  good-emit (suc r) i n s q p = good-value stays record { counted = p .counted; holds = p .holds } (fits-int q)
+
+  -- a byte is in the range
+  byte-wide : (n : ℕ) → leb n BYTE ≡ true → R (pos n)
+  unfolding in-range
+  byte-wide n e = wide (pos n) (le-leb n _ (omega (arith, leb-true n BYTE e)))
+
+  good-put : {Σ : List Ty} (i : ℕ) (z : ℤ) (s : State) → StateFits R Σ s → Good R Σ int (put i z s)
+  unfolding put
+  good-put i (pos n) s p = good-choose _ _ _ (λ e. good-emit (s .room) i n s (byte-wide n e) p) λ _. good-stop
+  good-put i (negsuc n) s p = good-stop
+
+  good-one : {Σ : List Ty} {t u : Ty} {vs : List Value} (k : Value → Outcome) → FitsAll R Σ vs (t ∷ [])
+      → ((v : Value) → Fits R Σ v t → Good R Σ u (k v)) → Good R Σ u (want (only vs) k)
+  unfolding when-some only
+  good-one k (fits-more {v = v} p fits-none) f = f v p
+
+  good-enter : {Σ : List Ty} {Γ Γ′ : Scope Ty} {ps : List Param} {u : Ty} (vs : List Value) (env : Env) (k : Env → Outcome)
+      → Takes Γ ps Γ′ → FitsAll R Σ vs (map (λ (p : Param). p .type) ps) → EnvFits R Σ env Γ
+      → ((env : Env) → EnvFits R Σ env Γ′ → Good R Σ u (k env)) → Good R Σ u (enter ps vs env k)
+  unfolding enter
+  good-enter vs env k takes-none fits-none h f = f env h
+  good-enter vs env k (takes-more a b c q) (fits-more {v = v} {vs = ws} p r) h f = good-enter ws (push _ v env) k q r (env-push p h) f
+
+  module _ (Δ : Scope Sig) (fs : Scope Fun) (ready : Ready R Δ fs) (go : Exp → Env → State → Outcome) (all : Safe R Δ go) where
+    safe : {Σ : List Ty} {Γ : Scope Ty} {e : Exp} {t : Ty} (env : Env) (s : State)
+        → Typed Δ Γ e t → Fair R (owns e) → EnvFits R Σ env Γ → StateFits R Σ s → Good R Σ t (go e env s)
+    safe env s a m h p = all .at env s a m h p
+
+    arguments-good : {Σ : List Ty} {Γ : Scope Ty} {es : Exps} {ts : List Ty} {u : Ty} (env : Env) (s : State)
+        (k : List Value → State → Outcome) → TypedAll Δ Γ es ts → Fair R (all-owns es) → EnvFits R Σ env Γ → StateFits R Σ s
+        → ((Σ′ : List Ty) (vs : List Value) (s : State) → Grows Σ Σ′ → StateFits R Σ′ s → FitsAll R Σ′ vs ts → Good R Σ′ u (k vs s))
+        → Good R Σ u (arguments fs go es env s k)
+    unfolding arguments owns
+    arguments-good env s k t-last m h p f = f _ [] s stays p fits-none
+    arguments-good env s k (t-more {e = e} a b) m h p f =
+        good-then _ (safe env s a (front (owns e) _ m) h p) λ Σ₁ v s₁ g₁ p₁ q₁.
+        arguments-good env s₁ _ b (back (owns e) _ m) (env-grows g₁ h) p₁ λ Σ₂ vs s₂ g₂ p₂ q₂.
+        f Σ₂ (v ∷ vs) s₂ (grows-trans g₁ g₂) p₂ (fits-more (fits-grows g₂ q₁) q₂)
+
+    invoke-good : {Σ : List Ty} {g : Fun} {s : Sig} (i : ℕ) (vs : List Value) (st : State)
+        → FunFits R Δ g s → FitsAll R Σ vs (s .takes) → StateFits R Σ st → Good R Σ (s .gives) (invoke fs go i g vs st)
+    unfolding invoke
+    invoke-good i vs st fun-putchar q p = good-one _ q λ v r. good-int _ r λ z. good-put i z st p
+    invoke-good {Σ} i vs st (fun-defined a b c m) q p =
+        good-enter vs empty _ a (subst (FitsAll R Σ vs) b q) env-empty λ env h. safe env st c m h p
+
+    passes-good : {Σ : List Ty} {Γ : Scope Ty} {c e : Exp} (n : ℕ) (env : Env) (s : State) → Typed Δ Γ c bool → Fair R (owns c)
+        → Typed Δ Γ e unit → Fair R (owns e) → EnvFits R Σ env Γ → StateFits R Σ s → Good R Σ unit (passes fs go n c e env s)
+    unfolding passes
+    passes-good zero env s a m b k h p = good-stop
+    passes-good (suc n) env s a m b k h p =
+        good-then _ (safe env s a m h p) λ Σ₁ v s₁ g₁ p₁ q₁.
+        good-bool _ q₁ λ x _.
+        good-choose _ _ _
+        (λ _.
+        good-then _ (safe env s₁ b k (env-grows g₁ h) p₁) λ Σ₂ w s₂ g₂ p₂ q₂.
+        good-unit _ q₂ (passes-good n env s₂ a m b k (env-grows (grows-trans g₁ g₂) h) p₂))
+        λ _. good-value stays p₁ fits-unit
+
+    step-good : {Σ : List Ty} {Γ : Scope Ty} {e : Exp} {t : Ty} (env : Env) (s : State)
+        → Typed Δ Γ e t → Fair R (owns e) → EnvFits R Σ env Γ → StateFits R Σ s → Good R Σ t (step fs go e env s)
+    unfolding step literal-value owns
+    step-good {Σ} env s (t-name {x = x} {t = t} e) m h p =
+        let f = env-find Σ x t h e in
+        good-when _ _ _ (λ v d. good-value stays p (subst (λ w. Fits R Σ w t) (some-one (sym (f .1) ∙ d)) (f .2)))
+        λ d. absurd (none-some (sym d ∙ f .1))
+    step-good env s t-whole m h p = good-value stays p (fits-int (first m))
+    step-good env s t-truth m h p = good-value stays p fits-bool
+    step-good env s t-trivial m h p = good-value stays p fits-unit
+    step-good env s (t-unary {i = i} a b) m h p =
+        good-then _ (safe env s a (rest m) h p) λ Σ₁ v s₁ g₁ p₁ q₁. unary-good i v s₁ b p₁ q₁
+    step-good env s (t-binary {i = i} {e = e} a b c) m h p =
+        good-then _ (safe env s a (front (owns e) _ m) h p) λ Σ₁ v s₁ g₁ p₁ q₁.
+        good-choose _ _ _ (λ d. good-value stays p₁ (settled c d q₁)) λ _.
+        good-then _ (safe env s₁ b (rest (back (owns e) _ m)) (env-grows g₁ h) p₁) λ Σ₂ w s₂ g₂ p₂ q₂.
+        binary-good i v w s₂ c p₂ (fits-grows g₂ q₁) q₂
+    step-good env s (t-follow {e = e} a b) m h p =
+        good-then _ (safe env s a (front (owns e) _ m) h p) λ Σ₁ v s₁ g₁ p₁ q₁.
+        good-unit _ q₁ (safe env s₁ b (rest (back (owns e) _ m)) (env-grows g₁ h) p₁)
+    step-good env s (t-group a) m h p = safe env s a (rest m) h p
+    step-good env s (t-block a) m h p =
+        good-then _ (safe env s a (rest m) h p) λ Σ₁ v s₁ g₁ p₁ q₁.
+        good-value stays record { counted = p₁ .counted; holds = keep-holds Σ₁ _ (s₁ .cells) (p₁ .holds) } q₁
+    step-good env s (t-call {i = i} {f = f} {ts = ts} {t = t} a e) m h p =
+        let r = ready f record { takes = ts; gives = t } e in
+        let fits : (g : Fun) → nearest f fs ≡ some g → FunFits R Δ g record { takes = ts; gives = t } =
+        λ g d. subst (λ x. FunFits R Δ x record { takes = ts; gives = t }) (some-one (sym (r .1) ∙ d)) (r .2) in
+        arguments-good env s _ a (rest m) h p λ Σ₁ vs s₁ g₁ p₁ q₁.
+        good-when _ _ _ (λ g d. invoke-good i vs s₁ (fits g d) q₁ p₁) λ d. absurd (none-some (sym d ∙ r .1))
+    step-good env s (t-bind {e = e} a b) m h p =
+        good-then _ (safe env s a (front (owns e) _ (rest m)) h p) λ Σ₁ v s₁ g₁ p₁ q₁.
+        safe (push _ v env) s₁ b (back (owns e) _ (rest m)) (env-push q₁ (env-grows g₁ h)) p₁
+    step-good env s (t-branch {c = c} {e = e} a b d) m h p =
+        let n = back (owns c) _ (rest m) in
+        good-then _ (safe env s a (front (owns c) _ (rest m)) h p) λ Σ₁ v s₁ g₁ p₁ q₁.
+        good-bool _ q₁ λ x _.
+        good-choose _ _ _ (λ _. safe env s₁ b (front (owns e) _ n) (env-grows g₁ h) p₁) λ _.
+        safe env s₁ d (back (owns e) _ n) (env-grows g₁ h) p₁
+    step-good env s (t-loop {c = c} a b) m h p =
+        passes-good (s .units) env s a (front (owns c) _ (rest m)) b (back (owns c) _ (rest m)) h p
+
+  module _ (Δ : Scope Sig) (fs : Scope Fun) (ready : Ready R Δ fs) where
+    safe-at : (d : ℕ) → Safe R Δ (eval fs d)
+    unfolding eval
+    safe-at zero = record { at = λ env s a m h p. good-begin _ s _ p λ s₁ p₁. good-stop }
+    safe-at (suc d) =
+        let ih = safe-at d in
+        record { at = λ env s a m h p. good-begin _ s _ p λ s₁ p₁. step-good Δ fs ready (eval fs d) ih env s₁ a m h p₁ }
+
+    pub eval-good : {Σ : List Ty} {Γ : Scope Ty} {e : Exp} {t : Ty} (d : ℕ) (env : Env) (s : State)
+        → Typed Δ Γ e t → Fair R (owns e) → EnvFits R Σ env Γ → StateFits R Σ s → Good R Σ t (eval fs d e env s)
+    eval-good d env s a m h p = (safe-at d) .at env s a m h p

@@ -8,7 +8,7 @@ use native.Mathlib.Omega.{arith}
 use lib.IntN.{ℤ, pos, negsuc}
 use Rattle.language.specs.Sizes.{ACTIVE}
 use Rattle.language.specs.Trees.{Unary, minus, not, fetch, new, Binary, add, sub, mul, div, less, equal, and, or, assign, Exp, name, literal, unary, binary, follow, group, block, call, bind, branch, loop, Exps, last, more, own, Param, Program, Scope, empty, push}
-use Rattle.language.specs.State.{Stop, no-unit, Value, number, flag, nothing, cell, State, Outcome, value, stop, stuck, then, want-int, want-bool, want-unit, want-cell, want-one, choose, when-some}
+use Rattle.language.specs.State.{Stop, no-unit, Value, nothing, State, Outcome, value, stop, stuck, then, as-bool, as-unit, choose, when-some, want}
 use Rattle.language.specs.Meaning.{Env, charge, begin, fit, create, apply-unary, apply-binary, emit, put, Fun, putchar, defined, enter, arguments, invoke, passes, step, eval, run, start}
 
 -- at most u units are left, and with the births they make at most w
@@ -36,49 +36,19 @@ module _ {u w : ℕ} where
   spent-then f (spent-stop h) g = spent-stop h
   spent-then f spent-stuck g = spent-stuck
 
-  spent-int : (v : Value) (f : ℤ → Outcome) → ((z : ℤ) → Spent u w (f z)) → Spent u w (want-int v f)
-  unfolding want-int
-  spent-int (number z) f h = h z
-  spent-int (flag b) f h = spent-stuck
-  spent-int nothing f h = spent-stuck
-  spent-int (cell b) f h = spent-stuck
-
-  spent-bool : (v : Value) (f : Bool → Outcome) → ((z : Bool) → Spent u w (f z)) → Spent u w (want-bool v f)
-  unfolding want-bool
-  spent-bool (number z) f h = spent-stuck
-  spent-bool (flag b) f h = h b
-  spent-bool nothing f h = spent-stuck
-  spent-bool (cell b) f h = spent-stuck
-
-  spent-unit : (v : Value) (f : Unit {0} → Outcome) → Spent u w (f tt) → Spent u w (want-unit v f)
-  unfolding want-unit
-  spent-unit (number z) f h = spent-stuck
-  spent-unit (flag b) f h = spent-stuck
-  spent-unit nothing f h = h
-  spent-unit (cell b) f h = spent-stuck
-
-  spent-cell : (v : Value) (f : ℕ → Outcome) → ((z : ℕ) → Spent u w (f z)) → Spent u w (want-cell v f)
-  unfolding want-cell
-  spent-cell (number z) f h = spent-stuck
-  spent-cell (flag b) f h = spent-stuck
-  spent-cell nothing f h = spent-stuck
-  spent-cell (cell b) f h = h b
-
-  spent-one : (vs : List Value) (f : Value → Outcome) → ((v : Value) → Spent u w (f v)) → Spent u w (want-one vs f)
-  unfolding want-one
-  spent-one [] f h = spent-stuck
-  spent-one (v ∷ []) f h = h v
-  spent-one (v ∷ x ∷ vs) f h = spent-stuck
-
   spent-choose : (b : Bool) (x y : Unit {0} → Outcome) → Spent u w (x tt) → Spent u w (y tt) → Spent u w (choose b x y)
   unfolding choose
   spent-choose true x y f g = f
   spent-choose false x y f g = g
 
-  spent-when : {A : Type 0} (o : Option A) (f : A → Outcome) (x : Unit {0} → Outcome) → ((a : A) → Spent u w (f a)) → Spent u w (x tt) → Spent u w (when-some o f x)
+  spent-when : {A : Type 0} (o : Option A) (f : A → Outcome) (x : Unit {0} → Outcome) → ((a : A) → Spent u w (f a))
+      → Spent u w (x tt) → Spent u w (when-some o f x)
   unfolding when-some
   spent-when none f x h p = p
   spent-when (some a) f x h p = h a
+
+  spent-want : {A : Type 0} (o : Option A) (f : A → Outcome) → ((a : A) → Spent u w (f a)) → Spent u w (want o f)
+  spent-want o f h = spent-when o f _ h spent-stuck
 
   spent-fit : (i : ℕ) (z : ℤ) (s : State) → Within u w s → Spent u w (fit i z s)
   unfolding fit
@@ -86,16 +56,16 @@ module _ {u w : ℕ} where
 
   spent-binary : (i : ℕ) (o : Binary) (v x : Value) (s : State) → Within u w s → Spent u w (apply-binary i o v x s)
   unfolding apply-binary
-  spent-binary i add v x s h = spent-int v _ λ _. spent-int x _ λ _. spent-fit i _ s h
-  spent-binary i sub v x s h = spent-int v _ λ _. spent-int x _ λ _. spent-fit i _ s h
-  spent-binary i mul v x s h = spent-int v _ λ _. spent-int x _ λ _. spent-fit i _ s h
-  spent-binary i div v x s h = spent-int v _ λ _. spent-int x _ λ _. spent-choose _ _ _ (spent-stop h) (spent-fit i _ s h)
-  spent-binary i less v x s h = spent-int v _ λ _. spent-int x _ λ _. spent-value h
-  spent-binary i equal v x s h = spent-int v _ λ _. spent-int x _ λ _. spent-value h
-  spent-binary i and v x s h = spent-bool v _ λ _. spent-bool x _ λ _. spent-value h
-  spent-binary i or v x s h = spent-bool v _ λ _. spent-bool x _ λ _. spent-value h
+  spent-binary i add v x s h = spent-want _ _ λ _. spent-want _ _ λ _. spent-fit i _ s h
+  spent-binary i sub v x s h = spent-want _ _ λ _. spent-want _ _ λ _. spent-fit i _ s h
+  spent-binary i mul v x s h = spent-want _ _ λ _. spent-want _ _ λ _. spent-fit i _ s h
+  spent-binary i div v x s h = spent-want _ _ λ _. spent-want _ _ λ _. spent-choose _ _ _ (spent-stop h) (spent-fit i _ s h)
+  spent-binary i less v x s h = spent-want _ _ λ _. spent-want _ _ λ _. spent-value h
+  spent-binary i equal v x s h = spent-want _ _ λ _. spent-want _ _ λ _. spent-value h
+  spent-binary i and v x s h = spent-want _ _ λ _. spent-want _ _ λ _. spent-value h
+  spent-binary i or v x s h = spent-want _ _ λ _. spent-want _ _ λ _. spent-value h
   spent-binary i assign v x s h =
-      spent-cell v _ λ _. spent-when _ _ _ (λ _. spent-value record { few = h .few; sum = h .sum }) (spent-stop h)
+      spent-want _ _ λ _. spent-when _ _ _ (λ _. spent-value record { few = h .few; sum = h .sum }) (spent-stop h)
 
   spent-emit : (r i n : ℕ) (s : State) → Within u w s → Spent u w (emit r i n s)
   unfolding emit
@@ -117,10 +87,10 @@ module _ {u w : ℕ} where
 -- only `ref` adds a birth, for the unit that its node used
 spent-unary : {u w : ℕ} (i : ℕ) (o : Unary) (v : Value) (s : State) → Within u w s → Spent u (w + 1) (apply-unary i o v s)
 unfolding apply-unary create
-spent-unary {u} {w} i minus v s h = spent-int v _ λ _. spent-fit i _ s (wider (omega arith) (omega arith) h)
-spent-unary i not v s h = spent-bool v _ λ _. spent-value (wider (omega arith) (omega arith) h)
+spent-unary {u} {w} i minus v s h = spent-want _ _ λ _. spent-fit i _ s (wider (omega arith) (omega arith) h)
+spent-unary i not v s h = spent-want _ _ λ _. spent-value (wider (omega arith) (omega arith) h)
 spent-unary i fetch v s h =
-    spent-cell v _ λ _. spent-when _ _ _ (λ _. spent-value (wider (omega arith) (omega arith) h)) (spent-stop (wider (omega arith) (omega arith) h))
+    spent-want _ _ λ _. spent-when _ _ _ (λ _. spent-value (wider (omega arith) (omega arith) h)) (spent-stop (wider (omega arith) (omega arith) h))
 spent-unary i new v s h =
     spent-choose _ _ _ (spent-value record { few = h .few; sum = omega (arith, h .sum) }) (spent-stop (wider (omega arith) (omega arith) h))
 
@@ -152,35 +122,36 @@ module _ (fs : Scope Fun) (go : Node) (ih : Spends go) where
 
     spent-invoke : (i : ℕ) (g : Fun) (vs : List Value) (s : State) → Within u w s → Spent u w (invoke fs go i g vs s)
     unfolding invoke
-    spent-invoke i putchar vs s h = spent-one vs _ λ v. spent-int v _ λ z. spent-put i z s h
+    spent-invoke i putchar vs s h = spent-want _ _ λ v. spent-want _ _ λ z. spent-put i z s h
     spent-invoke i (defined ps e) vs s h = spent-enter ps vs empty _ λ env. part e env s h
 
     spent-passes : (n : ℕ) (c e : Exp) (env : Env) (s : State) → Within u w s → Spent u w (passes fs go n c e env s)
     unfolding passes
     spent-passes zero c e env s h = spent-stop h
     spent-passes (suc n) c e env s h =
-        spent-then _ (part c env s h) λ v s₁ h₁. spent-bool v _ λ b.
-        spent-choose b _ _ (spent-then _ (part e env s₁ h₁) λ x s₂ h₂. spent-unit x _ (spent-passes n c e env s₂ h₂)) (spent-value h₁)
+        spent-then _ (part c env s h) λ v s₁ h₁. spent-want _ _ λ b.
+        spent-choose b _ _ (spent-then _ (part e env s₁ h₁) λ x s₂ h₂. spent-want _ _ (λ _. spent-passes n c e env s₂ h₂)) (spent-value h₁)
 
     spent-step : (e : Exp) (env : Env) (s : State) → Within u w s → Spent u (w + 1) (step fs go e env s)
     unfolding step
-    spent-step (name i x) env s h = spent-when _ _ _ (λ v. spent-value (wider (omega arith) (omega arith) h)) spent-stuck
+    spent-step (name i x) env s h = spent-want _ _ λ v. spent-value (wider (omega arith) (omega arith) h)
     spent-step (literal i l) env s h = spent-value (wider (omega arith) (omega arith) h)
     spent-step (unary i o e) env s h = lift-then _ (part e env s h) λ v s₁ h₁. spent-unary i o v s₁ h₁
     spent-step (binary i o e f) env s h =
         weaker (omega arith) (omega arith) (spent-then _ (part e env s h) λ v s₁ h₁.
         spent-choose _ _ _ (spent-value h₁) (spent-then _ (part f env s₁ h₁) λ x s₂ h₂. spent-binary i o v x s₂ h₂))
     spent-step (follow i e f) env s h =
-        weaker (omega arith) (omega arith) (spent-then _ (part e env s h) λ v s₁ h₁. spent-unit v _ (part f env s₁ h₁))
+        weaker (omega arith) (omega arith) (spent-then _ (part e env s h) λ v s₁ h₁. spent-want _ _ (λ _. part f env s₁ h₁))
     spent-step (group i e) env s h = weaker (omega arith) (omega arith) (part e env s h)
     spent-step (block i e) env s h =
         weaker (omega arith) (omega arith) (spent-then _ (part e env s h) λ v s₁ h₁. spent-value record { few = h₁ .few; sum = h₁ .sum })
     spent-step (call i f es) env s h =
-        weaker (omega arith) (omega arith) (spent-arguments es env s _ h λ vs s₁ h₁. spent-when _ _ _ (λ g. spent-invoke i g vs s₁ h₁) spent-stuck)
+        weaker (omega arith) (omega arith) (spent-arguments es env s _ h λ vs s₁ h₁. spent-want _ _ λ g. spent-invoke i g vs s₁ h₁)
     spent-step (bind i x e f) env s h =
         weaker (omega arith) (omega arith) (spent-then _ (part e env s h) λ v s₁ h₁. part f (push x v env) s₁ h₁)
     spent-step (branch i c e f) env s h =
-        weaker (omega arith) (omega arith) (spent-then _ (part c env s h) λ v s₁ h₁. spent-bool v _ λ b. spent-choose b _ _ (part e env s₁ h₁) (part f env s₁ h₁))
+        weaker (omega arith) (omega arith)
+        (spent-then _ (part c env s h) λ v s₁ h₁. spent-want _ _ λ b. spent-choose b _ _ (part e env s₁ h₁) (part f env s₁ h₁))
     spent-step (loop i c e) env s h = weaker (omega arith) (omega arith) (spent-passes (s .units) c e env s h)
 
 spent-charge : {u w : ℕ} (n i : ℕ) (s : State) (f : State → Outcome) → n ≡ s .units → u ≡ n - 1 → w ≡ s .births + n
@@ -203,25 +174,17 @@ unfolding eval begin charge
 at-end fs zero e env s h = rw h
 at-end fs (suc d) e env s h = rw h
 
-then-same : {u w : ℕ} {o : Outcome} (f g : Value → State → Outcome) → Spent u w o → ((v : Value) (s : State) → Within u w s → f v s ≡ g v s) → then o f ≡ then o g
+then-same : {u w : ℕ} {o : Outcome} (f g : Value → State → Outcome) → Spent u w o
+    → ((v : Value) (s : State) → Within u w s → f v s ≡ g v s) → then o f ≡ then o g
 unfolding then
 then-same f g (spent-value {v} {s} h) k = k v s h
 then-same f g (spent-stop h) k = refl
 then-same f g spent-stuck k = refl
 
-bool-same : (v : Value) (f g : Bool → Outcome) → ((b : Bool) → f b ≡ g b) → want-bool v f ≡ want-bool v g
-unfolding want-bool
-bool-same (number z) f g h = refl
-bool-same (flag b) f g h = h b
-bool-same nothing f g h = refl
-bool-same (cell b) f g h = refl
-
-unit-same : (v : Value) (f g : Unit {0} → Outcome) → f tt ≡ g tt → want-unit v f ≡ want-unit v g
-unfolding want-unit
-unit-same (number z) f g h = refl
-unit-same (flag b) f g h = refl
-unit-same nothing f g h = h
-unit-same (cell b) f g h = refl
+want-same : {A : Type 0} (o : Option A) (f g : A → Outcome) → ((a : A) → f a ≡ g a) → want o f ≡ want o g
+unfolding when-some
+want-same none f g h = refl
+want-same (some a) f g h = h a
 
 choose-same : (b : Bool) (x y x′ : Unit {0} → Outcome) → x tt ≡ x′ tt → choose b x y ≡ choose b x′ y
 unfolding choose
@@ -241,23 +204,23 @@ module _ (fs : Scope Fun) (d : ℕ) (c e : Exp) (env : Env) where
   enough (suc n) zero s h k = then-stop _ _ _ _ _ (at-end fs d c env s (omega arith))
   enough (suc n) (suc m) s h k =
       then-same _ _ (spends fs d c env s) λ v s₁ w₁.
-      bool-same v _ _ λ b.
+      want-same _ _ _ λ b.
       choose-same b _ _ _
-      (then-same _ _ (spends fs d e env s₁) λ x s₂ w₂. unit-same x _ _ (enough n m s₂ (omega (arith, w₁ .few, w₂ .few)) (omega (arith, w₁ .few, w₂ .few))))
+      (then-same _ _ (spends fs d e env s₁) λ x s₂ w₂. want-same _ _ _ (λ _. enough n m s₂ (omega (arith, w₁ .few, w₂ .few)) (omega (arith, w₁ .few, w₂ .few))))
 
   abbrev pub while : State → Outcome
   while s = passes fs (eval fs d) (s .units) c e env s
 
   -- a `while` is a test and, if it passes, the body and the `while` again
   pub while-is : (s : State) → while s ≡ then (eval fs d c env s) λ v s.
-      want-bool v λ b. choose b (λ _. then (eval fs d e env s) λ v s. want-unit v λ _. while s) λ _. value nothing s
+      want (as-bool v) λ b. choose b (λ _. then (eval fs d e env s) λ v s. want (as-unit v) λ _. while s) λ _. value nothing s
   unfolding passes
   while-is s =
       enough (s .units) (suc (s .units)) s (omega arith) (omega arith) ∙
       (then-same _ _ (spends fs d c env s) λ v s₁ w₁.
-      bool-same v _ _ λ b.
+      want-same _ _ _ λ b.
       choose-same b _ _ _
-      (then-same _ _ (spends fs d e env s₁) λ x s₂ w₂. unit-same x _ _ (enough (s .units) (s₂ .units) s₂ (omega (arith, w₁ .few, w₂ .few)) (omega arith))))
+      (then-same _ _ (spends fs d e env s₁) λ x s₂ w₂. want-same _ _ _ (λ _. enough (s .units) (s₂ .units) s₂ (omega (arith, w₁ .few, w₂ .few)) (omega arith))))
 
 -- births fit in the allowance
 pub births-few : (p : Program) (allowance room : ℕ) → Spent (allowance - 1) allowance (run p allowance room)

@@ -8,7 +8,7 @@ use lib.Dec.{eqb, leb}
 use Prim.Native.Char.{Char, code}
 use Prim.Native.Nat.{ℕ, _≤_}
 use Rattle.language.proofs.Text.Choices.{outcome, and-both, or-either}
-use Rattle.language.specs.Text.{between, is-blank, is-letter, is-digit, is-name-byte, is-in-line}
+use Rattle.language.specs.Text.{between, is-blank, is-letter, is-digit, is-name-byte}
 
 between-bounds : (low high : Char) (b : ℕ) → between low high b ≡ true → (code low ≤ b) × (b ≤ code high)
 unfolding between
@@ -70,13 +70,3 @@ name-digit b e = rw (digit-not-letter b e, e)
 pub name-last : (b : ℕ) → is-letter b ≡ false → is-digit b ≡ false → eqb b 95 ≡ is-name-byte b
 unfolding is-name-byte
 name-last b e d = rw (e, d)
-
--- a byte that is not LF lies in its line
-pub in-line : (b : ℕ) → (b ≡ 10 → ⊥) → is-in-line b ≡ true
-unfolding is-in-line
-in-line b h = rw (ne-eqb b 10 h)
-
--- LF does not
-pub out-of-line : {b : ℕ} → b ≡ 10 → is-in-line b ≡ false
-unfolding is-in-line
-out-of-line h = rw h

@@ -3,9 +3,9 @@ use mathlib.Core.List.{[], _∷_}
 use mathlib.Core.Path.{refl}
 use Prim.Native.Nat.{ℕ}
 use Prim.Native.String.{String}
-use Rattle.language.proofs.Text.Scanner.{scan, computed}
+use Rattle.language.proofs.Text.Edition.{scan, computed}
 use Rattle.language.proofs.Text.Scanner.Result.{split, flawed}
-use Rattle.language.specs.Text.{Splits, Flawed}
+use Rattle.language.specs.Edition.{Splits, Flawed}
 use Rattle.language.specs.Text.Flaw.{strange-byte, open-comment, large-number}
 use Rattle.language.specs.Tokens.{spell, Token, NAME, NUMBER, LET, WHILE, TT, PLUS, EQUAL, BECOMES}
 

@@ -1,19 +1,18 @@
--- What is used of the table of marks: how a mark begins and how long it is, and an order in which the first mark that stands
--- at a place is the longest one there.
-use borrow.Author.Tests.{leb-true, ltb-true, not-true, eq-eqb}
-use lib.Dec.{eqb, leb, ltb}
+-- What the theorems on texts ask of a vocabulary, which is little and of its marks alone; and that today's has it.
+use borrow.Author.Tests.{ltb-true, not-true, eq-eqb}
+use lib.Dec.{eqb, ltb}
 use lib.ListN.{length}
-use mathlib.Core.Bool.{Bool, true, false, cond, not, _&&_, false≢true}
+use mathlib.Core.Bool.{Bool, true, false, not, _&&_, false≢true}
 use mathlib.Core.List.{List, [], _∷_}
-use mathlib.Core.Option.{some, Option·none-ne-some}
+use mathlib.Core.Option.{some}
 use mathlib.Core.Path.{_≡_, refl}
 use native.Mathlib.Omega.{arith}
 use Prim.Native.Nat.{ℕ, _+_, _≤_, _<_}
-use Rattle.language.proofs.Text.Choices.{and-both}
+use Rattle.language.proofs.Text.Choices.{clash, and-both}
 use Rattle.language.proofs.Text.Spellings.{byte-inside}
-use Rattle.language.proofs.Text.Tables.{every, passes}
+use Rattle.language.proofs.Text.Tables.{spelling-of, every, passes}
 use Rattle.language.specs.Text.{Stands, between, is-blank, is-letter, is-digit}
-use Rattle.language.specs.Tokens.{Spelling, same, marks, spelled}
+use Rattle.language.specs.Tokens.{Spelling, Vocabulary, EDITION-1, spelled}
 
 -- ---- the shape of a mark
 
@@ -48,34 +47,48 @@ plain b e =
     let y = and-both (not (is-letter b)) (not (is-digit b)) (x .1) in
     record { blank = not-true (is-blank b) (x .0); letter = not-true (is-letter b) (y .0); digit = not-true (is-digit b) (y .1) }
 
-shaped : Spelling → Bool
-shaped [] = false
-shaped (a ∷ s) = is-plain a && (positive (a ∷ s) && leb (length s) (cond (eqb a 47) 0 1))
+-- nothing stands behind `/`, with which comments begin
+alone : ℕ → Spelling → Bool
+alone a [] = true
+alone a (b ∷ s) = not (eqb a 47)
 
--- what is true of a mark that begins with a and goes on with s: it has two bytes at most, and none behind `/`
+alone-none : (a : ℕ) (s : Spelling) → alone a s ≡ true → a ≡ 47 → length s ≡ 0
+unfolding alone
+alone-none a [] e h = refl
+alone-none a (b ∷ s) e h = absurd (clash (eq-eqb a 47 h) (not-true (eqb a 47) e))
+
+-- what the laws ask of a mark
+unfoldable pub shaped : Spelling → Bool
+unfolding is-plain positive alone
+shaped [] = false
+shaped (a ∷ s) = is-plain a && (positive (a ∷ s) && alone a s)
+
+-- what is then true of a mark that begins with a and goes on with s
 pub record Shape (a : ℕ) (s : Spelling) : Type 0 where
   pub first : Plain a
   pub bytes : positive (a ∷ s) ≡ true
-  pub short : length s ≤ 1
   pub slash : a ≡ 47 → length s ≡ 0
 
-least : (x : Bool) (n : ℕ) → n ≤ cond x 0 1 → (n ≤ 1) × (x ≡ true → n ≡ 0)
-least true n h = (omega arith, λ e. omega arith)
-least false n h = (h, λ e. absurd (false≢true e))
+-- ---- the laws
 
--- and it is true of every mark
-pub mark-shape : (a : ℕ) (s : Spelling) (k : ℕ) → spelled marks (a ∷ s) ≡ some k → Shape a s
-unfolding shaped every positive is-plain is-blank is-letter is-digit between
-mark-shape a s k e = go (passes shaped marks (a ∷ s) k refl e)
-  where
-    go : shaped (a ∷ s) ≡ true → Shape a s
-    go e =
-        let x = and-both (is-plain a) (positive (a ∷ s) && leb (length s) (cond (eqb a 47) 0 1)) e in
-        let y = and-both (positive (a ∷ s)) (leb (length s) (cond (eqb a 47) 0 1)) (x .1) in
-        let z = least (eqb a 47) (length s) (leb-true (length s) (cond (eqb a 47) 0 1) (y .1)) in
-        record { first = plain a (x .0); bytes = y .0; short = z .0; slash = λ h. z .1 (eq-eqb a 47 h) }
+-- each mark begins with a byte that is no blank, letter or digit, has no byte 0, and is that byte alone where it is `/`
+pub record Laws (voc : Vocabulary) : Type 0 where
+  pub shapes : every (λ r. shaped (spelling-of r)) (voc .marks) ≡ true
 
--- a mark has a byte
-pub mark-some : (k : ℕ) → spelled marks [] ≡ some k → ⊥
-unfolding spelled same
-mark-some k e = Option·none-ne-some k e
+-- those of today
+pub laws-1 : Laws EDITION-1
+unfolding shaped every is-plain is-blank is-letter is-digit between
+laws-1 = record { shapes = refl }
+
+module _ {voc : Vocabulary} (laws : Laws voc) where
+  pub mark-shape : (a : ℕ) (s : Spelling) (k : ℕ) → spelled (voc .marks) (a ∷ s) ≡ some k → Shape a s
+  unfolding shaped
+  mark-shape a s k e =
+      let x = and-both (is-plain a) (positive (a ∷ s) && alone a s) (passes shaped (voc .marks) (a ∷ s) k (laws .shapes) e) in
+      let y = and-both (positive (a ∷ s)) (alone a s) (x .1) in
+      record { first = plain a (x .0); bytes = y .0; slash = alone-none a s (y .1) }
+
+  -- a mark has a byte
+  pub mark-some : (k : ℕ) → spelled (voc .marks) [] ≡ some k → ⊥
+  unfolding shaped
+  mark-some k e = false≢true (passes shaped (voc .marks) [] k (laws .shapes) e)

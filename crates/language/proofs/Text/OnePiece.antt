@@ -6,14 +6,16 @@ use mathlib.Core.Path.{_≡_, sym, _∙_}
 use native.Mathlib.Omega.{arith}
 use Prim.Native.Nat.{ℕ, _≤_, _<_}
 use Rattle.language.proofs.Text.Comments.{open-inside, comment-bounds}
+use Rattle.language.proofs.Text.Marks.{Laws}
 use Rattle.language.proofs.Text.Places.{Sort, sort, Marked, Opened, Slashed, View, view}
 use Rattle.language.proofs.Text.Places.Opened.{closed, left}
 use Rattle.language.proofs.Text.Places.Sort.{blanks, letters, digits, lines, opens, others}
 use Rattle.language.specs.Text.{Content, Form, Piece}
 use Rattle.language.specs.Text.Form.{blank, line, comment, unended, name, number, mark}
+use Rattle.language.specs.Tokens.{Vocabulary}
 
-module _ (t : List ℕ) (p q : ℕ) (c d : Content) where
-  same-mark : Marked t p q c → Marked t p q d → c ≡ d
+module _ {voc : Vocabulary} (laws : Laws voc) (t : List ℕ) (p q : ℕ) (c d : Content) where
+  same-mark : Marked voc t p q c → Marked voc t p q d → c ≡ d
   same-mark x y =
       let e = x .spells in
       let f = y .spells in
@@ -28,13 +30,13 @@ module _ (t : List ℕ) (p q : ℕ) (c d : Content) where
   same-opened (left n z e) (closed y f) = absurd (n q y)
   same-opened (left n z e) (left m w f) = e ∙ sym f
 
-  same-slashed : {A B : Type 0} → (A → B → c ≡ d) → Slashed t p q c A → Slashed t p q d B → c ≡ d
+  same-slashed : {A B : Type 0} → (A → B → c ≡ d) → Slashed voc t p q c A → Slashed voc t p q d B → c ≡ d
   same-slashed f (inl x) (inl y) = f (x .1) (y .1)
   same-slashed f (inl x) (inr y) = absurd (let a = x .0 in let b = y .0 in omega arith)
   same-slashed f (inr x) (inl y) = absurd (let a = x .0 in let b = y .0 in omega arith)
   same-slashed f (inr x) (inr y) = same-mark (x .1) (y .1)
 
-  same-view : (s : Sort) → View t p q c s → View t p q d s → c ≡ d
+  same-view : (s : Sort) → View voc t p q c s → View voc t p q d s → c ≡ d
   same-view blanks x y = x .1 ∙ sym (y .1)
   same-view letters x y = x .1 ∙ sym (y .1)
   same-view digits x y = x .1 ∙ sym (y .1)
@@ -43,19 +45,19 @@ module _ (t : List ℕ) (p q : ℕ) (c d : Content) where
   same-view others x y = same-mark x y
 
   -- two forms with the same end have the same content
-  pub same-content : Form t p q c → Form t p q d → c ≡ d
-  same-content x y = same-view (sort t p) (view t p q c x) (view t p q d y)
+  pub same-content : Form voc t p q c → Form voc t p q d → c ≡ d
+  same-content x y = same-view (sort t p) (view laws t p q c x) (view laws t p q d y)
 
 -- two pieces at one place have the same end and the same content
-pub one-piece : (t : List ℕ) (p q e : ℕ) (c d : Content) → Piece t p q c → Piece t p e d → (q ≡ e) × (c ≡ d)
-one-piece t p q e c d x y =
+pub one-piece : {voc : Vocabulary} → Laws voc → (t : List ℕ) (p q e : ℕ) (c d : Content) → Piece voc t p q c → Piece voc t p e d → (q ≡ e) × (c ≡ d)
+one-piece laws t p q e c d x y =
     let a = x .longest e d (y .form) in
     let b = y .longest q c (x .form) in
     let z : q ≡ e = omega arith in
-    (z, same-content t p e c d (rw z at (x .form)) (y .form))
+    (z, same-content laws t p e c d (rw z at (x .form)) (y .form))
 
 -- a form has a byte at least, and its bytes lie in the text
-pub form-bounds : (t : List ℕ) (p q : ℕ) (c : Content) → Form t p q c → (p < q) × (q ≤ length t)
+pub form-bounds : {voc : Vocabulary} (t : List ℕ) (p q : ℕ) (c : Content) → Form voc t p q c → (p < q) × (q ≤ length t)
 form-bounds t p q c (blank h b e) = omega arith
 form-bounds t p q c (line s a b e) = omega arith
 form-bounds t p q c (comment d) = omega (arith, comment-bounds t p q d)

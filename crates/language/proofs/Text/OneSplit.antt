@@ -7,46 +7,56 @@ use mathlib.Core.Path.{_≡_, refl, sym, _∙_, ap, subst₂}
 use native.Mathlib.Omega.{arith}
 use Prim.Native.Nat.{ℕ, _≤_, _<_}
 use Rattle.language.proofs.Text.Choices.{either}
+use Rattle.language.proofs.Text.Marks.{Laws}
 use Rattle.language.proofs.Text.OnePiece.{one-piece, form-bounds}
 use Rattle.language.specs.Sizes.{TOKENS, LARGEST}
 use Rattle.language.specs.Text.{Content, Piece, token-of, Reaches, Splits, Flaw, Wrong, Flawed}
 use Rattle.language.specs.Text.Content.{space, unclosed, token}
 use Rattle.language.specs.Text.Reaches.{start, skip, next}
 use Rattle.language.specs.Text.Wrong.{strange, opened, large, many}
-use Rattle.language.specs.Tokens.{Token}
+use Rattle.language.specs.Tokens.{Vocabulary, Token}
 
 -- ---- one step of a split
 
-data Step (t : List ℕ) (p : ℕ) (ts : List Token) (q : ℕ) (us : List Token) : Type 0 where
-  over : Piece t p q space → us ≡ ts → Step t p ts q us
-  put : {k v : ℕ} → Piece t p q (token k v) → v ≤ LARGEST → us ≡ ts ++ (token-of t p q k v ∷ []) → Step t p ts q us
+data Step (voc : Vocabulary) (t : List ℕ) (p : ℕ) (ts : List Token) (q : ℕ) (us : List Token) : Type 0 where
+  over : Piece voc t p q space → us ≡ ts → Step voc t p ts q us
+  put : {k v : ℕ} → Piece voc t p q (token k v) → v ≤ LARGEST → us ≡ ts ++ (token-of t p q k v ∷ []) → Step voc t p ts q us
 
-module _ (t : List ℕ) (p : ℕ) where
-  unlike : {q e : ℕ} {c d : Content} → (c ≡ d → _≡_ {A = ℕ} 0 1) → Piece t p q c → Piece t p e d → ⊥
-  unlike {q} {e} {c} {d} n a b = let z = n (one-piece t p q e c d a b .1) in omega arith
+module _ {voc : Vocabulary} (t : List ℕ) (p : ℕ) where
+  forward : {ts us : List Token} {q : ℕ} → Step voc t p ts q us → (p < q) × (q ≤ length t)
+  forward {q = q} (over a x) = form-bounds t p q space (a .form)
+  forward {q = q} (put {k = k} {v = v} a h x) = form-bounds t p q (token k v) (a .form)
 
-  space-token : {q e k v : ℕ} → Piece t p q space → Piece t p e (token k v) → ⊥
+  more : {ts us : List Token} {q : ℕ} → Step voc t p ts q us → length ts ≤ length us
+  more {ts} {us} (over a x) = omega (arith, ap length x)
+  more {ts} {us} (put a h x) = omega (arith, simp length-append at (ap length x))
+
+module _ {voc : Vocabulary} (laws : Laws voc) (t : List ℕ) (p : ℕ) where
+  unlike : {q e : ℕ} {c d : Content} → (c ≡ d → _≡_ {A = ℕ} 0 1) → Piece voc t p q c → Piece voc t p e d → ⊥
+  unlike {q} {e} {c} {d} n a b = let z = n (one-piece laws t p q e c d a b .1) in omega arith
+
+  space-token : {q e k v : ℕ} → Piece voc t p q space → Piece voc t p e (token k v) → ⊥
   space-token = unlike (λ w. cc)
 
-  open-space : {q e : ℕ} → Piece t p q unclosed → Piece t p e space → ⊥
+  open-space : {q e : ℕ} → Piece voc t p q unclosed → Piece voc t p e space → ⊥
   open-space = unlike (λ w. cc)
 
-  open-token : {q e k v : ℕ} → Piece t p q unclosed → Piece t p e (token k v) → ⊥
+  open-token : {q e k v : ℕ} → Piece voc t p q unclosed → Piece voc t p e (token k v) → ⊥
   open-token = unlike (λ w. cc)
 
-  one-token : {q e k v j w : ℕ} → Piece t p q (token k v) → Piece t p e (token j w) → (q ≡ e) × (k ≡ j) × (v ≡ w)
+  one-token : {q e k v j w : ℕ} → Piece voc t p q (token k v) → Piece voc t p e (token j w) → (q ≡ e) × (k ≡ j) × (v ≡ w)
   one-token {q} {e} {k} {v} {j} {w} a b =
-      let z = one-piece t p q e (token k v) (token j w) a b in
+      let z = one-piece laws t p q e (token k v) (token j w) a b in
       let f = z .1 in
       let g : k ≡ j = cc in
       let h : v ≡ w = cc in
       (z .0, g, h)
 
-  too-large : {q e k v j w : ℕ} → Piece t p q (token k v) → LARGEST < v → Piece t p e (token j w) → w ≤ LARGEST → ⊥
+  too-large : {q e k v j w : ℕ} → Piece voc t p q (token k v) → LARGEST < v → Piece voc t p e (token j w) → w ≤ LARGEST → ⊥
   too-large a l b h = omega (arith, one-token a b .2)
 
-  one-step : {ts us vs : List Token} {q e : ℕ} → Step t p ts q us → Step t p ts e vs → (q ≡ e) × (us ≡ vs)
-  one-step {q = q} {e = e} (over a x) (over b y) = (one-piece t p q e space space a b .0, x ∙ sym y)
+  one-step : {ts us vs : List Token} {q e : ℕ} → Step voc t p ts q us → Step voc t p ts e vs → (q ≡ e) × (us ≡ vs)
+  one-step {q = q} {e = e} (over a x) (over b y) = (one-piece laws t p q e space space a b .0, x ∙ sym y)
   one-step (over a x) (put b h y) = absurd (space-token a b)
   one-step (put a h x) (over b y) = absurd (space-token b a)
   one-step (put a h x) (put b g y) =
@@ -56,126 +66,122 @@ module _ (t : List ℕ) (p : ℕ) where
       let g = z .2 in
       (e, cc)
 
-  forward : {ts us : List Token} {q : ℕ} → Step t p ts q us → (p < q) × (q ≤ length t)
-  forward {q = q} (over a x) = form-bounds t p q space (a .form)
-  forward {q = q} (put {k = k} {v = v} a h x) = form-bounds t p q (token k v) (a .form)
-
-  more : {ts us : List Token} {q : ℕ} → Step t p ts q us → length ts ≤ length us
-  more {ts} {us} (over a x) = omega (arith, ap length x)
-  more {ts} {us} (put a h x) = omega (arith, simp length-append at (ap length x))
-
 -- ---- many steps
 
 -- from p and ts on, q and us are reached
-data Later (t : List ℕ) (q : ℕ) (us : List Token) : ℕ → List Token → Type 0 where
-  here : Later t q us q us
-  step : {p e : ℕ} {ts vs : List Token} → Step t p ts e vs → Later t q us e vs → Later t q us p ts
+data Later (voc : Vocabulary) (t : List ℕ) (q : ℕ) (us : List Token) : ℕ → List Token → Type 0 where
+  here : Later voc t q us q us
+  step : {p e : ℕ} {ts vs : List Token} → Step voc t p ts e vs → Later voc t q us e vs → Later voc t q us p ts
 
-module _ {t : List ℕ} where
-  later-place : {p q : ℕ} {ts us : List Token} → Later t q us p ts → p ≤ q
+module _ {voc : Vocabulary} {t : List ℕ} where
+  later-place : {p q : ℕ} {ts us : List Token} → Later voc t q us p ts → p ≤ q
   later-place here = omega arith
   later-place (step {p = p} s l) = omega (arith, forward t p s, later-place l)
 
-  later-more : {p q : ℕ} {ts us : List Token} → Later t q us p ts → length ts ≤ length us
+  later-more : {p q : ℕ} {ts us : List Token} → Later voc t q us p ts → length ts ≤ length us
   later-more here = omega arith
   later-more (step {p = p} s l) = omega (arith, more t p s, later-more l)
 
-  from-start : {p q : ℕ} {ts us : List Token} → Reaches t p ts → Later t q us p ts → Later t q us 0 []
+  later-same : {p q : ℕ} {ts us : List Token} → Later voc t q us p ts → q ≤ p → us ≡ ts
+  later-same here h = refl
+  later-same (step {p = p} s l) h = absurd (omega (arith, forward t p s, later-place l))
+
+  from-start : {p q : ℕ} {ts us : List Token} → Reaches voc t p ts → Later voc t q us p ts → Later voc t q us 0 []
   from-start start l = l
   from-start (skip a x) l = from-start a (step (over x refl) l)
   from-start (next a x h e) l = from-start a (step (put x h e) l)
 
-  after : {p q e : ℕ} {ts us vs : List Token} → Later t q us p ts → Step t p ts e vs → e ≤ q → Later t q us e vs
-  after {q = q} here s h = absurd (omega (arith, forward t q s))
-  after {q = q} {us = us} (step {p = p} s′ l) s h = let z = one-step t p s′ s in subst₂ (λ a b. Later t q us a b) (z .0) (z .1) l
-
-  -- of two places that are reached the later one is reached from the other
-  onward : {p q : ℕ} {ts us : List Token} → Reaches t p ts → Reaches t q us → p ≤ q → Later t q us p ts
-  onward start b h = from-start b here
-  onward {p = e} (skip {p = p} {ts = ts} a x) b h =
-      let s : Step t p ts e ts = over x refl in
-      after (onward a b (omega (arith, forward t p s))) s h
-  onward {p = e} {ts = vs} (next {p = p} {ts = ts} a x l z) b h =
-      let s : Step t p ts e vs = put x l z in
-      after (onward a b (omega (arith, forward t p s))) s h
-
   -- a place that is reached lies in the text
-  pub reached-inside : {p : ℕ} {ts : List Token} → Reaches t p ts → p ≤ length t
+  pub reached-inside : {p : ℕ} {ts : List Token} → Reaches voc t p ts → p ≤ length t
   reached-inside start = omega arith
   reached-inside {p} (skip {p = o} a x) = form-bounds t o p space (x .form) .1
   reached-inside {p} (next {p = o} {k = k} {v = v} a x h e) = form-bounds t o p (token k v) (x .form) .1
 
-  later-same : {p q : ℕ} {ts us : List Token} → Later t q us p ts → q ≤ p → us ≡ ts
-  later-same here h = refl
-  later-same (step {p = p} s l) h = absurd (omega (arith, forward t p s, later-place l))
+module _ {voc : Vocabulary} (laws : Laws voc) {t : List ℕ} where
+  after : {p q e : ℕ} {ts us vs : List Token} → Later voc t q us p ts → Step voc t p ts e vs → e ≤ q → Later voc t q us e vs
+  after {q = q} here s h = absurd (omega (arith, forward t q s))
+  after {q = q} {us = us} (step {p = p} s′ l) s h =
+      let z = one-step laws t p s′ s in
+      subst₂ (λ a b. Later voc t q us a b) (z .0) (z .1) l
+
+  -- of two places that are reached the later one is reached from the other
+  onward : {p q : ℕ} {ts us : List Token} → Reaches voc t p ts → Reaches voc t q us → p ≤ q → Later voc t q us p ts
+  onward start b h = from-start b here
+  onward {p = e} (skip {p = p} {ts = ts} a x) b h =
+      let s : Step voc t p ts e ts = over x refl in
+      after (onward a b (omega (arith, forward t p s))) s h
+  onward {p = e} {ts = vs} (next {p = p} {ts = ts} a x l z) b h =
+      let s : Step voc t p ts e vs = put x l z in
+      after (onward a b (omega (arith, forward t p s))) s h
 
   -- at a place that is reached there is one list of tokens
-  pub one-list : {p : ℕ} {ts us : List Token} → Reaches t p ts → Reaches t p us → ts ≡ us
+  pub one-list : {p : ℕ} {ts us : List Token} → Reaches voc t p ts → Reaches voc t p us → ts ≡ us
   one-list a b = sym (later-same (onward a b (omega arith)) (omega arith))
 
   -- a text has one split at most
-  pub one-split : {ts us : List Token} → Splits t ts → Splits t us → ts ≡ us
+  pub one-split : {ts us : List Token} → Splits voc t ts → Splits voc t us → ts ≡ us
   one-split a b = one-list (a .whole) (b .whole)
 
 -- ---- flaws
 
-module _ {t : List ℕ} {p : ℕ} {ts : List Token} where
-  wrong-inside : {f : Flaw} → Wrong t p ts f → p < length t
-  wrong-inside (strange h n) = h
-  wrong-inside (opened {q = q} a) = omega (arith, form-bounds t p q unclosed (a .form))
-  wrong-inside (large {q = q} {k = k} {v = v} a h) = omega (arith, form-bounds t p q (token k v) (a .form))
-  wrong-inside (many {q = q} {k = k} {v = v} a h e) = omega (arith, form-bounds t p q (token k v) (a .form))
+wrong-inside : {voc : Vocabulary} {t : List ℕ} {p : ℕ} {ts : List Token} {f : Flaw} → Wrong voc t p ts f → p < length t
+wrong-inside (strange h n) = h
+wrong-inside {t = t} {p = p} (opened {q = q} a) = omega (arith, form-bounds t p q unclosed (a .form))
+wrong-inside {t = t} {p = p} (large {q = q} {k = k} {v = v} a h) = omega (arith, form-bounds t p q (token k v) (a .form))
+wrong-inside {t = t} {p = p} (many {q = q} {k = k} {v = v} a h e) = omega (arith, form-bounds t p q (token k v) (a .form))
 
-  no-step : {f : Flaw} {q : ℕ} {us : List Token} → Wrong t p ts f → Step t p ts q us → length us ≤ TOKENS → ⊥
+module _ {voc : Vocabulary} (laws : Laws voc) {t : List ℕ} {p : ℕ} {ts : List Token} where
+  no-step : {f : Flaw} {q : ℕ} {us : List Token} → Wrong voc t p ts f → Step voc t p ts q us → length us ≤ TOKENS → ⊥
   no-step {q = q} (strange h n) (over x e) l = n q space (x .form)
   no-step {q = q} (strange h n) (put {k = k} {v = v} x g e) l = n q (token k v) (x .form)
-  no-step (opened a) (over x e) l = open-space t p a x
-  no-step (opened a) (put x g e) l = open-token t p a x
-  no-step (large a h) (over x e) l = space-token t p x a
-  no-step (large a h) (put x g e) l = too-large t p a h x g
-  no-step (many a h c) (over x e) l = space-token t p x a
+  no-step (opened a) (over x e) l = open-space laws t p a x
+  no-step (opened a) (put x g e) l = open-token laws t p a x
+  no-step (large a h) (over x e) l = space-token laws t p x a
+  no-step (large a h) (put x g e) l = too-large laws t p a h x g
+  no-step (many a h c) (over x e) l = space-token laws t p x a
   no-step (many a h c) (put x g e) l = omega (arith, simp length-append at (ap length e))
 
-  one-wrong : {f g : Flaw} → Wrong t p ts f → Wrong t p ts g → f ≡ g
+  one-wrong : {f g : Flaw} → Wrong voc t p ts f → Wrong voc t p ts g → f ≡ g
   one-wrong (strange h n) (strange g m) = refl
   one-wrong (strange h n) (opened a) = absurd (n _ _ (a .form))
   one-wrong (strange h n) (large a b) = absurd (n _ _ (a .form))
   one-wrong (strange h n) (many a b e) = absurd (n _ _ (a .form))
   one-wrong (opened a) (strange h n) = absurd (n _ _ (a .form))
   one-wrong (opened a) (opened b) = refl
-  one-wrong (opened a) (large b l) = absurd (open-token t p a b)
-  one-wrong (opened a) (many b l e) = absurd (open-token t p a b)
+  one-wrong (opened a) (large b l) = absurd (open-token laws t p a b)
+  one-wrong (opened a) (many b l e) = absurd (open-token laws t p a b)
   one-wrong (large a l) (strange h n) = absurd (n _ _ (a .form))
-  one-wrong (large a l) (opened b) = absurd (open-token t p b a)
+  one-wrong (large a l) (opened b) = absurd (open-token laws t p b a)
   one-wrong (large a l) (large b m) = refl
-  one-wrong (large a l) (many b m e) = absurd (too-large t p a l b m)
+  one-wrong (large a l) (many b m e) = absurd (too-large laws t p a l b m)
   one-wrong (many a l e) (strange h n) = absurd (n _ _ (a .form))
-  one-wrong (many a l e) (opened b) = absurd (open-token t p b a)
-  one-wrong (many a l e) (large b m) = absurd (too-large t p b m a l)
+  one-wrong (many a l e) (opened b) = absurd (open-token laws t p b a)
+  one-wrong (many a l e) (large b m) = absurd (too-large laws t p b m a l)
   one-wrong (many a l e) (many b m g) = refl
 
-ends : {t : List ℕ} {f : Flaw} {p q : ℕ} {ts us : List Token}
-    → Wrong t p ts f → Later t q us p ts → length us ≤ TOKENS → (p ≡ q) × (ts ≡ us)
-ends w here h = (refl, refl)
-ends w (step s l) h = absurd (no-step w s (omega (arith, later-more l)))
+module _ {voc : Vocabulary} (laws : Laws voc) {t : List ℕ} where
+  ends : {f : Flaw} {p q : ℕ} {ts us : List Token}
+      → Wrong voc t p ts f → Later voc t q us p ts → length us ≤ TOKENS → (p ≡ q) × (ts ≡ us)
+  ends w here h = (refl, refl)
+  ends w (step s l) h = absurd (no-step laws w s (omega (arith, later-more l)))
 
-not-later : {t : List ℕ} {f g : Flaw} {p q : ℕ} → Flawed t f p → Flawed t g q → p ≤ q → (f ≡ g) × (p ≡ q)
-not-later {t} {f} a b h =
-    let z = ends (a .here) (onward (a .before) (b .before) h) (b .few) in
-    (one-wrong (subst₂ (λ x y. Wrong t x y f) (z .0) (z .1) (a .here)) (b .here), z .0)
+  not-later : {f g : Flaw} {p q : ℕ} → Flawed voc t f p → Flawed voc t g q → p ≤ q → (f ≡ g) × (p ≡ q)
+  not-later {f} a b h =
+      let z = ends (a .here) (onward laws (a .before) (b .before) h) (b .few) in
+      (one-wrong laws (subst₂ (λ x y. Wrong voc t x y f) (z .0) (z .1) (a .here)) (b .here), z .0)
 
--- a text has one first flaw at most, at one place
-pub one-flaw : {t : List ℕ} {f g : Flaw} {p q : ℕ} → Flawed t f p → Flawed t g q → (f ≡ g) × (p ≡ q)
-one-flaw {t} {f} {g} {p} {q} a b =
-    ⊎-elim (λ h. not-later a b (omega arith)) (λ h. let z = not-later b a h in (sym (z .0), sym (z .1))) (either p q)
+  -- a text has one first flaw at most, at one place
+  pub one-flaw : {f g : Flaw} {p q : ℕ} → Flawed voc t f p → Flawed voc t g q → (f ≡ g) × (p ≡ q)
+  one-flaw {f} {g} {p} {q} a b =
+      ⊎-elim (λ h. not-later a b (omega arith)) (λ h. let z = not-later b a h in (sym (z .0), sym (z .1))) (either p q)
 
--- a text that splits has no flaw
-pub not-both : {t : List ℕ} {ts : List Token} {f : Flaw} {p : ℕ} → Splits t ts → Flawed t f p → ⊥
-not-both a b =
-    let z = ends (b .here) (onward (b .before) (a .whole) (reached-inside (b .before))) (a .few) in
-    omega (arith, z .0, wrong-inside (b .here))
+  -- a text that splits has no flaw
+  pub not-both : {ts : List Token} {f : Flaw} {p : ℕ} → Splits voc t ts → Flawed voc t f p → ⊥
+  not-both a b =
+      let z = ends (b .here) (onward laws (b .before) (a .whole) (reached-inside (b .before))) (a .few) in
+      omega (arith, z .0, wrong-inside (b .here))
 
--- no place behind a flaw is reached with so few tokens
-pub flaw-last : {t : List ℕ} {f : Flaw} {p q : ℕ} {us : List Token} → Flawed t f p → Reaches t q us → length us ≤ TOKENS → q ≤ p
-flaw-last {p = p} {q = q} a b h =
-    ⊎-elim (λ l. omega (arith, ends (a .here) (onward (a .before) b (omega arith)) h .0)) (λ l. l) (either p q)
+  -- no place behind a flaw is reached with so few tokens
+  pub flaw-last : {f : Flaw} {p q : ℕ} {us : List Token} → Flawed voc t f p → Reaches voc t q us → length us ≤ TOKENS → q ≤ p
+  flaw-last {p = p} {q = q} a b h =
+      ⊎-elim (λ l. omega (arith, ends (a .here) (onward laws (a .before) b (omega arith)) h .0)) (λ l. l) (either p q)

@@ -1,39 +1,62 @@
 -- The piece at a place, for each way in which one may begin there: what a program that splits a text has to have found.
 use lib.ListN.{length}
-use lib.Seq.{slice}
+use lib.Seq.{slice, length-slice}
 use mathlib.Core.Bool.{true}
 use mathlib.Core.List.{List, [], _∷_}
-use mathlib.Core.Logic.{inl, inr}
-use mathlib.Core.Option.{some}
-use mathlib.Core.Path.{_≡_, refl}
+use mathlib.Core.Logic.{⊎-elim, inl, inr}
+use mathlib.Core.Option.{none, some, Option·none-ne-some}
+use mathlib.Core.Path.{_≡_, refl, sym, _∙_}
 use native.Mathlib.Omega.{arith}
 use Prim.Native.Nat.{ℕ, suc, _+_, _≤_, _<_}
+use Rattle.language.proofs.Text.Choices.{either}
 use Rattle.language.proofs.Text.Classes.{name-letter}
 use Rattle.language.proofs.Text.Comments.{one-end, comment-bounds, open-inside}
-use Rattle.language.proofs.Text.MarkOrder.{is-order, Missed, order-kind, missed-all, missed-longest}
-use Rattle.language.proofs.Text.Marks.{Plain, mark-shape, mark-some, stands-inside}
-use Rattle.language.proofs.Text.Places.{Sort, sort, Opened, Slashed, View, view, sort-blank, sort-letter, sort-digit, sort-line, sort-open, sort-other}
+use Rattle.language.proofs.Text.Marks.{Laws, mark-shape, mark-some, stands-inside}
+use Rattle.language.proofs.Text.Places.{Sort, sort, Begins, Opened, Slashed, View, view}
+use Rattle.language.proofs.Text.Places.{sort-blank, sort-letter, sort-digit, sort-line, sort-open, sort-other}
 use Rattle.language.proofs.Text.Places.Opened.{closed, left}
 use Rattle.language.proofs.Text.Places.Sort.{blanks, letters, digits, lines, opens, others}
 use Rattle.language.proofs.Text.Runs.{Run, run-longest, run-some}
-use Rattle.language.proofs.Text.Spellings.{stands-slice}
-use Rattle.language.proofs.Text.Tables.{Table, spelling-of, kind-of, size-of, row}
-use Rattle.language.specs.Text.{byte, Stands, is-blank, is-letter, is-digit, is-name-byte, is-in-line, Opens, Comment, Content, Form, Piece, word-kind, number-from}
+use Rattle.language.proofs.Text.Tables.{most, most-bytes}
+use Rattle.language.specs.Text.{byte, Stands, is-blank, is-letter, is-digit, is-name-byte, is-in-line}
+use Rattle.language.specs.Text.{Opens, Comment, Content, Within, Form, Piece, word-kind, number-from}
 use Rattle.language.specs.Text.Content.{space, unclosed, token}
 use Rattle.language.specs.Text.Form.{blank, line, comment, unended, name, number, mark}
-use Rattle.language.specs.Tokens.{Spelling, spell, NUMBER, marks, spelled}
+use Rattle.language.specs.Tokens.{Spelling, spell, Vocabulary, NUMBER, spelled}
 
-module _ (t : List ℕ) (p : ℕ) where
-  upto : (q : ℕ) (s : Sort) → sort t p ≡ s → ((e : ℕ) (d : Content) → View t p e d s → e ≤ q) → (e : ℕ) (d : Content) → Form t p e d → e ≤ q
-  upto q s z f e d x = f e d (rw z at (view t p e d x))
+-- no mark from p on has more than n bytes
+pub record AtMost (voc : Vocabulary) (t : List ℕ) (p n : ℕ) : Type 0 where
+  pub bytes : (q k : ℕ) → p < q → q ≤ length t → spelled (voc .marks) (slice p q t) ≡ some k → q ≤ p + n
+
+-- none has more than the longest of the vocabulary
+pub at-most : (voc : Vocabulary) (t : List ℕ) (p : ℕ) → AtMost voc t p (most (voc .marks))
+at-most voc t p =
+    record { bytes = λ q k o h e. omega (arith, length-slice p q t h, most-bytes (voc .marks) (slice p q t) k e) }
+
+-- where none has n + 1, none has more than n
+pub at-most-less : {voc : Vocabulary} {t : List ℕ} {p n : ℕ} → AtMost voc t p (n + 1)
+    → (p + (n + 1) ≤ length t → spelled (voc .marks) (slice p (p + (n + 1)) t) ≡ none) → AtMost voc t p n
+at-most-less {voc} {t} {p} {n} f g = record { bytes = λ q k o h e. go q k o h e }
+  where
+    go : (q k : ℕ) → p < q → q ≤ length t → spelled (voc .marks) (slice p q t) ≡ some k → q ≤ p + n
+    go q k o h e =
+        let l = f .bytes q k o h e in
+        ⊎-elim (λ x. omega arith)
+        (λ x. let z : q ≡ p + (n + 1) = omega arith in absurd (Option·none-ne-some k (sym (g (omega arith)) ∙ rw z at e)))
+        (either q (p + (n + 1)))
+
+module _ {voc : Vocabulary} (laws : Laws voc) (t : List ℕ) (p : ℕ) where
+  upto : (q : ℕ) (s : Sort) → sort t p ≡ s → ((e : ℕ) (d : Content) → View voc t p e d s → e ≤ q)
+      → (e : ℕ) (d : Content) → Form voc t p e d → e ≤ q
+  upto q s z f e d x = f e d (rw z at (view laws t p e d x))
 
   -- a blank is a piece of one byte that is no token
-  pub blank-piece : p < length t → is-blank (byte t p) ≡ true → Piece t p (p + 1) space
+  pub blank-piece : p < length t → is-blank (byte t p) ≡ true → Piece voc t p (p + 1) space
   blank-piece h b = record { form = blank h b refl; longest = upto (p + 1) blanks (sort-blank t p b) (λ e d x. omega (arith, x .0)) }
 
   -- from a letter on the longest run of name bytes is a name or a word
   pub name-piece : (q : ℕ) → p < length t → is-letter (byte t p) ≡ true → Run is-name-byte t p q
-      → Piece t p q (token (word-kind (slice p q t)) 0)
+      → Piece voc t p q (token (word-kind voc (slice p q t)) 0)
   name-piece q h b r =
       record {
         form = name (record { some = run-some h (name-letter (byte t p) b) r; inside = r .within }) b (r .each);
@@ -42,19 +65,19 @@ module _ (t : List ℕ) (p : ℕ) where
 
   -- from a digit on the longest run of digits is a number
   pub number-piece : (q : ℕ) → p < length t → is-digit (byte t p) ≡ true → Run is-digit t p q
-      → Piece t p q (token NUMBER (number-from 0 (slice p q t)))
+      → Piece voc t p q (token NUMBER (number-from 0 (slice p q t)))
   number-piece q h b r =
       record {
         form = number (record { some = run-some h b r; inside = r .within }) (r .each);
         longest = upto q digits (sort-digit t p b) (λ e d x. run-longest r (x .0));
       }
 
-  slashed-upto : (q e : ℕ) (d : Content) {A : Type 0} → p + 2 ≤ q → (A → e ≤ q) → Slashed t p e d A → e ≤ q
+  slashed-upto : (q e : ℕ) (d : Content) {A : Type 0} → p + 2 ≤ q → (A → e ≤ q) → Slashed voc t p e d A → e ≤ q
   slashed-upto q e d h f (inl x) = f (x .1)
   slashed-upto q e d h f (inr x) = let z = x .0 in omega arith
 
   -- from `//` on the rest of the line is no token
-  pub line-piece : (q : ℕ) → Stands t p (spell "//") → Run is-in-line t (p + 2) q → Piece t p q space
+  pub line-piece : (q : ℕ) → Stands t p (spell "//") → Run is-in-line t (p + 2) q → Piece voc t p q space
   line-piece q s r =
       record {
         form = line s (r .order) (r .within) (r .each);
@@ -62,7 +85,7 @@ module _ (t : List ℕ) (p : ℕ) where
       }
 
   -- a comment that is closed is no token
-  pub comment-piece : (q : ℕ) → Comment t p q → Piece t p q space
+  pub comment-piece : (q : ℕ) → Comment t p q → Piece voc t p q space
   comment-piece q c =
       record {
         form = comment c;
@@ -77,7 +100,7 @@ module _ (t : List ℕ) (p : ℕ) where
       ends e d (left n y z) = absurd (n q c)
 
   -- a comment that is not closed takes the rest of the text
-  pub open-piece : Opens t p → ((e : ℕ) → Comment t p e → ⊥) → Piece t p (length t) unclosed
+  pub open-piece : Opens t p → ((e : ℕ) → Comment t p e → ⊥) → Piece voc t p (length t) unclosed
   open-piece s n =
       record {
         form = unended s n refl;
@@ -89,31 +112,22 @@ module _ (t : List ℕ) (p : ℕ) where
       ends e d (left m y z) = omega arith
 
   -- where none of these begins, a mark is a token if no longer one stands there
-  pub mark-piece : (s : Spelling) (k : ℕ) → p < length t → (Stands t p (spell "//") → ⊥) → (Opens t p → ⊥)
-      → spelled marks s ≡ some k → Stands t p s
-      → ((e j : ℕ) → p ≤ e → e ≤ length t → spelled marks (slice p e t) ≡ some j → e ≤ p + length s)
-      → Piece t p (p + length s) (token k 0)
-  mark-piece [] k h a b e x f = absurd (mark-some k e)
-  mark-piece (c ∷ s) k h a b e x f =
-      let z = mark-shape c s k e in
-      let l : p + suc (length s) ≤ length t = stands-inside t p (c ∷ s) (z .bytes) (omega arith) x in
+  pub mark-piece : (n k : ℕ) → Begins t p others → Within t p (p + n) → spelled (voc .marks) (slice p (p + n) t) ≡ some k
+      → AtMost voc t p n → Piece voc t p (p + n) (token k 0)
+  mark-piece n k b w x f =
       record {
-        form = mark {k = k} (record { some = omega arith; inside = l }) (rw (stands-slice t p (c ∷ s) l x) e);
-        longest = upto (p + suc (length s)) others (sort-other t p (rw (x .0) (z .first)) a b)
-            (λ e d y. f e (y .kind) (omega (arith, y .some)) (y .within) (y .spells));
+        form = mark {k = k} w x;
+        longest = upto (p + n) others (sort-other t p (b .0) (b .1) (b .2)) (λ e d y. f .bytes e (y .kind) (y .some) (y .within) (y .spells));
       }
 
-  -- in an order with the longer marks first, the first mark that stands is the token
-  pub first-mark-piece : (rows : Table) → is-order rows ≡ true → (i : ℕ) → i < length rows → p < length t
-      → (Stands t p (spell "//") → ⊥) → (Opens t p → ⊥) → Missed rows t p i → Stands t p (spelling-of (row rows i))
-      → Piece t p (p + size-of (row rows i)) (token (kind-of (row rows i)) 0)
-  first-mark-piece rows ok i l h a b m x =
-      mark-piece (spelling-of (row rows i)) (kind-of (row rows i)) h a b (order-kind rows ok i l) x
-      (λ e j o g y. missed-longest rows ok t p e j i m l o g y)
-
   -- where no mark stands either, there is no form
-  pub no-form : (rows : Table) → is-order rows ≡ true → Plain (byte t p) → (Stands t p (spell "//") → ⊥) → (Opens t p → ⊥)
-      → Missed rows t p (length rows) → (e : ℕ) (d : Content) → Form t p e d → ⊥
-  no-form rows ok n a b m e d f =
-      let x : View t p e d others = rw (sort-other t p n a b) at (view t p e d f) in
-      missed-all rows ok t p e (x .kind) m (omega (arith, x .some)) (x .within) (x .spells)
+  pub no-form : Begins t p others → AtMost voc t p 0 → (e : ℕ) (d : Content) → Form voc t p e d → ⊥
+  no-form b f e d x =
+      let y : View voc t p e d others = rw (sort-other t p (b .0) (b .1) (b .2)) at (view laws t p e d x) in
+      omega (arith, y .some, f .bytes e (y .kind) (y .some) (y .within) (y .spells))
+
+  -- the bytes of a mark that stand at p lie in the text
+  pub mark-within : (s : Spelling) (k : ℕ) → p ≤ length t → spelled (voc .marks) s ≡ some k → Stands t p s → Within t p (p + length s)
+  mark-within [] k h e x = absurd (mark-some laws k e)
+  mark-within (c ∷ s) k h e x =
+      record { some = omega arith; inside = stands-inside t p (c ∷ s) (mark-shape laws c s k e .bytes) h x }

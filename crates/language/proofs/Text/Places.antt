@@ -12,13 +12,14 @@ use Prim.Native.Nat.{ℕ, suc, _+_, _≤_, _<_}
 use Rattle.language.proofs.Text.Choices.{outcome, clash}
 use Rattle.language.proofs.Text.Classes.{letter-not-blank, digit-not-blank, digit-not-letter}
 use Rattle.language.proofs.Text.Comments.{open-inside, comment-bounds}
-use Rattle.language.proofs.Text.Marks.{Plain, mark-shape}
+use Rattle.language.proofs.Text.Marks.{Plain, Laws, mark-shape}
 use Rattle.language.proofs.Text.Runs.{Scanned}
 use Rattle.language.proofs.Text.Spellings.{stands, stands-yes, stands-no, yes-stands, no-stands}
-use Rattle.language.specs.Text.{byte, Stands, between, is-blank, is-letter, is-digit, is-name-byte, is-in-line, Opens, Comment, Content, Form, word-kind, number-from}
+use Rattle.language.specs.Text.{byte, Stands, between, is-blank, is-letter, is-digit, is-name-byte, is-in-line}
+use Rattle.language.specs.Text.{Opens, Comment, Content, Form, word-kind, number-from}
 use Rattle.language.specs.Text.Content.{space, unclosed, token}
 use Rattle.language.specs.Text.Form.{blank, line, comment, unended, name, number, mark}
-use Rattle.language.specs.Tokens.{spell, NUMBER, marks, spelled}
+use Rattle.language.specs.Tokens.{spell, Vocabulary, NUMBER, spelled}
 
 -- ---- the sorts of places
 
@@ -103,11 +104,11 @@ begins t p =
 -- ---- the forms at a place of each sort
 
 -- a mark from p up to q
-pub record Marked (t : List ℕ) (p q : ℕ) (c : Content) : Type 0 where
+pub record Marked (voc : Vocabulary) (t : List ℕ) (p q : ℕ) (c : Content) : Type 0 where
   pub kind : ℕ
   pub some : p < q
   pub within : q ≤ length t
-  pub spells : spelled marks (slice p q t) ≡ Option.some kind
+  pub spells : spelled (voc .marks) (slice p q t) ≡ Option.some kind
   pub comes : c ≡ token kind 0
 
 -- a comment, closed or not
@@ -116,27 +117,27 @@ pub data Opened (t : List ℕ) (p q : ℕ) (c : Content) : Type 0 where
   left : ((e : ℕ) → Comment t p e → ⊥) → q ≡ length t → c ≡ unclosed → Opened t p q c
 
 -- two bytes or more that A says more of, or the mark `/`
-abbrev pub Slashed : List ℕ → ℕ → ℕ → Content → Type 0 → Type 0
-Slashed t p q c A = ((p + 2 ≤ q) × A) ⊎ ((q ≡ p + 1) × Marked t p q c)
+abbrev pub Slashed : Vocabulary → List ℕ → ℕ → ℕ → Content → Type 0 → Type 0
+Slashed voc t p q c A = ((p + 2 ≤ q) × A) ⊎ ((q ≡ p + 1) × Marked voc t p q c)
 
 -- what a form with the content c can be, from p up to q, at a place of each sort
-abbrev pub View : List ℕ → ℕ → ℕ → Content → Sort → Type 0
-View t p q c blanks = (q ≡ p + 1) × (c ≡ space)
-View t p q c letters = Scanned is-name-byte t p q × (c ≡ token (word-kind (slice p q t)) 0)
-View t p q c digits = Scanned is-digit t p q × (c ≡ token NUMBER (number-from 0 (slice p q t)))
-View t p q c lines = Slashed t p q c (Scanned is-in-line t (p + 2) q × (c ≡ space))
-View t p q c opens = Slashed t p q c (Opened t p q c)
-View t p q c others = Marked t p q c
+abbrev pub View : Vocabulary → List ℕ → ℕ → ℕ → Content → Sort → Type 0
+View voc t p q c blanks = (q ≡ p + 1) × (c ≡ space)
+View voc t p q c letters = Scanned is-name-byte t p q × (c ≡ token (word-kind voc (slice p q t)) 0)
+View voc t p q c digits = Scanned is-digit t p q × (c ≡ token NUMBER (number-from 0 (slice p q t)))
+View voc t p q c lines = Slashed voc t p q c (Scanned is-in-line t (p + 2) q × (c ≡ space))
+View voc t p q c opens = Slashed voc t p q c (Opened t p q c)
+View voc t p q c others = Marked voc t p q c
 
-module _ (t : List ℕ) (p q : ℕ) where
+module _ {voc : Vocabulary} (laws : Laws voc) (t : List ℕ) (p q : ℕ) where
   -- a mark begins where no blank, letter or digit is, and is one byte where a comment begins
-  marked-shape : {c : Content} → Marked t p q c → Plain (byte t p) × (byte t p ≡ 47 → q ≡ p + 1)
+  marked-shape : {c : Content} → Marked voc t p q c → Plain (byte t p) × (byte t p ≡ 47 → q ≡ p + 1)
   marked-shape m =
       let e : slice p q t ≡ byte t p ∷ slice (suc p) q t = slice-cons p q t 0 (m .some) (m .within) in
-      let z = mark-shape (byte t p) (slice (suc p) q t) (m .kind) (rw e at (m .spells)) in
+      let z = mark-shape laws (byte t p) (slice (suc p) q t) (m .kind) (rw e at (m .spells)) in
       (z .first, λ s. omega (arith, m .some, z .slash s, length-slice (suc p) q t (m .within)))
 
-  view-mark : {c : Content} → Marked t p q c → (s : Sort) → Begins t p s → View t p q c s
+  view-mark : {c : Content} → Marked voc t p q c → (s : Sort) → Begins t p s → View voc t p q c s
   view-mark m blanks b = absurd (clash b (marked-shape m .0 .blank))
   view-mark m letters b = absurd (clash b (marked-shape m .0 .letter))
   view-mark m digits b = absurd (clash b (marked-shape m .0 .digit))
@@ -145,7 +146,7 @@ module _ (t : List ℕ) (p q : ℕ) where
   view-mark m others b = m
 
   -- each form, as its place lets it be
-  pub view : (c : Content) → Form t p q c → View t p q c (sort t p)
+  pub view : (c : Content) → Form voc t p q c → View voc t p q c (sort t p)
   view c (blank h b e) = rw (sort-blank t p b) (e, refl)
   view c (line s a b e) = rw (sort-line t p s) (inl (a, (record { order = a; within = b; each = e }, refl)))
   view c (comment d) = rw (sort-open t p (d .opens)) (inl (omega (arith, comment-bounds t p q d), closed d refl))

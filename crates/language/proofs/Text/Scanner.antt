@@ -1,33 +1,37 @@
 -- An executable twin of the written split: proof vocabulary, and no definition of the language. It goes through a text from
 -- its start, and what it answers is proved to be what the definitions say; so every text has a split or a flaw.
-use borrow.Author.Tests.{ltb-true, ltb-false, eqb-true, eqb-false}
-use lib.Dec.{eqb, ltb}
+use borrow.Author.Tests.{ltb-true, ltb-false, leb-true, leb-false, eqb-true, eqb-false}
+use lib.Dec.{eqb, ltb, leb}
 use lib.ListN.{length, length-append}
 use lib.Seq.{slice}
 use mathlib.Core.Bool.{Bool, true, false}
 use mathlib.Core.List.{List, [], _∷_, _++_}
 use mathlib.Core.Logic.{_⊎_, inl, inr}
+use mathlib.Core.Option.{Option, none, some}
 use mathlib.Core.Path.{_≡_, refl, ap, ap₂, subst}
+use native.Mathlib.Numerals.{add-one}
 use native.Mathlib.Omega.{arith}
 use Prim.Native.Nat.{ℕ, zero, suc, _+_, _-_, _≤_, _<_}
 use Rattle.language.proofs.Text.Choices.{choose}
 use Rattle.language.proofs.Text.Comments.{Depth, depth-start, depth-open, depth-close, depth-byte, depth-end, depth-done}
-use Rattle.language.proofs.Text.MarkOrder.{Missed, missed-none, missed-more, longer-first, longer-first-order}
+use Rattle.language.proofs.Text.Marks.{Laws}
 use Rattle.language.proofs.Text.OnePiece.{form-bounds}
 use Rattle.language.proofs.Text.OneSplit.{one-split, one-flaw, not-both}
-use Rattle.language.proofs.Text.Pieces.{blank-piece, name-piece, number-piece, line-piece, comment-piece, open-piece, first-mark-piece, no-form}
+use Rattle.language.proofs.Text.Pieces.{blank-piece, name-piece, number-piece, line-piece, comment-piece, open-piece}
+use Rattle.language.proofs.Text.Pieces.{AtMost, at-most, at-most-less, mark-piece, no-form}
 use Rattle.language.proofs.Text.Places.{Sort, sort, Begins, begins}
 use Rattle.language.proofs.Text.Places.Sort.{blanks, letters, digits, lines, opens, others}
 use Rattle.language.proofs.Text.Runs.{Scanned, Run, scan-none, scan-more, scan-stop, scan-end}
 use Rattle.language.proofs.Text.Spellings.{stands, stands-yes, stands-no, two-inside}
-use Rattle.language.proofs.Text.Tables.{spelling-of, kind-of, size-of, row}
+use Rattle.language.proofs.Text.Tables.{Table, most}
 use Rattle.language.specs.Sizes.{TOKENS, LARGEST}
-use Rattle.language.specs.Text.{byte, between, is-blank, is-letter, is-digit, is-name-byte, is-in-line, Opens, Comment, Content, Form, Piece, word-kind, number-from, token-of, Reaches, Splits, Flaw, Flawed}
+use Rattle.language.specs.Text.{byte, between, is-blank, is-letter, is-digit, is-name-byte, is-in-line, Opens, Comment}
+use Rattle.language.specs.Text.{Content, Form, Piece, word-kind, number-from, token-of, Reaches, Splits, Flaw, Flawed}
 use Rattle.language.specs.Text.Content.{space, unclosed, token}
 use Rattle.language.specs.Text.Flaw.{strange-byte, open-comment, large-number, many-tokens}
 use Rattle.language.specs.Text.Reaches.{start, skip, next}
 use Rattle.language.specs.Text.Wrong.{strange, opened, large, many}
-use Rattle.language.specs.Tokens.{spell, same, spelled, NUMBER, Token}
+use Rattle.language.specs.Tokens.{spell, same, spelled, Vocabulary, NUMBER, Token}
 
 -- ---- the end of a run, of at most n bytes
 
@@ -94,21 +98,19 @@ pub data Seen : Type 0 where
   seen : ℕ → Content → Seen
   unseen : Seen
 
-abbrev Seen-is : List ℕ → ℕ → Seen → Type 0
-Seen-is t p (seen q c) = Piece t p q c
-Seen-is t p unseen = (q : ℕ) (c : Content) → Form t p q c → ⊥
+-- the mark up to q where these bytes are one, else what is seen of fewer bytes
+mark-or : ℕ → Seen → Option ℕ → Seen
+mark-or q s none = s
+mark-or q s (some k) = seen q (token k 0)
 
--- the first of n marks that stands, from mark i on
-mark-seen : List ℕ → ℕ → ℕ → ℕ → Seen
-mark-seen t p zero i = unseen
-mark-seen t p (suc n) i =
-    elim (stands t p (spelling-of (row longer-first i))) [
-      | true ↦ seen (p + size-of (row longer-first i)) (token (kind-of (row longer-first i)) 0)
-      | false ↦ mark-seen t p n (i + 1)
+-- the longest mark of at most n bytes
+mark-seen : Table → List ℕ → ℕ → ℕ → Seen
+mark-seen marks t p zero = unseen
+mark-seen marks t p (suc n) =
+    elim (leb (p + suc n) (length t)) [
+      | true ↦ mark-or (p + suc n) (mark-seen marks t p n) (spelled marks (slice p (p + suc n) t))
+      | false ↦ mark-seen marks t p n
     ]
-
-name-seen : List ℕ → ℕ → ℕ → Seen
-name-seen t p q = seen q (token (word-kind (slice p q t)) 0)
 
 number-seen : List ℕ → ℕ → ℕ → Seen
 number-seen t p q = seen q (token NUMBER (number-from 0 (slice p q t)))
@@ -117,40 +119,56 @@ comment-seen : List ℕ → Close → Seen
 comment-seen t (at q) = seen q space
 comment-seen t never = seen (length t) unclosed
 
-piece-of : List ℕ → ℕ → Sort → Seen
-piece-of t p blanks = seen (p + 1) space
-piece-of t p letters = name-seen t p (run-from is-name-byte t p)
-piece-of t p digits = number-seen t p (run-from is-digit t p)
-piece-of t p lines = seen (run-from is-in-line t (p + 2)) space
-piece-of t p opens = comment-seen t (close-end t (length t) 1 (p + 2))
-piece-of t p others = mark-seen t p (length longer-first) 0
+module _ (voc : Vocabulary) where
+  abbrev Seen-is : List ℕ → ℕ → Seen → Type 0
+  Seen-is t p (seen q c) = Piece voc t p q c
+  Seen-is t p unseen = (q : ℕ) (c : Content) → Form voc t p q c → ⊥
 
-module _ (t : List ℕ) (p : ℕ) (h : p < length t) where
-  comment-is : (c : Close) → Opens t p → Close-is t p c → Seen-is t p (comment-seen t c)
+  name-seen : List ℕ → ℕ → ℕ → Seen
+  name-seen t p q = seen q (token (word-kind voc (slice p q t)) 0)
+
+  piece-of : List ℕ → ℕ → Sort → Seen
+  piece-of t p blanks = seen (p + 1) space
+  piece-of t p letters = name-seen t p (run-from is-name-byte t p)
+  piece-of t p digits = number-seen t p (run-from is-digit t p)
+  piece-of t p lines = seen (run-from is-in-line t (p + 2)) space
+  piece-of t p opens = comment-seen t (close-end t (length t) 1 (p + 2))
+  piece-of t p others = mark-seen (voc .marks) t p (most (voc .marks))
+
+module _ {voc : Vocabulary} (laws : Laws voc) (t : List ℕ) (p : ℕ) (h : p < length t) where
+  comment-is : (c : Close) → Opens t p → Close-is t p c → Seen-is voc t p (comment-seen t c)
   unfolding comment-seen
-  comment-is (at q) s x = comment-piece t p q x
-  comment-is never s x = open-piece t p s x
+  comment-is (at q) s x = comment-piece laws t p q x
+  comment-is never s x = open-piece laws t p s x
 
-  mark-is : (n i : ℕ) → Begins t p others → i + n ≡ length longer-first → Missed longer-first t p i → Seen-is t p (mark-seen t p n i)
+  mark-or-is : (n : ℕ) (s : Seen) → Begins t p others → AtMost voc t p (n + 1) → p + (n + 1) ≤ length t
+      → (AtMost voc t p n → Seen-is voc t p s) → (o : Option ℕ) → spelled (voc .marks) (slice p (p + (n + 1)) t) ≡ o
+      → Seen-is voc t p (mark-or (p + (n + 1)) s o)
+  unfolding mark-or
+  mark-or-is n s b f l g none e = g (at-most-less f (λ x. e))
+  mark-or-is n s b f l g (some k) e = mark-piece laws t p (n + 1) k b (record { some = omega arith; inside = l }) e f
+
+  mark-is : (n : ℕ) → Begins t p others → AtMost voc t p n → Seen-is voc t p (mark-seen (voc .marks) t p n)
   unfolding mark-seen
-  mark-is zero i b e m =
-      let z : length longer-first ≡ i = omega arith in
-      no-form t p longer-first longer-first-order (b .0) (b .1) (b .2) (rw z m)
-  mark-is (suc n) i b e m =
-      choose (Seen-is t p) (stands t p (spelling-of (row longer-first i))) _ _
-      (λ x. first-mark-piece t p longer-first longer-first-order i (omega arith) h (b .1) (b .2) m
-      (stands-yes t p (spelling-of (row longer-first i)) x))
-      (λ x. mark-is n (i + 1) b (omega arith) (missed-more longer-first t p i m (stands-no t p (spelling-of (row longer-first i)) x)))
+  mark-is zero b f = no-form laws t p b f
+  mark-is (suc n) b f =
+      let z : n + 1 ≡ suc n = add-one n in
+      let f′ : AtMost voc t p (n + 1) = rw z f in
+      choose (Seen-is voc t p) (leb (p + suc n) (length t)) _ _
+      (λ x. rw z at (mark-or-is n (mark-seen (voc .marks) t p n) b f′ (omega (arith, leb-true (p + suc n) (length t) x))
+      (mark-is n b) (spelled (voc .marks) (slice p (p + (n + 1)) t)) refl))
+      (λ x. mark-is n b (at-most-less f′ (λ y. absurd (omega (arith, leb-false (p + suc n) (length t) x)))))
 
-  piece-is : (s : Sort) → Begins t p s → Seen-is t p (piece-of t p s)
+  piece-is : (s : Sort) → Begins t p s → Seen-is voc t p (piece-of voc t p s)
   unfolding piece-of name-seen number-seen
-  piece-is blanks b = blank-piece t p h b
-  piece-is letters b = name-piece t p (run-from is-name-byte t p) h b (run is-name-byte t p (omega arith))
-  piece-is digits b = number-piece t p (run-from is-digit t p) h b (run is-digit t p (omega arith))
-  piece-is lines b = line-piece t p (run-from is-in-line t (p + 2)) b (run is-in-line t (p + 2) (two-inside t p 47 47 b (omega arith)))
+  piece-is blanks b = blank-piece laws t p h b
+  piece-is letters b = name-piece laws t p (run-from is-name-byte t p) h b (run is-name-byte t p (omega arith))
+  piece-is digits b = number-piece laws t p (run-from is-digit t p) h b (run is-digit t p (omega arith))
+  piece-is lines b =
+      line-piece laws t p (run-from is-in-line t (p + 2)) b (run is-in-line t (p + 2) (two-inside t p 47 47 b (omega arith)))
   piece-is opens b =
       comment-is (close-end t (length t) 1 (p + 2)) b (close-ends t p (length t) 1 (p + 2) (omega arith) (depth-start t p b))
-  piece-is others b = mark-is (length longer-first) 0 b (omega arith) (missed-none longer-first t p)
+  piece-is others b = mark-is (most (voc .marks)) b (at-most voc t p)
 
 -- ---- the whole text
 
@@ -160,9 +178,9 @@ pub data Result : Type 0 where
   flawed : Flaw → ℕ → Result
 
 -- what such an answer says
-abbrev pub Says : List ℕ → Result → Type 0
-Says t (split ts) = Splits t ts
-Says t (flawed f p) = Flawed t f p
+abbrev pub Says : Vocabulary → List ℕ → Result → Type 0
+Says voc t (split ts) = Splits voc t ts
+Says voc t (flawed f p) = Flawed voc t f p
 
 -- what comes of the piece at p, with the tokens ts before it
 settle : List ℕ → ℕ → List Token → (ℕ → List Token → Result) → Seen → Result
@@ -175,76 +193,79 @@ settle t p ts go (seen q (token k v)) =
       | false ↦ elim (eqb (length ts) TOKENS) [ true ↦ flawed many-tokens p | false ↦ go q (ts ++ (token-of t p q k v ∷ [])) ]
     ]
 
--- the split from p on, of at most n pieces
-scan-from : List ℕ → ℕ → ℕ → List Token → Result
-scan-from t zero p ts = split ts
-scan-from t (suc n) p ts =
-    elim (ltb p (length t)) [ true ↦ settle t p ts (λ q us. scan-from t n q us) (piece-of t p (sort t p)) | false ↦ split ts ]
+module _ (voc : Vocabulary) where
+  -- the split from p on, of at most n pieces
+  scan-from : List ℕ → ℕ → ℕ → List Token → Result
+  scan-from t zero p ts = split ts
+  scan-from t (suc n) p ts =
+      elim (ltb p (length t)) [ true ↦ settle t p ts (λ q us. scan-from t n q us) (piece-of voc t p (sort t p)) | false ↦ split ts ]
 
--- the answer for a text; whoever unfolds it unfolds all that it computes with
-unfoldable pub scan : List ℕ → Result
-unfolding scan-from settle piece-of name-seen number-seen comment-seen mark-seen close-end run-from run-end sort stands
-    is-blank is-letter is-digit is-name-byte is-in-line between word-kind spelled same number-from
-scan t = scan-from t (length t) 0 []
+  -- the answer for a text; whoever unfolds it unfolds all that it computes with
+  unfoldable pub scan : List ℕ → Result
+  unfolding scan-from settle piece-of name-seen number-seen comment-seen mark-seen mark-or most close-end run-from run-end
+      sort stands is-blank is-letter is-digit is-name-byte is-in-line between word-kind spelled same number-from
+  scan t = scan-from t (length t) 0 []
 
-settled : (t : List ℕ) (p : ℕ) (ts : List Token) (go : ℕ → List Token → Result) → p < length t → Reaches t p ts → length ts ≤ TOKENS
-    → ((q : ℕ) (us : List Token) → (p < q) × (q ≤ length t) → Reaches t q us → length us ≤ TOKENS → Says t (go q us))
-    → (s : Seen) → Seen-is t p s → Says t (settle t p ts go s)
+settled : {voc : Vocabulary} (t : List ℕ) (p : ℕ) (ts : List Token) (go : ℕ → List Token → Result)
+    → p < length t → Reaches voc t p ts → length ts ≤ TOKENS
+    → ((q : ℕ) (us : List Token) → (p < q) × (q ≤ length t) → Reaches voc t q us → length us ≤ TOKENS → Says voc t (go q us))
+    → (s : Seen) → Seen-is voc t p s → Says voc t (settle t p ts go s)
 unfolding settle
 settled t p ts go h r l f unseen x = record { tokens = ts; before = r; few = l; here = strange h x }
 settled t p ts go h r l f (seen q space) x = f q ts (form-bounds t p q space (x .form)) (skip r x) l
 settled t p ts go h r l f (seen q unclosed) x = record { tokens = ts; before = r; few = l; here = opened x }
-settled t p ts go h r l f (seen q (token k v)) x =
-    choose (Says t) (ltb LARGEST v) _ _
+settled {voc} t p ts go h r l f (seen q (token k v)) x =
+    choose (Says voc t) (ltb LARGEST v) _ _
     (λ e. record { tokens = ts; before = r; few = l; here = large x (ltb-true LARGEST v e) })
-    (λ e. choose (Says t) (eqb (length ts) TOKENS) _ _
+    (λ e. choose (Says voc t) (eqb (length ts) TOKENS) _ _
     (λ g. record { tokens = ts; before = r; few = l; here = many x (ltb-false LARGEST v e) (eqb-true (length ts) TOKENS g) })
     (λ g. f q (ts ++ (token-of t p q k v ∷ [])) (form-bounds t p q (token k v) (x .form)) (next r x (ltb-false LARGEST v e) refl)
     (let z = eqb-false (length ts) TOKENS g in simp length-append (omega arith))))
 
-scanned-from : (t : List ℕ) (n p : ℕ) (ts : List Token) → p ≤ length t → length t ≤ p + n → Reaches t p ts → length ts ≤ TOKENS
-    → Says t (scan-from t n p ts)
-unfolding scan-from
-scanned-from t zero p ts a b r l =
-    let e : p ≡ length t = omega arith in
-    record { whole = subst (λ q. Reaches t q ts) e r; few = l }
-scanned-from t (suc n) p ts a b r l =
-    choose (Says t) (ltb p (length t)) _ _
-    (λ g. let h = ltb-true p (length t) g in
-    settled t p ts (λ q us. scan-from t n q us) h r l (λ q us z s k. scanned-from t n q us (z .1) (omega (arith, z .0)) s k)
-    (piece-of t p (sort t p)) (piece-is t p h (sort t p) (begins t p)))
-    (λ g. let e : p ≡ length t = omega (arith, ltb-false p (length t) g) in
-    record { whole = subst (λ q. Reaches t q ts) e r; few = l })
+module _ {voc : Vocabulary} (laws : Laws voc) where
+  scanned-from : (t : List ℕ) (n p : ℕ) (ts : List Token) → p ≤ length t → length t ≤ p + n → Reaches voc t p ts → length ts ≤ TOKENS
+      → Says voc t (scan-from voc t n p ts)
+  unfolding scan-from
+  scanned-from t zero p ts a b r l =
+      let e : p ≡ length t = omega arith in
+      record { whole = subst (λ q. Reaches voc t q ts) e r; few = l }
+  scanned-from t (suc n) p ts a b r l =
+      choose (Says voc t) (ltb p (length t)) _ _
+      (λ g. let h = ltb-true p (length t) g in
+      settled t p ts (λ q us. scan-from voc t n q us) h r l (λ q us z s k. scanned-from t n q us (z .1) (omega (arith, z .0)) s k)
+      (piece-of voc t p (sort t p)) (piece-is laws t p h (sort t p) (begins t p)))
+      (λ g. let e : p ≡ length t = omega (arith, ltb-false p (length t) g) in
+      record { whole = subst (λ q. Reaches voc t q ts) e r; few = l })
 
--- what the scan answers is so
-pub scanned : (t : List ℕ) → Says t (scan t)
-unfolding scan
-scanned t = scanned-from t (length t) 0 [] (omega arith) (omega arith) start (omega arith)
+  -- what the scan answers is so
+  pub scanned : (t : List ℕ) → Says voc t (scan voc t)
+  unfolding scan
+  scanned t = scanned-from t (length t) 0 [] (omega arith) (omega arith) start (omega arith)
 
--- so what it computes to is so
-pub computed : (t : List ℕ) (r : Result) → scan t ≡ r → Says t r
-computed t r e = subst (Says t) e (scanned t)
+  -- so what it computes to is so
+  pub computed : (t : List ℕ) (r : Result) → scan voc t ≡ r → Says voc t r
+  computed t r e = subst (Says voc t) e (scanned t)
 
--- a split of the text is the answer
-pub split-scanned : {t : List ℕ} {ts : List Token} → Splits t ts → scan t ≡ split ts
-split-scanned {t} {ts} s = go (scan t) (scanned t)
-  where
-    go : (r : Result) → Says t r → r ≡ split ts
-    go (split us) x = ap split (one-split x s)
-    go (flawed f p) x = absurd (not-both s x)
+  -- a split of the text is the answer
+  pub split-scanned : {t : List ℕ} {ts : List Token} → Splits voc t ts → scan voc t ≡ split ts
+  split-scanned {t} {ts} s = go (scan voc t) (scanned t)
+    where
+      go : (r : Result) → Says voc t r → r ≡ split ts
+      go (split us) x = ap split (one-split laws x s)
+      go (flawed f p) x = absurd (not-both laws s x)
 
--- a flaw of the text is the answer
-pub flaw-scanned : {t : List ℕ} {f : Flaw} {p : ℕ} → Flawed t f p → scan t ≡ flawed f p
-flaw-scanned {t} {f} {p} s = go (scan t) (scanned t)
-  where
-    go : (r : Result) → Says t r → r ≡ flawed f p
-    go (split us) x = absurd (not-both x s)
-    go (flawed g q) x = let z = one-flaw x s in ap₂ flawed (z .0) (z .1)
+  -- a flaw of the text is the answer
+  pub flaw-scanned : {t : List ℕ} {f : Flaw} {p : ℕ} → Flawed voc t f p → scan voc t ≡ flawed f p
+  flaw-scanned {t} {f} {p} s = go (scan voc t) (scanned t)
+    where
+      go : (r : Result) → Says voc t r → r ≡ flawed f p
+      go (split us) x = absurd (not-both laws x s)
+      go (flawed g q) x = let z = one-flaw laws x s in ap₂ flawed (z .0) (z .1)
 
--- every text has a split or a flaw
-pub split-or-flaw : (t : List ℕ) → ((ts : List Token) × Splits t ts) ⊎ ((f : Flaw) × (p : ℕ) × Flawed t f p)
-split-or-flaw t = go (scan t) (scanned t)
-  where
-    go : (r : Result) → Says t r → ((ts : List Token) × Splits t ts) ⊎ ((f : Flaw) × (p : ℕ) × Flawed t f p)
-    go (split ts) s = inl (ts, s)
-    go (flawed f p) s = inr (f, p, s)
+  -- every text has a split or a flaw
+  pub split-or-flaw : (t : List ℕ) → ((ts : List Token) × Splits voc t ts) ⊎ ((f : Flaw) × (p : ℕ) × Flawed voc t f p)
+  split-or-flaw t = go (scan voc t) (scanned t)
+    where
+      go : (r : Result) → Says voc t r → ((ts : List Token) × Splits voc t ts) ⊎ ((f : Flaw) × (p : ℕ) × Flawed voc t f p)
+      go (split ts) s = inl (ts, s)
+      go (flawed f p) s = inr (f, p, s)

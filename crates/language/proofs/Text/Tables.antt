@@ -1,17 +1,17 @@
 -- Tables of spellings: what each row passes is true of every spelling that the table gives a kind, and a spelling with a
 -- kind has a row.
-use borrow.Author.Tests.{eqb-true}
+use borrow.Author.Tests.{eqb-true, ltb-true}
 use lib.Dec.{eqb}
 use lib.ListN.{length, getD}
-use mathlib.Core.Bool.{Bool, true, _&&_, false≢true}
+use mathlib.Core.Bool.{Bool, true, false, _&&_, false≢true}
 use mathlib.Core.List.{List, [], _∷_}
 use mathlib.Core.Logic.{⊎-elim}
-use mathlib.Core.Option.{some, Option·none-ne-some}
-use mathlib.Core.Path.{_≡_, refl}
+use mathlib.Core.Option.{Option, none, some, Option·none-ne-some}
+use mathlib.Core.Path.{_≡_, refl, ap}
 use native.Mathlib.Omega.{arith}
-use Prim.Native.Nat.{ℕ, zero, suc, _<_}
+use Prim.Native.Nat.{ℕ, zero, suc, _≤_, _<_, max}
 use Prim.Native.String.{String}
-use Rattle.language.proofs.Text.Choices.{outcome, and-both}
+use Rattle.language.proofs.Text.Choices.{outcome, clash, and-both}
 use Rattle.language.specs.Tokens.{Spelling, spell, same, Row, spelled}
 use Rattle.language.specs.Tokens.Row.{_is_}
 
@@ -86,3 +86,27 @@ pub passes : (f : Spelling → Bool) (rows : Table) (s : Spelling) (k : ℕ)
 passes f rows s k e h =
     let z = found rows s k h in
     rw (z .spells) at (every-row (λ r. f (spelling-of r)) rows e (z .at) (z .inside))
+
+-- so one that fails what each row's passes has no kind
+pub no-kind : (f : Spelling → Bool) (rows : Table) (s : Spelling)
+    → every (λ r. f (spelling-of r)) rows ≡ true → f s ≡ false → spelled rows s ≡ none
+no-kind f rows s e h = go (spelled rows s) refl
+  where
+    go : (o : Option ℕ) → spelled rows s ≡ o → o ≡ none
+    go none x = refl
+    go (some k) x = absurd (clash (passes f rows s k e x) h)
+
+-- the most bytes that a row has
+unfoldable pub most : Table → ℕ
+most [] = 0
+most (r ∷ rows) = max (size-of r) (most rows)
+
+most-row : (rows : Table) (i : ℕ) → i < length rows → size-of (row rows i) ≤ most rows
+unfolding most
+most-row [] i h = absurd (omega arith)
+most-row (r ∷ rows) zero h = omega arith
+most-row (r ∷ rows) (suc i) h = omega (arith, most-row rows i (omega arith))
+
+-- so no spelling with a kind is longer
+pub most-bytes : (rows : Table) (s : Spelling) (k : ℕ) → spelled rows s ≡ some k → length s ≤ most rows
+most-bytes rows s k e = let z = found rows s k e in omega (arith, ap length (z .spells), most-row rows (z .at) (z .inside))

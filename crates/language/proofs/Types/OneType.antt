@@ -5,9 +5,9 @@ use Prim.Native.Nat.{ℕ}
 use Rattle.language.specs.Trees.{Ty, Exp, Scope, Program}
 use Rattle.language.specs.Types.{Sig, Typed, HasType}
 use Rattle.language.specs.Faults.{Reason, HasFault}
-use Rattle.language.proofs.Types.Verdict.{Res, ok, bad, Says, says, faults}
-use Rattle.language.proofs.Types.CheckerSound.{check-sound}
-use Rattle.language.proofs.Types.CheckerComplete.{infer-complete, check-complete, check-fault}
+use Rattle.language.proofs.Executable.Checks.{Res, ok, bad, Says, says, faults}
+use Rattle.language.proofs.Executable.CheckerSound.{check-sound}
+use Rattle.language.proofs.Executable.CheckerComplete.{infer-complete, check-complete, check-fault}
 
 abbrev IsOk : Res Ty → Type 0
 IsOk (ok t) = Unit {0}

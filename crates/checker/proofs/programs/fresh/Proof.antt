@@ -13,8 +13,8 @@ returns c = many-fresh (c .before .before .before .pre) (c .before .word .ensure
 add-named : tie.Need-add-named
 add-named c = let h = def-inside (c .before .before .before .pre) (c .before .word .ensures) in omega arith
 
-name-of-requires : tie.Need-name-of-requires
-name-of-requires c κs = (c .before .before .before .pre .long, c .before .before .before .pre .heads _ (omega arith))
+name-requires : tie.Need-name-requires
+name-requires c κs = (c .before .before .before .pre .long, c .before .before .before .pre .heads _ (omega arith))
 
 called-requires : tie.Need-called-requires
 called-requires c κs = (c .before .before .before .before .pre .long, λ j h. c .before .before .before .before .pre .heads j (omega arith))
@@ -29,13 +29,13 @@ enum-told-3 : tie.Need-enum-told-3
 enum-told-3 c = search needs
 
 returns-2 : tie.Need-returns-2
-returns-2 c = function-fresh (c .before .before .before .before .before .before .before .pre) (c .before .before .before .before .before .word .ensures) (c .before .before .before .before .if1 .left) (c .before .before .before .name-of .ensures) (c .before .before .called .ensures) (c .enum-told .given .1)
+returns-2 c = function-fresh (c .before .before .before .before .before .before .before .pre) (c .before .before .before .before .before .word .ensures) (c .before .before .before .before .if1 .left) (c .before .before .before .name .ensures) (c .before .before .called .ensures) (c .enum-told .given .1)
 
 returns-3 : tie.Need-returns-3
-returns-3 c = putchar-fresh (c .before .before .before .before .before .before .before .pre) (c .before .before .before .before .before .word .ensures) (c .before .before .before .before .if1 .left) (c .before .before .before .name-of .ensures) (c .before .before .called .ensures) (c .enum-told2 .given .1)
+returns-3 c = putchar-fresh (c .before .before .before .before .before .before .before .pre) (c .before .before .before .before .before .word .ensures) (c .before .before .before .before .if1 .left) (c .before .before .before .name .ensures) (c .before .before .called .ensures) (c .enum-told2 .given .1)
 
 returns-4 : tie.Need-returns-4
-returns-4 c = nobody-fresh (c .before .before .before .before .before .before .before .pre) (c .before .before .before .before .before .word .ensures) (c .before .before .before .before .if1 .left) (c .before .before .before .name-of .ensures) (c .before .before .called .ensures) (c .enum-told3 .given .1)
+returns-4 c = nobody-fresh (c .before .before .before .before .before .before .before .pre) (c .before .before .before .before .before .word .ensures) (c .before .before .before .before .if1 .left) (c .before .before .before .name .ensures) (c .before .before .called .ensures) (c .enum-told3 .given .1)
 
 pub fresh-spec : {M : Type 1} → statement M
 fresh-spec =
@@ -44,7 +44,7 @@ fresh-spec =
     word-requires
     returns
     add-named
-    name-of-requires
+    name-requires
     called-requires
     enum-told
     enum-told-2

@@ -4,7 +4,7 @@ use Prim.Native.Nat.{ℕ, _+_, _*_, _-_, _<_}
 use borrow.Fn.Kinds.{In}
 use borrow.Fn.PlainCycle.{Measures, is, falls, and}
 use Rattle.layout.proofs.rows.put.Reads as put-reads
-use Rattle.layout.proofs.tokens.kind.Reads as kind-reads
+use Rattle.layout.proofs.token.kind.Reads as kind-reads
 use Rattle.phrases.proofs.items.if_else.Reads as items·if-else
 use Rattle.phrases.proofs.items.if_else.Kinds as items·if-else-kinds
 use Rattle.phrases.proofs.+items-if_else+items-item+items-let_in+items-seq+items-until+items-while_block+names-arguments+names-name_or_call+operands-assign+operands-atom+operands-rest+operands-tier+operands-un.Lts-items-if_else as items·if-else-lts

@@ -2,7 +2,7 @@
 use mathlib.Core.Path.{refl, ap, sym}
 use borrow.Author.Tests.{ne-eqb}
 use Rattle.language.specs.Tokens.{entry, OR, AND, LESS, EQUAL, PLUS, MINUS, STAR, SLASH}
-use Rattle.language.proofs.Grammar.Climbing.{tightness}
+use Rattle.language.proofs.Executable.Climbing.{tightness}
 use Rattle.phrases.proofs.operators.tightness.Statement.{statement}
 use Rattle.phrases.proofs.operators.tightness.Tie as tie
 

@@ -1,7 +1,7 @@
 use Rattle.rules.proofs.TellLaws.{type-is, fault-is}
 use Rattle.rules.proofs.OperatorLaws.{is-type, isnt-type, if-is, if-not}
 use Rattle.language.specs.Trees.{Ty-discrete}
-use Rattle.language.proofs.Types.Verdict.{told-some, told-none}
+use Rattle.language.proofs.Executable.Checks.{told-some, told-none}
 use Rattle.rules.proofs.operators.alike.Statement.{statement}
 use Rattle.rules.proofs.operators.alike.Tie as tie
 

@@ -3,8 +3,8 @@ use Rattle.rules.proofs.TellLaws.{type-is, fault-is}
 use Rattle.rules.proofs.OperatorLaws.{is-type, isnt-type}
 use Rattle.language.specs.Trees.{bool}
 use Rattle.language.specs.Meaning.{type-number}
-use Rattle.language.proofs.Types.Verdict.{after-ok, need-yes, need-no}
-use Rattle.language.proofs.Types.Checker.{infer}
+use Rattle.language.proofs.Executable.Checks.{after-ok, need-yes, need-no}
+use Rattle.language.proofs.Executable.Checker.{infer}
 use Rattle.rules.proofs.operators.branches.Statement.{statement}
 use Rattle.rules.proofs.operators.branches.Tie as tie
 

@@ -1,5 +1,5 @@
 use mathlib.Core.Path.{refl, sym, _∙_}
-use Rattle.language.proofs.Types.Verdict.{need-yes, need-no}
+use Rattle.language.proofs.Executable.Checks.{need-yes, need-no}
 use Rattle.rules.proofs.TellLaws.{type-is, fault-is}
 use Rattle.rules.proofs.operators.matched.Statement.{statement}
 use Rattle.rules.proofs.operators.matched.Tie as tie

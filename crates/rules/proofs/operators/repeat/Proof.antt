@@ -3,7 +3,7 @@ use Rattle.rules.proofs.TellLaws.{type-is, fault-is}
 use Rattle.rules.proofs.OperatorLaws.{is-type, isnt-type}
 use Rattle.language.specs.Trees.{bool, unit}
 use Rattle.language.specs.Meaning.{type-number}
-use Rattle.language.proofs.Types.Verdict.{need-yes, need-no}
+use Rattle.language.proofs.Executable.Checks.{need-yes, need-no}
 use Rattle.rules.proofs.operators.repeat.Statement.{statement}
 use Rattle.rules.proofs.operators.repeat.Tie as tie
 

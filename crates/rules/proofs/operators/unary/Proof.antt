@@ -4,7 +4,7 @@ use Rattle.rules.proofs.OperatorLaws.{prefixed, prefixed-new, fetch-som
 use Rattle.language.specs.Trees.{int, bool, minus, not, fetch}
 use Rattle.language.specs.Faults.{unsuited}
 use Rattle.language.specs.Meaning.{type-number}
-use Rattle.language.proofs.Types.Operators.{unop}
+use Rattle.language.proofs.Executable.Operators.{unop}
 use Rattle.layout.specs.Rows.{unary-kind}
 use borrow.Author.Needs.{needs}
 use Rattle.rules.proofs.operators.unary.Statement.{statement}

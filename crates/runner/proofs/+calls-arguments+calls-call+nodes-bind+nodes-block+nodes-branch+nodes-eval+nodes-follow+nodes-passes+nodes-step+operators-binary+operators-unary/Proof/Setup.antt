@@ -3,6 +3,7 @@
 use Prim.Native.Nat.{_+_, _*_}
 use Prim.Native.Nat.{ℕ, _<_}
 use borrow.Fn.Kinds.{In}
+use Rattle.language.specs.Sizes.{NODES}
 use borrow.Fn.PlainCycle.{Measures, is, falls, and}
 use Rattle.runner.proofs.calls.arguments.Reads as calls·arguments
 use Rattle.runner.proofs.calls.arguments.Kinds as calls·arguments-kinds
@@ -55,40 +56,49 @@ use Rattle.machine.proofs.cells.free.Reads as free-reads
 use Rattle.machine.proofs.state.exhausted.Reads as exhausted-reads
 use Rattle.machine.proofs.state.stuck.Reads as stuck-reads
 
--- One more node that may be active is worth more than all rows of a call's arguments; a node that has begun is worth more
--- than these, too, and `step`, which hands it on, most.
+-- A node that has begun is worth more than all rows of a call's arguments, `step`, which hands it on, still more, and one more
+-- node that may be active most.
+abbrev begun : ℕ
+begun = NODES + 1
+
+abbrev stepping : ℕ
+stepping = NODES + 2
+
+abbrev deeper : ℕ
+deeper = NODES + 3
+
 abbrev pub μ-calls·arguments : Measures 3 calls·arguments-kinds.ps ℕ
-μ-calls·arguments κs a = a .1 .1 .1 .1 .1 .1 .0 * 2048 + a .1 .1 .1 .0 + 1
+μ-calls·arguments κs a = a .1 .1 .1 .1 .1 .1 .0 * deeper + a .1 .1 .1 .0 + 1
 
 abbrev pub μ-calls·call : Measures 3 calls·call-kinds.ps ℕ
-μ-calls·call κs a = a .1 .1 .1 .1 .0 * 2048 + 1100
+μ-calls·call κs a = a .1 .1 .1 .1 .0 * deeper + begun
 
 abbrev pub μ-nodes·bind : Measures 3 nodes·bind-kinds.ps ℕ
-μ-nodes·bind κs a = a .1 .1 .1 .1 .0 * 2048 + 1100
+μ-nodes·bind κs a = a .1 .1 .1 .1 .0 * deeper + begun
 
 abbrev pub μ-nodes·block : Measures 3 nodes·block-kinds.ps ℕ
-μ-nodes·block κs a = a .1 .1 .1 .1 .0 * 2048 + 1100
+μ-nodes·block κs a = a .1 .1 .1 .1 .0 * deeper + begun
 
 abbrev pub μ-nodes·branch : Measures 3 nodes·branch-kinds.ps ℕ
-μ-nodes·branch κs a = a .1 .1 .1 .1 .0 * 2048 + 1100
+μ-nodes·branch κs a = a .1 .1 .1 .1 .0 * deeper + begun
 
 abbrev pub μ-nodes·eval : Measures 3 nodes·eval-kinds.ps ℕ
-μ-nodes·eval κs a = a .1 .1 .1 .1 .0 * 2048
+μ-nodes·eval κs a = a .1 .1 .1 .1 .0 * deeper
 
 abbrev pub μ-nodes·follow : Measures 3 nodes·follow-kinds.ps ℕ
-μ-nodes·follow κs a = a .1 .1 .1 .1 .0 * 2048 + 1100
+μ-nodes·follow κs a = a .1 .1 .1 .1 .0 * deeper + begun
 
 abbrev pub μ-nodes·passes : Measures 3 nodes·passes-kinds.ps ℕ
-μ-nodes·passes κs a = a .1 .1 .1 .1 .0 * 2048 + 1100
+μ-nodes·passes κs a = a .1 .1 .1 .1 .0 * deeper + begun
 
 abbrev pub μ-nodes·step : Measures 3 nodes·step-kinds.ps ℕ
-μ-nodes·step κs a = a .1 .1 .1 .1 .0 * 2048 + 1200
+μ-nodes·step κs a = a .1 .1 .1 .1 .0 * deeper + stepping
 
 abbrev pub μ-operators·binary : Measures 3 operators·binary-kinds.ps ℕ
-μ-operators·binary κs a = a .1 .1 .1 .1 .0 * 2048 + 1100
+μ-operators·binary κs a = a .1 .1 .1 .1 .0 * deeper + begun
 
 abbrev pub μ-operators·unary : Measures 3 operators·unary-kinds.ps ℕ
-μ-operators·unary κs a = a .1 .1 .1 .1 .0 * 2048 + 1100
+μ-operators·unary κs a = a .1 .1 .1 .1 .0 * deeper + begun
 
 abbrev pub calls·arguments-at : ℕ → In 3 calls·arguments-kinds.ps
 calls·arguments-at t =

@@ -4,7 +4,7 @@ use lib.Seq.{slice, length-slice}
 use mathlib.Core.Path.{sym, _∙_}
 use native.Mathlib.Omega.{arith}
 use Prim.Native.Nat.{_-_}
-use Rattle.tokens.proofs.Compared.{Alike, alike-none, alike-more, alike-less, alike-all, length-same}
+use Rattle.tokens.proofs.Compared.{Alike, alike-none, alike-within, alike-more, alike-less, alike-all, length-same}
 use Rattle.tokens.proofs.names.alike.Statement.{statement}
 use Rattle.tokens.proofs.names.alike.Tie as tie
 
@@ -34,7 +34,7 @@ sub-loop : tie.Need-sub-loop Inv-loop μ-loop
 sub-loop c = search needs
 
 add-byte : tie.Need-add-byte Inv-loop μ-loop
-add-byte c = omega (arith, c .before .loop .inv .within, c .before .before .before .before .pre, c .before .before .before .before .good)
+add-byte c = omega (arith, alike-within (c .before .loop .inv), c .before .before .before .before .pre, c .before .before .before .before .good)
 
 byte-requires : tie.Need-byte-requires Inv-loop μ-loop
 byte-requires c κs = search needs
@@ -43,7 +43,7 @@ add-byte-2 : tie.Need-add-byte-2 Inv-loop μ-loop
 add-byte-2 c =
     omega (
       arith,
-      c .before .before .loop .inv .within,
+      alike-within (c .before .before .loop .inv),
       c .before .before .loop .inv .many,
       c .before .before .before .before .before .pre,
       c .before .before .before .before .before .good,

@@ -6,6 +6,7 @@ use mathlib.Core.List.{List}
 use mathlib.Core.Path.{_≡_, sym, _∙_, ap, subst}
 use native.Mathlib.Omega.{arith}
 use Prim.Native.Nat.{ℕ}
+use Rattle.language.proofs.Text.Marks.{laws-1}
 use Rattle.language.proofs.Text.OnePiece.{form-bounds}
 use Rattle.language.proofs.Text.Pieces.{blank-piece, name-piece, line-piece, comment-piece, open-piece}
 use Rattle.language.proofs.Text.Places.Sort.{others}
@@ -13,7 +14,7 @@ use Rattle.language.proofs.Text.Places.{Begins}
 use Rattle.language.proofs.Text.Spellings.{stands-yes, stands-no, two-inside}
 use Rattle.language.specs.Text.Content.{token}
 use Rattle.language.specs.Text.{byte, is-blank, is-letter, is-digit, Piece, Opens, Stands}
-use Rattle.language.specs.Tokens.{spell, NUMBER}
+use Rattle.language.specs.Tokens.{EDITION-1, spell, NUMBER}
 use Rattle.tokens.proofs.pieces.piece_at.Statement.{statement}
 use Rattle.tokens.proofs.pieces.piece_at.Tie as tie
 use Rattle.tokens.specs.Found.{IsNumber, IsClose, IsMark}
@@ -98,7 +99,7 @@ add-t13 c = search needs
 returns : tie.Need-returns
 returns c =
     let s = c .before .before .before .before in
-    blank-piece (text s) (place s) (s .pre)
+    blank-piece laws-1 (text s) (place s) (s .pre)
     (known is-blank (c .before .before .byte .ensures) (c .before .is-blank .ensures) (c .if1 .taken))
 
 is-letter-requires : tie.Need-is-letter-requires
@@ -119,8 +120,8 @@ returns-2 c =
     let letter =
     known is-letter (c .before .before .before .before .before .before .byte .ensures) (c .before .before .before .is-letter .ensures)
     (c .before .before .if2 .taken) in
-    let piece = name-piece t p q (s .pre) letter (c .before .name-end .ensures) in
-    (subst (λ k. Piece t p q (token k 0)) (sym (c .word .ensures)) piece, omega arith)
+    let piece = name-piece laws-1 t p q (s .pre) letter (c .before .name-end .ensures) in
+    (subst (λ k. Piece EDITION-1 t p q (token k 0)) (sym (c .word .ensures)) piece, omega arith)
 
 is-digit-requires : tie.Need-is-digit-requires
 is-digit-requires c κs = search needs
@@ -174,7 +175,7 @@ returns-5 c =
     let s = start3 (c .before .before .before .before) in
     let t = text s in
     let p = place s in
-    line-piece t p (c .line-end .result) (line (c .before)) (c .line-end .ensures)
+    line-piece laws-1 t p (c .line-end .result) (line (c .before)) (c .line-end .ensures)
 
 slice-aggregate-stands-at-2 : tie.Need-slice-aggregate-stands-at-2
 slice-aggregate-stands-at-2 c = search needs
@@ -196,7 +197,7 @@ returns-6 c =
     let s = start4 (c .before .before .before .before .before .before .before) in
     let t = text s in
     let p = place s in
-    comment-piece t p _ (subst (IsClose t p) (c .before .end2 .given .1) (c .before .before .before .comment-end .ensures))
+    comment-piece laws-1 t p _ (subst (IsClose t p) (c .before .end2 .given .1) (c .before .before .before .comment-end .ensures))
 
 returns-7 : tie.Need-returns-7
 returns-7 c =
@@ -204,7 +205,7 @@ returns-7 c =
     let t = text s in
     let p = place s in
     let never = subst (IsClose t p) (c .enum-told2 .given .1) (c .before .before .comment-end .ensures) in
-    (length t, open-piece t p (opens (c .before .before .before)) never)
+    (length t, open-piece laws-1 t p (opens (c .before .before .before)) never)
 
 mark-at-requires : tie.Need-mark-at-requires
 mark-at-requires c κs = (start5 c .pre, other c)

@@ -1,10 +1,10 @@
 -- `type_word` compares the name with the rest of the reserved words in the order of their table.
-mod Passed
+use borrow.Author.Needs.{needs}
+use lib.ListN.{drop}
 use lib.Dec.{lit<}
-use mathlib.Core.Path.{refl}
-use Rattle.tokens.proofs.WordRows.{here, none}
-use Rattle.tokens.proofs.words.type_word.Proof.Passed.{passed0, passed1, passed2, passed3, passed4, passed5, passed6, passed7}
-use Rattle.tokens.proofs.words.type_word.Proof.Passed.{start1, start2, start3, start4, start5, start6}
+use mathlib.Core.Path.{refl, sym, _∙_}
+use Rattle.language.specs.Tokens.{spelled, words}
+use Rattle.tokens.proofs.WordRows.{rest-own, here, left}
 use Rattle.tokens.proofs.words.type_word.Statement.{statement}
 use Rattle.tokens.proofs.words.type_word.Tie as tie
 
@@ -12,67 +12,82 @@ slice-aggregate-spells : tie.Need-slice-aggregate-spells
 slice-aggregate-spells c = refl
 
 spells-requires : tie.Need-spells-requires
-spells-requires c κs = (c .before .before .pre .0, c .before .before .pre .1)
+spells-requires c κs = search needs
 
 returns : tie.Need-returns
-returns c = here 11 (lit< tt) (passed0 (c .before .before .before .before)) (c .before .spells .ensures) (c .if1 .taken)
+returns c = here (drop 11 words) rest-own 0 (lit< tt) _ (c .before .spells .ensures) (c .if1 .taken)
 
 slice-aggregate-spells-2 : tie.Need-slice-aggregate-spells-2
 slice-aggregate-spells-2 c = refl
 
 spells-requires-2 : tie.Need-spells-requires-2
-spells-requires-2 c κs = (start1 (c .before) .pre .0, start1 (c .before) .pre .1)
+spells-requires-2 c κs = search needs
 
 returns-2 : tie.Need-returns-2
-returns-2 c = here 12 (lit< tt) (passed1 (c .before .before .before)) (c .before .spells2 .ensures) (c .if2 .taken)
+returns-2 c = here (drop 11 words) rest-own 1 (lit< tt) _ (c .before .spells2 .ensures) (c .if2 .taken)
 
 slice-aggregate-spells-3 : tie.Need-slice-aggregate-spells-3
 slice-aggregate-spells-3 c = refl
 
 spells-requires-3 : tie.Need-spells-requires-3
-spells-requires-3 c κs = (start2 (c .before) .pre .0, start2 (c .before) .pre .1)
+spells-requires-3 c κs = search needs
 
 returns-3 : tie.Need-returns-3
-returns-3 c = here 13 (lit< tt) (passed2 (c .before .before .before)) (c .before .spells3 .ensures) (c .if3 .taken)
+returns-3 c = here (drop 11 words) rest-own 2 (lit< tt) _ (c .before .spells3 .ensures) (c .if3 .taken)
 
 slice-aggregate-spells-4 : tie.Need-slice-aggregate-spells-4
 slice-aggregate-spells-4 c = refl
 
 spells-requires-4 : tie.Need-spells-requires-4
-spells-requires-4 c κs = (start3 (c .before) .pre .0, start3 (c .before) .pre .1)
+spells-requires-4 c κs = search needs
 
 returns-4 : tie.Need-returns-4
-returns-4 c = here 14 (lit< tt) (passed3 (c .before .before .before)) (c .before .spells4 .ensures) (c .if4 .taken)
+returns-4 c = here (drop 11 words) rest-own 3 (lit< tt) _ (c .before .spells4 .ensures) (c .if4 .taken)
 
 slice-aggregate-spells-5 : tie.Need-slice-aggregate-spells-5
 slice-aggregate-spells-5 c = refl
 
 spells-requires-5 : tie.Need-spells-requires-5
-spells-requires-5 c κs = (start4 (c .before) .pre .0, start4 (c .before) .pre .1)
+spells-requires-5 c κs = search needs
 
 returns-5 : tie.Need-returns-5
-returns-5 c = here 15 (lit< tt) (passed4 (c .before .before .before)) (c .before .spells5 .ensures) (c .if5 .taken)
+returns-5 c = here (drop 11 words) rest-own 4 (lit< tt) _ (c .before .spells5 .ensures) (c .if5 .taken)
 
 slice-aggregate-spells-6 : tie.Need-slice-aggregate-spells-6
 slice-aggregate-spells-6 c = refl
 
 spells-requires-6 : tie.Need-spells-requires-6
-spells-requires-6 c κs = (start5 (c .before) .pre .0, start5 (c .before) .pre .1)
+spells-requires-6 c κs = search needs
 
 returns-6 : tie.Need-returns-6
-returns-6 c = here 16 (lit< tt) (passed5 (c .before .before .before)) (c .before .spells6 .ensures) (c .if6 .taken)
+returns-6 c = here (drop 11 words) rest-own 5 (lit< tt) _ (c .before .spells6 .ensures) (c .if6 .taken)
 
 slice-aggregate-spells-7 : tie.Need-slice-aggregate-spells-7
 slice-aggregate-spells-7 c = refl
 
 spells-requires-7 : tie.Need-spells-requires-7
-spells-requires-7 c κs = (start6 (c .before) .pre .0, start6 (c .before) .pre .1)
+spells-requires-7 c κs = search needs
 
 returns-7 : tie.Need-returns-7
-returns-7 c = here 17 (lit< tt) (passed6 (c .before .before .before)) (c .before .spells7 .ensures) (c .if7 .taken)
+returns-7 c = here (drop 11 words) rest-own 6 (lit< tt) _ (c .before .spells7 .ensures) (c .if7 .taken)
 
 returns-8 : tie.Need-returns-8
-returns-8 c = none (passed7 c)
+unfolding spelled
+returns-8 c =
+    let c6 = c .before .before .before in
+    let c5 = c6 .before .before .before in
+    let c4 = c5 .before .before .before in
+    let c3 = c4 .before .before .before in
+    let c2 = c3 .before .before .before in
+    let c1 = c2 .before .before .before in
+    let f1 = sym (c1 .before .spells .ensures) ∙ c1 .if1 .left in
+    let f2 = sym (c2 .before .spells2 .ensures) ∙ c2 .if2 .left in
+    let f3 = sym (c3 .before .spells3 .ensures) ∙ c3 .if3 .left in
+    let f4 = sym (c4 .before .spells4 .ensures) ∙ c4 .if4 .left in
+    let f5 = sym (c5 .before .spells5 .ensures) ∙ c5 .if5 .left in
+    let f6 = sym (c6 .before .spells6 .ensures) ∙ c6 .if6 .left in
+    let f7 = sym (c .before .spells7 .ensures) ∙ c .if7 .left in
+    left 7 (drop 11 words) _ (f1, (f2, (f3, (f4, (f5, (f6, (f7, tt))))))) refl
 
 pub type-word-spec : {M : Type 1} → statement M
 type-word-spec =

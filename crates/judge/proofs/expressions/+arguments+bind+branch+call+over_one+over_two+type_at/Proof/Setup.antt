@@ -36,7 +36,7 @@ use Rattle.rules.proofs.sight.called.Reads as called-reads
 use Rattle.rules.proofs.sight.wanted.Reads as wanted-reads
 use Rattle.layout.proofs.rows.link.Reads as link-reads
 use Rattle.layout.proofs.rows.word.Reads as word-reads
-use Rattle.layout.proofs.tokens.value.Reads as value-reads
+use Rattle.layout.proofs.token.value.Reads as value-reads
 use Rattle.layout.proofs.variables.put.Reads as put-reads
 
 abbrev pub μ-arguments : Measures 1 arguments-kinds.ps ℕ

@@ -4,7 +4,7 @@ use Prim.Native.Nat.{ℕ, _-_, _<_}
 use borrow.Fn.Kinds.{In}
 use borrow.Fn.PlainCycle.{Measures, is, falls, and}
 use Rattle.layout.proofs.rows.put.Reads as put-reads
-use Rattle.layout.proofs.tokens.kind.Reads as kind-reads
+use Rattle.layout.proofs.token.kind.Reads as kind-reads
 use Rattle.reader.proofs.definitions.params.Reads as params
 use Rattle.reader.proofs.definitions.params.Kinds as params-kinds
 use Rattle.reader.proofs.definitions.+params.Lts-params as params-lts

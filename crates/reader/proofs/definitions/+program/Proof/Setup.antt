@@ -4,7 +4,7 @@ use Prim.Native.Nat.{ℕ, _-_, _<_}
 use borrow.Fn.Kinds.{In}
 use borrow.Fn.PlainCycle.{Measures, is, falls, and}
 use Rattle.layout.proofs.functions.put.Reads as put-reads
-use Rattle.layout.proofs.tokens.kind.Reads as kind-reads
+use Rattle.layout.proofs.token.kind.Reads as kind-reads
 use Rattle.reader.proofs.definitions.program.Reads as program
 use Rattle.reader.proofs.definitions.program.Kinds as program-kinds
 use Rattle.reader.proofs.definitions.+program.Lts-program as program-lts

@@ -3,7 +3,7 @@
 use Prim.Native.Nat.{ℕ, _-_, _<_}
 use borrow.Fn.Kinds.{In}
 use borrow.Fn.PlainCycle.{Measures, is, falls, and}
-use Rattle.layout.proofs.tokens.kind.Reads as kind-reads
+use Rattle.layout.proofs.token.kind.Reads as kind-reads
 use Rattle.reader.proofs.types.refs.Reads as refs
 use Rattle.reader.proofs.types.refs.Kinds as refs-kinds
 use Rattle.reader.proofs.types.+refs.Lts-refs as refs-lts

@@ -1,0 +1,37 @@
+-- What is left in lent memory once a source was looked at: the required words are zero, whatever is told.
+use mathlib.Core.List.{List}
+use mathlib.Core.Path.{_≡_, refl}
+use Prim.Native.Nat.{ℕ, _≤_, _<_}
+use mathlib.Core.Logic.{inl, inr}
+use native.Mathlib.Omega.{arith}
+use Rattle.language.specs.Sizes.{TABLE}
+use Rattle.language.specs.Meaning.{run}
+use Rattle.language.specs.Numbers.{Refusal, Told, passed, refused, stopped}
+use Rattle.language.specs.Answers.{Origin, Refused, cleared, left, CheckReport, Checked, check-short, check-refused, check-passed, RunReport, Lent, Enough, Ran, run-short, run-large, run-refused, run-ended}
+use Rattle.language.proofs.Answers.Endings.{IsRun, is-run}
+use Rattle.language.proofs.Answers.Origins.{Lawful, refused-clears}
+
+run-left : (a : Told) → IsRun a → (n : ℕ) (words : List ℕ) → left a n words ≡ cleared n words
+unfolding left
+run-left passed h n words = refl
+run-left (refused r) h n words = absurd h
+run-left (stopped w) h n words = refl
+
+module _ {P : Type 0} {o : Origin P} (law : Lawful o) where
+  refused-left : {r : Refusal} {x : P} → Refused o r x → (n : ℕ) (words : List ℕ) → left (refused r) n words ≡ cleared n words
+  unfolding left
+  refused-left a n words = rw (refused-clears law a) refl
+
+  pub checked-left : {table : ℕ} {r : CheckReport P} → TABLE ≤ table → Checked o table r → (n : ℕ) (words : List ℕ) → left (r .told) n words ≡ cleared n words
+  unfolding left
+  checked-left h (check-short k) n words = absurd (omega arith)
+  checked-left h (check-refused k a) n words = refused-left a n words
+  checked-left h (check-passed k a) n words = refl
+
+  pub ran-left : {l : Lent} {r : RunReport P} {bs : List ℕ} → Enough l → Ran o l r bs → (n : ℕ) (words : List ℕ) → left (r .told) n words ≡ cleared n words
+  unfolding left
+  ran-left h (run-short (inl k)) n words = absurd (omega (arith, h .table))
+  ran-left h (run-short (inr k)) n words = absurd (omega (arith, h .work))
+  ran-left h (run-large e k) n words = refl
+  ran-left h (run-refused e k a) n words = refused-left a n words
+  ran-left {l} h (run-ended {p = p} {e = e} g k a x) n words = run-left (e .told) (is-run (l .allowance) (run p (l .allowance) (l .output)) x) n words

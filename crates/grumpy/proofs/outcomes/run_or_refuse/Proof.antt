@@ -1,0 +1,68 @@
+use borrow.Author.Needs.{needs}
+use Rattle.grumpy.proofs.Services.{runnable-sheet, runnable-long, runnable-refused, answered-sheet, answered-refused}
+use Rattle.grumpy.proofs.outcomes.run_or_refuse.Statement.{statement}
+use Rattle.grumpy.proofs.outcomes.run_or_refuse.Tie as tie
+
+enum-known-seen : tie.Need-enum-known-seen
+enum-known-seen c = search needs
+
+execute-requires : tie.Need-execute-requires
+execute-requires c κs =
+    let seen = c .before .before .before in
+    let start = seen .before .before .before .before .before .before in
+    runnable-sheet _ _ _ _ _ _ _ _ (start .pre) (seen .seen .given .1)
+
+answer-requires : tie.Need-answer-requires
+answer-requires c κs =
+    let seen = c .before .before .before .before .before .before .before .before in
+    let start = seen .before .before .before .before .before .before in
+    runnable-long _ _ _ _ _ _ _ _ (start .pre) (seen .seen .given .1)
+
+enum-known-seen-2 : tie.Need-enum-known-seen-2
+enum-known-seen-2 c = search needs
+
+refuse-requires : tie.Need-refuse-requires
+refuse-requires c κs =
+    let seen2 = c .before .before .before in
+    let start = seen2 .before .before .before .before .before .before in
+    runnable-refused _ _ _ _ _ _ (start .pre) (seen2 .seen2 .given .1)
+
+same-length : tie.Need-same-length
+same-length c = search needs
+
+same-length-2 : tie.Need-same-length-2
+same-length-2 c = search needs
+
+returns : tie.Need-returns
+returns c =
+    let execute = c .before .before .before .before .before in
+    let seen = execute .before .before .before .before in
+    answered-sheet _ _ _ _ _ _ _ _ _ _ _ _ _ _ (execute .execute .ensures) (seen .seen .given .1) (c .answer .ensures)
+
+same-length-3 : tie.Need-same-length-3
+same-length-3 c = search needs
+
+same-length-4 : tie.Need-same-length-4
+same-length-4 c = search needs
+
+returns-2 : tie.Need-returns-2
+returns-2 c =
+    let refuse = c .before .before .before .before in
+    let seen2 = refuse .before .before .before .before in
+    answered-refused _ _ _ _ _ _ _ _ _ _ _ (refuse .refuse .ensures .0) (refuse .refuse .ensures .1 .0) (refuse .refuse .ensures .1 .1) (seen2 .seen2 .given .1)
+
+pub run-or-refuse-spec : {M : Type 1} → statement M
+run-or-refuse-spec =
+    tie.close
+    (tie.spec
+    enum-known-seen
+    execute-requires
+    answer-requires
+    enum-known-seen-2
+    refuse-requires
+    same-length
+    same-length-2
+    returns
+    same-length-3
+    same-length-4
+    returns-2)

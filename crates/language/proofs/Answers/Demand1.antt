@@ -1,0 +1,97 @@
+-- Demand 1: whatever is lent with a text, what is told is a row of the table of numbers and the place is the one that the row
+-- sets; and where nothing is run nothing is printed. What is left in memory is in the contracts themselves, as equations.
+use mathlib.Core.List.{List, []}
+use mathlib.Core.Logic.{_⊎_, inl}
+use mathlib.Core.Option.{Option, none, some}
+use mathlib.Core.Path.{_≡_, refl, sym, subst}
+use Prim.Native.Nat.{ℕ, _<_}
+use lib.ListN.{length}
+use Rattle.language.specs.Sizes.{SOURCE, NODES, ALLOWANCE, TABLE, WORK}
+use Rattle.language.specs.Tokens.{Token}
+use Rattle.language.specs.Edition.{Splits, Flawed}
+use Rattle.language.specs.Text.{Flaw}
+use Rattle.language.specs.Trees.{Ty, Program, program-nodes}
+use Rattle.language.specs.Grammar.{Reading}
+use Rattle.language.specs.Types.{HasType}
+use Rattle.language.specs.Faults.{Reason, HasFault}
+use Rattle.language.specs.State.{Stop, State, Outcome, value, stop, stuck}
+use Rattle.language.specs.Meaning.{run}
+use Rattle.language.specs.Numbers.{Refusal, short-memory, large-allowance, long-source, text, no-reading, many-nodes, types, Told, passed, refused, stopped}
+use Rattle.language.specs.Answers.{Origin, place-in, too-long, flawed, from-text, unread, too-large, faulty, Passes, Refused, by-origin, by-tokens, Ending, ending, CheckReport, Checked, check-short, check-refused, check-passed, Lent, RunReport, Ran, run-short, run-large, run-refused, run-ended}
+use Rattle.language.proofs.Answers.Endings.{IsRun, is-run}
+
+-- ---- numbers and places
+
+module _ (source : List ℕ) (l : Lent) where
+  -- the byte of token i
+  abbrev byte-of : List Token → ℕ → ℕ
+  byte-of ts i = from-text source .at ts i
+
+  -- the table: what is told, when, and at which place; rows that differ in their number alone stand together
+  pub data Listed : Told → ℕ → Type 0 where
+    row-0 : {ts : List Token} {p : Program} {t : Ty} → Splits source ts → Reading ts p → HasType p t → Listed passed 0
+    row-40 : (l .table < TABLE) ⊎ (l .work < WORK) → Listed (refused short-memory) 0
+    row-41 : ALLOWANCE < l .allowance → Listed (refused large-allowance) 0
+    row-10 : SOURCE < length source → Listed (refused long-source) 0
+    rows-11-to-14 : {f : Flaw} {p : ℕ} → Flawed source f p → Listed (refused (text f)) p
+    row-20 : {ts : List Token} → Splits source ts → ((p : Program) → Reading ts p → ⊥) → Listed (refused no-reading) 0
+    row-21 : {ts : List Token} {p : Program} → Splits source ts → Reading ts p → NODES < program-nodes p → Listed (refused many-nodes) 0
+    rows-30-to-34 : {ts : List Token} {p : Program} {r : Reason} {i : ℕ}
+        → Splits source ts → Reading ts p → HasFault p r i → Listed (refused (types r)) (byte-of ts i)
+    rows-50-to-57 : {ts : List Token} {p : Program} {t : Ty} {w : Stop} {i : ℕ} {s : State}
+        → Splits source ts → Reading ts p → HasType p t → run p (l .allowance) (l .output) ≡ stop w i s → Listed (stopped w) (byte-of ts i)
+
+  refused-listed : {r : Refusal} {x : ℕ} → Refused (from-text source) r x → Listed (refused r) x
+  refused-listed (by-origin (too-long h)) = row-10 h
+  refused-listed (by-origin (flawed h a)) = rows-11-to-14 a
+  refused-listed (by-tokens g (unread h)) = row-20 (g .splits) h
+  refused-listed (by-tokens g (too-large a n)) = row-21 (g .splits) a n
+  refused-listed (by-tokens g (faulty a n f)) = rows-30-to-34 (g .splits) a f
+
+  module _ {ts : List Token} {p : Program} {t : Ty} (a : Passes (from-text source) ts p t) where
+    passed-listed : Listed passed 0
+    passed-listed = row-0 (a .given .splits) (a .proper .reads) (a .proper .typed)
+
+    abbrev EndListed : Option Ending → Type 0
+    EndListed none = Unit {0}
+    EndListed (some e) = Listed (e .told) (place-in (from-text source) ts (e .spot))
+
+    end-listed : (m : Outcome) → run p (l .allowance) (l .output) ≡ m → EndListed (ending (l .allowance) m)
+    unfolding ending
+    end-listed (value v s) x = passed-listed
+    end-listed (stop w i s) x = rows-50-to-57 (a .given .splits) (a .proper .reads) (a .proper .typed) x
+    end-listed stuck x = tt
+
+  pub ran-listed : {r : RunReport ℕ} {bs : List ℕ} → Ran (from-text source) l r bs → Listed (r .told) (r .place)
+  ran-listed (run-short h) = row-40 h
+  ran-listed (run-large e h) = row-41 h
+  ran-listed (run-refused e h a) = refused-listed a
+  ran-listed (run-ended {p = p} e h a x) = subst (EndListed a) x (end-listed a (run p (l .allowance) (l .output)) refl)
+
+  -- and of check, which is lent table memory alone and runs nothing
+  pub checked-listed : {r : CheckReport ℕ} → Checked (from-text source) (l .table) r → Listed (r .told) (r .place)
+  checked-listed (check-short h) = row-40 (inl h)
+  checked-listed (check-refused h a) = refused-listed a
+  checked-listed (check-passed h a) = passed-listed a
+
+abbrev Stops : Told → Type 0
+Stops passed = ⊥
+Stops (refused r) = ⊥
+Stops (stopped w) = Unit {0}
+
+module _ {P : Type 0} {o : Origin P} where
+  pub check-never-stops : {table : ℕ} {r : CheckReport P} → Checked o table r → (w : Stop) → r .told ≡ stopped w → ⊥
+  check-never-stops a w e = go a (subst Stops (sym e) tt)
+    where
+      go : {table : ℕ} {r : CheckReport P} → Checked o table r → Stops (r .told) → ⊥
+      go (check-short h) x = x
+      go (check-refused h a) x = x
+      go (check-passed h a) x = x
+
+  -- ---- where nothing is run nothing is printed
+
+  pub silent : {l : Lent} {r : RunReport P} {bs : List ℕ} → Ran o l r bs → (y : Refusal) → r .told ≡ refused y → (r .printed ≡ 0) × (bs ≡ [])
+  silent (run-short h) y x = (refl, refl)
+  silent (run-large e h) y x = (refl, refl)
+  silent (run-refused e h a) y x = (refl, refl)
+  silent {l} (run-ended {p = p} e h a z) y x = absurd (subst IsRun x (is-run (l .allowance) (run p (l .allowance) (l .output)) z))

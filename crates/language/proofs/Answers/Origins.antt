@@ -1,0 +1,155 @@
+-- What an origin of tokens has to obey, so that of everything lent there is one answer; that a text does; and what an origin
+-- comes to, worked out: a program with its tokens and its type, or a refusal and its place.
+use mathlib.Core.Bool.{false}
+use mathlib.Core.List.{List}
+use mathlib.Core.Logic.{_⊎_, inl, inr}
+use mathlib.Core.Path.{_≡_, refl, sym, ap, ap₂, subst, _∙_}
+use Prim.Native.Nat.{ℕ, _≤_}
+use native.Mathlib.Decide.{decLe}
+use native.Mathlib.Omega.{arith}
+use lib.ListN.{length}
+use Rattle.language.specs.Sizes.{SOURCE, TOKENS}
+use Rattle.language.specs.Tokens.{Token}
+use Rattle.language.specs.Trees.{Ty, Program}
+use Rattle.language.specs.Numbers.{Refusal, text, no-reading}
+use Rattle.language.specs.Answers.{Origin, place-in, TextDenies, too-long, flawed, TextGives, from-text, Passes, Refused, by-origin, by-tokens, keeps, unread, too-large, faulty}
+use Rattle.language.proofs.Text.Marks.{laws-1}
+use Rattle.language.proofs.Text.OneSplit.{one-split, one-flaw}
+use Rattle.language.proofs.Text.OneSplit as OneSplit
+use Rattle.language.proofs.Text.Edition as Scanner
+use Rattle.language.proofs.Text.Edition.{scan, scanned}
+use Rattle.language.proofs.Answers.Verdict.{Verdict, denied, proper, verdict, Says, verdict-says, proper-is, denied-is}
+
+-- ---- the laws
+
+pub record Lawful {P : Type 0} (o : Origin P) : Type 0 where
+  pub one-list : (ts us : List Token) → o .gives ts → o .gives us → ts ≡ us
+  pub one-denial : (r q : Refusal) (x y : P) → o .denies r x → o .denies q y → (r ≡ q) × (x ≡ y)
+  pub never-both : (ts : List Token) (r : Refusal) (x : P) → o .gives ts → o .denies r x → ⊥
+  -- one or the other
+  pub some : ((ts : List Token) × o .gives ts) ⊎ ((r : Refusal) × (x : P) × o .denies r x)
+  -- no more tokens than a source may have
+  pub few : (ts : List Token) → o .gives ts → length ts ≤ TOKENS
+  -- neither short memory nor a reading is a matter of an origin's
+  pub not-memory : (r : Refusal) (x : P) → o .denies r x → keeps r ≡ false
+  pub not-reading : (x : P) → o .denies no-reading x → ⊥
+
+-- ---- a text obeys them
+
+module _ (source : List ℕ) where
+  pub text-one-denial : (r q : Refusal) (x y : ℕ) → TextDenies source r x → TextDenies source q y → (r ≡ q) × (x ≡ y)
+  text-one-denial r q x y (too-long h) (too-long k) = (refl, refl)
+  text-one-denial r q x y (too-long h) (flawed k b) = absurd (omega arith)
+  text-one-denial r q x y (flawed h a) (too-long k) = absurd (omega arith)
+  text-one-denial r q x y (flawed h a) (flawed k b) = let e = one-flaw laws-1 a b in (ap text (e .0), e .1)
+
+  pub text-never-both : (ts : List Token) (r : Refusal) (x : ℕ) → TextGives source ts → TextDenies source r x → ⊥
+  text-never-both ts r x g (too-long h) = omega (arith, g .short)
+  text-never-both ts r x g (flawed h a) = OneSplit.not-both laws-1 (g .splits) a
+
+  unfoldable text-some : ((ts : List Token) × TextGives source ts) ⊎ ((r : Refusal) × (x : ℕ) × TextDenies source r x)
+  unfolding scan decLe
+  text-some = by-length (decLe (length source) SOURCE)
+    where
+      by-scan : length source ≤ SOURCE → (r : Scanner.Result) → Scanner.Says source r
+          → ((ts : List Token) × TextGives source ts) ⊎ ((r : Refusal) × (x : ℕ) × TextDenies source r x)
+      by-scan h (Scanner.split ts) a = inl (ts, record { short = h; splits = a })
+      by-scan h (Scanner.flawed f p) a = inr (text f, p, flawed h a)
+
+      by-length : Dec (length source ≤ SOURCE) → ((ts : List Token) × TextGives source ts) ⊎ ((r : Refusal) × (x : ℕ) × TextDenies source r x)
+      by-length (yes h) = by-scan h (scan source) (scanned source)
+      by-length (no h) = inr (_, 0, too-long (omega (arith, h)))
+
+  pub text-not-memory : (r : Refusal) (x : ℕ) → TextDenies source r x → keeps r ≡ false
+  text-not-memory r x (too-long h) = refl
+  text-not-memory r x (flawed h a) = refl
+
+  pub text-not-reading : (r : Refusal) (x : ℕ) → TextDenies source r x → r ≡ no-reading → ⊥
+  text-not-reading r x (too-long h) e = let z : _≡_ {A = ℕ} 0 1 = cc in omega arith
+  text-not-reading r x (flawed h a) e = let z : _≡_ {A = ℕ} 0 1 = cc in omega arith
+
+  unfoldable pub text-lawful : Lawful (from-text source)
+  unfolding text-some
+  text-lawful = record {
+    one-list = λ ts us a b. one-split laws-1 (a .splits) (b .splits);
+    one-denial = text-one-denial;
+    never-both = text-never-both;
+    some = text-some;
+    few = λ ts a. a .splits .few;
+    not-memory = text-not-memory;
+    not-reading = λ x a. text-not-reading no-reading x a refl;
+  }
+
+-- ---- what an origin comes to
+
+pub data Fate (P : Type 0) : Type 0 where
+  fails : Refusal → P → Fate P
+  passes : List Token → Program → Ty → Fate P
+
+module _ {P : Type 0} (o : Origin P) where
+  abbrev pub Comes : Fate P → Type 0
+  Comes (fails r x) = Refused o r x
+  Comes (passes ts p t) = Passes o ts p t
+
+  unfoldable of-tokens : List Token → Verdict → Fate P
+  of-tokens ts (denied r s) = fails r (place-in o ts s)
+  of-tokens ts (proper p t) = passes ts p t
+
+  unfoldable of-some : ((ts : List Token) × o .gives ts) ⊎ ((r : Refusal) × (x : P) × o .denies r x) → Fate P
+  of-some (inl (ts, g)) = of-tokens ts (verdict ts)
+  of-some (inr (r, x, d)) = fails r x
+
+  tokens-come : (ts : List Token) → o .gives ts → (v : Verdict) → Says ts v → Comes (of-tokens ts v)
+  unfolding of-tokens
+  tokens-come ts g (denied r s) d = by-tokens g d
+  tokens-come ts g (proper p t) h = record { given = g; proper = h }
+
+  some-comes : (s : ((ts : List Token) × o .gives ts) ⊎ ((r : Refusal) × (x : P) × o .denies r x)) → Comes (of-some s)
+  unfolding of-some
+  some-comes (inl (ts, g)) = tokens-come ts g (verdict ts) (verdict-says ts)
+  some-comes (inr (r, x, d)) = by-origin d
+
+module _ {P : Type 0} {o : Origin P} (law : Lawful o) where
+  unfoldable pub fate : Fate P
+  unfolding of-tokens of-some verdict
+  fate = of-some o (law .some)
+
+  pub fate-comes : Comes o fate
+  unfolding fate
+  fate-comes = some-comes o (law .some)
+
+  gives-is : (ts : List Token) → o .gives ts → (s : ((us : List Token) × o .gives us) ⊎ ((r : Refusal) × (x : P) × o .denies r x))
+      → of-some o s ≡ of-tokens o ts (verdict ts)
+  unfolding of-some
+  gives-is ts g (inl (us, h)) = ap (λ (ts : List Token). of-tokens o ts (verdict ts)) (law .one-list us ts h g)
+  gives-is ts g (inr (r, x, d)) = absurd (law .never-both ts r x g d)
+
+  denies-is : (r : Refusal) (x : P) → o .denies r x → (s : ((us : List Token) × o .gives us) ⊎ ((r : Refusal) × (x : P) × o .denies r x))
+      → of-some o s ≡ fails r x
+  unfolding of-some
+  denies-is r x d (inl (us, h)) = absurd (law .never-both us r x h d)
+  denies-is r x d (inr (q, y, e)) = let z = law .one-denial q r y x e d in ap₂ fails (z .0) (z .1)
+
+  pub passes-is : {ts : List Token} {p : Program} {t : Ty} → Passes o ts p t → fate ≡ passes ts p t
+  unfolding fate of-tokens
+  passes-is {ts} h = gives-is ts (h .given) (law .some) ∙ ap (of-tokens o ts) (proper-is ts (h .proper))
+
+  pub refused-is : {r : Refusal} {x : P} → Refused o r x → fate ≡ fails r x
+  unfolding fate of-tokens
+  refused-is (by-origin {r} {x} d) = denies-is r x d (law .some)
+  refused-is (by-tokens {ts} g d) = gives-is ts g (law .some) ∙ ap (of-tokens o ts) (denied-is ts d)
+
+  abbrev Fails : Fate P → Type 0
+  Fails (fails r x) = Unit {0}
+  Fails (passes ts p t) = ⊥
+
+  -- not both
+  pub not-both : {r : Refusal} {x : P} {ts : List Token} {p : Program} {t : Ty} → Refused o r x → Passes o ts p t → ⊥
+  not-both a b = subst Fails (sym (refused-is a) ∙ passes-is b) tt
+
+  -- a refusal by an origin or by its tokens is not one for memory
+  pub refused-clears : {r : Refusal} {x : P} → Refused o r x → keeps r ≡ false
+  refused-clears (by-origin {r} {x} d) = law .not-memory r x d
+  refused-clears (by-tokens g (unread h)) = refl
+  refused-clears (by-tokens g (too-large a n)) = refl
+  refused-clears (by-tokens g (faulty a n f)) = refl

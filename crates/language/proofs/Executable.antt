@@ -1,0 +1,22 @@
+-- A parser and a type checker that can be worked out. They are vocabulary of the proofs and define nothing of the language:
+-- what a reading, a type and a fault are, `specs/` says without them. The parser is sound and complete for the written
+-- `Reads` (ParserSound, ParserComplete), the checker for `HasType` and `HasFault` (CheckerSound, CheckerComplete). So
+-- contracts between layers may cite them, and theorems may go through them; the contract of a service never does.
+
+-- the parser, and what it settles on once its fuel is enough
+pub mod Parses
+pub mod Parser
+pub mod ParserSound
+pub mod ParserComplete
+pub mod Settles
+pub mod SettlesExpressions
+pub mod SettlesLevels
+pub mod SettlesPrograms
+-- operators in one loop
+pub mod Climbing
+-- the checker
+pub mod Checks
+pub mod Operators
+pub mod Checker
+pub mod CheckerSound
+pub mod CheckerComplete

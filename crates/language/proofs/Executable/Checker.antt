@@ -1,0 +1,104 @@
+-- A type checker: structural, one clause for each node.
+use mathlib.Core.Path.{_≡_, refl, sym}
+use mathlib.Core.List.{List, [], _∷_}
+use mathlib.Core.Option.{Option, none, some}
+use Prim.Native.Nat.{ℕ}
+use native.Mathlib.Decide.{decLt, decLe, ℕ-discrete}
+use lib.ListN.{length}
+use Rattle.language.specs.Sizes.{REFS, PARAMETERS, FUNCTIONS}
+use Rattle.language.specs.Trees.{Ty, int, bool, unit, refs, Ty-discrete, Literal, whole, truth, trivial, Exp, name, literal, unary, binary, follow, group, block, call, bind, branch, loop, Exps, last, more, Param, Def, Program, Scope, empty, push, nearest, size}
+use Rattle.language.specs.Types.{Sig, with-def, given}
+use Rattle.language.specs.Faults.{Reason, no-binding, no-function, wrong-number, wrong-argument, wrong-operands, not-unit, not-bool, branches-differ, wrong-body, too-many-refs, too-many-functions, too-many-parameters, function-twice, parameter-twice, unsuited}
+use Rattle.language.proofs.Executable.Checks.{Res, ok, bad, after, told, need}
+use Rattle.language.proofs.Executable.Operators.{unop, binop}
+
+pub heads : {t u : Ty} {ts us : List Ty} → (t ∷ ts) ≡ (u ∷ us) → t ≡ u
+heads e = cc
+
+pub tails : {t u : Ty} {ts us : List Ty} → (t ∷ ts) ≡ (u ∷ us) → ts ≡ us
+tails e = cc
+
+abbrev pub Empty : List Ty → Type 0
+Empty [] = Unit {0}
+Empty (t ∷ ts) = ⊥
+
+unfoldable pub join : {t u : Ty} {ts us : List Ty} → Dec (t ≡ u) → Dec (ts ≡ us) → Dec ((t ∷ ts) ≡ (u ∷ us))
+join (yes p) (yes q) = yes (cc)
+join (yes p) (no q) = no λ e. q (tails e)
+join (no p) d = no λ e. p (heads e)
+
+unfoldable pub same-types : (ts us : List Ty) → Dec (ts ≡ us)
+same-types [] [] = yes refl
+same-types [] (u ∷ us) = no λ e. mathlib.Core.Path.subst Empty e tt
+same-types (t ∷ ts) [] = no λ e. mathlib.Core.Path.subst Empty (sym e) tt
+same-types (t ∷ ts) (u ∷ us) = join (Ty-discrete t u) (same-types ts us)
+
+unfoldable pub literal-type : Literal → Ty
+literal-type (whole n) = int
+literal-type (truth b) = bool
+literal-type trivial = unit
+
+-- what a name that must be new is bound to
+unfoldable pub unbound : {A B : Type 0} → Option A → Reason → ℕ → (Unit {0} → Res B) → Res B
+unbound none r n f = f tt
+unbound (some a) r n f = bad r n
+
+module _ (Δ : Scope Sig) where
+  unfoldable mutual
+    pub infer : Exp → Scope Ty → Res Ty
+    infer (name i x) Γ = told (nearest x Γ) no-binding i
+    infer (literal i l) Γ = ok (literal-type l)
+    infer (unary i o e) Γ = after (infer e Γ) λ t. told (unop o t) (unsuited o) i
+    infer (binary i o e f) Γ = after (infer e Γ) λ t. after (infer f Γ) λ u. told (binop o t u) wrong-operands i
+    infer (follow i e f) Γ = after (infer e Γ) λ t. after (infer f Γ) λ u. need (Ty-discrete t unit) not-unit i λ _. ok u
+    infer (group i e) Γ = infer e Γ
+    infer (block i e) Γ = infer e Γ
+    infer (call i f es) Γ =
+        after (infers es Γ) λ ts.
+        after (told (nearest f Δ) no-function i) λ s.
+        need (ℕ-discrete (length ts) (length (s .takes))) wrong-number i λ _.
+        need (same-types ts (s .takes)) wrong-argument i λ _.
+        ok (s .gives)
+    infer (bind i x e f) Γ = after (infer e Γ) λ t. infer f (push x t Γ)
+    infer (branch i c e f) Γ =
+        after (infer c Γ) λ b.
+        after (infer e Γ) λ t.
+        after (infer f Γ) λ u.
+        need (Ty-discrete b bool) not-bool i λ _.
+        need (Ty-discrete t u) branches-differ i λ _.
+        ok t
+    infer (loop i c e) Γ =
+        after (infer c Γ) λ b.
+        after (infer e Γ) λ t.
+        need (Ty-discrete b bool) not-bool i λ _.
+        need (Ty-discrete t unit) not-unit i λ _.
+        ok unit
+
+    pub infers : Exps → Scope Ty → Res (List Ty)
+    infers last Γ = ok []
+    infers (more e es) Γ = after (infer e Γ) λ t. after (infers es Γ) λ ts. ok (t ∷ ts)
+
+unfoldable pub take-params : List Param → Scope Ty → Res (Scope Ty)
+take-params [] Γ = ok Γ
+take-params (p ∷ ps) Γ =
+    need (decLt (size Γ) PARAMETERS) too-many-parameters (p .at) λ _.
+    unbound (nearest (p .called) Γ) parameter-twice (p .at) λ _.
+    need (decLe (refs (p .type)) REFS) too-many-refs (p .at) λ _.
+    take-params ps (push (p .called) (p .type) Γ)
+
+unfoldable pub check-def : Scope Sig → Def → Res (Unit {0})
+check-def Δ d =
+    need (decLe (size Δ) FUNCTIONS) too-many-functions (d .at) λ _.
+    unbound (nearest (d .called) Δ) function-twice (d .named) λ _.
+    after (take-params (d .params) empty) λ Γ.
+    need (decLe (refs (d .result)) REFS) too-many-refs (d .at) λ _.
+    after (infer (with-def Δ d) (d .body) Γ) λ t.
+    need (Ty-discrete t (d .result)) wrong-body (d .at) λ _.
+    ok tt
+
+unfoldable pub check-from : List Def → Scope Sig → Exp → Res Ty
+check-from [] Δ e = infer Δ e empty
+check-from (d ∷ ds) Δ e = after (check-def Δ d) λ _. check-from ds (with-def Δ d) e
+
+unfoldable pub check : Program → Res Ty
+check p = check-from (p .defs) given (p .main)

@@ -1,0 +1,73 @@
+-- The value that a run ends with is of the program's type.
+use mathlib.Core.Path.{_≡_, refl, subst}
+use mathlib.Core.Bool.{Bool, true}
+use mathlib.Core.List.{List, []}
+use mathlib.Core.Option.{Option, none, some}
+use Prim.Native.Nat.{ℕ, _≤_}
+use native.Mathlib.Omega.{arith}
+use lib.IntN.{ℤ}
+use borrow.Author.Tests.{le-leb}
+use Rattle.language.specs.Sizes.{LARGEST}
+use Rattle.language.specs.Tokens.{Token, value-at}
+use Rattle.language.specs.Trees.{Ty, int, bool, unit, ref, Program}
+use Rattle.language.specs.Grammar.{Reading}
+use Rattle.language.specs.Types.{HasType}
+use Rattle.language.specs.State.{Value, number, flag, nothing, cell, held, State, value}
+use Rattle.language.specs.Meaning.{in-range, run}
+use Rattle.language.proofs.Grammar.OwnTokens.{program-owns, all-same}
+use Rattle.language.proofs.Grammar.OwnOnce.{own-inside}
+use Rattle.language.proofs.Meaning.CellTypes.{born-first, born-le, Fits, fits-int, fits-bool, fits-unit, fits-ref, StateFits, held-fits}
+use Rattle.language.proofs.Meaning.Safety.{Good, good-value, Fair}
+use Rattle.language.proofs.Meaning.NeverStuck.{run-good}
+
+-- A value of a type, in a state of a run: an int is in the range, and a reference has a birth number that was given to a cell
+-- which is freed, or is live and holds a value of the type referred to; so to any depth.
+pub data OfType (s : State) : Ty → Value → Type 0 where
+  of-int : {z : ℤ} → in-range z ≡ true → OfType s int (number z)
+  of-bool : {b : Bool} → OfType s bool (flag b)
+  of-unit : OfType s unit nothing
+  of-freed : {t : Ty} {b : ℕ} → 1 ≤ b → b ≤ s .births → held b (s .cells) ≡ none → OfType s (ref t) (cell b)
+  of-live : {t : Ty} {b : ℕ} {v : Value} → 1 ≤ b → b ≤ s .births → held b (s .cells) ≡ some v → OfType s t v → OfType s (ref t) (cell b)
+
+abbrev InRange : ℤ → Type 0
+InRange z = in-range z ≡ true
+
+module _ {Σ : List Ty} {s : State} (p : StateFits InRange Σ s) where
+  an-int : {v : Value} → Fits InRange Σ v int → OfType s int v
+  an-int (fits-int r) = of-int r
+
+  a-bool : {v : Value} → Fits InRange Σ v bool → OfType s bool v
+  a-bool fits-bool = of-bool
+
+  a-unit : {v : Value} → Fits InRange Σ v unit → OfType s unit v
+  a-unit fits-unit = of-unit
+
+  a-cell : {t : Ty} {v : Value} → Fits InRange Σ v (ref t) → ((w : Value) → Fits InRange Σ w t → OfType s t w) → OfType s (ref t) v
+  a-cell {t} (fits-ref {b} n) deeper = by (held b (s .cells)) refl
+    where
+      most : b ≤ s .births
+      most = omega (arith, born-le n, p .counted)
+
+      by : (o : Option Value) → held b (s .cells) ≡ o → OfType s (ref t) (cell b)
+      by none e = of-freed (born-first n) most e
+      by (some w) e = of-live (born-first n) most e (deeper w (held-fits Σ b t w (s .cells) n (p .holds) e))
+
+  of-type : (t : Ty) (v : Value) → Fits InRange Σ v t → OfType s t v
+  of-type int v f = an-int f
+  of-type bool v f = a-bool f
+  of-type unit v f = a-unit f
+  of-type (ref t) v f = a-cell f λ w g. of-type t w g
+
+good-type : {Σ : List Ty} {t : Ty} {v : Value} {s : State} → Good InRange Σ t (value v s) → OfType s t v
+good-type {t = t} {v = v} (good-value g p q) = of-type p t v q
+
+-- no number that is written is out of the range
+written : (ts : List Token) (p : Program) → Reading ts p → ((i : ℕ) → value-at ts i ≤ LARGEST) → Fair InRange (program-owns p)
+unfolding in-range
+written ts p r h = all-same (λ o k. le-leb (o .worth) _ (omega (arith, k .1, h (o .at)))) (own-inside ts p r)
+
+-- A program that was read from tokens whose numbers can be written, as those of every split are, ends with a value of its type.
+pub value-of-type : (ts : List Token) (p : Program) (t : Ty) (allowance room : ℕ) (v : Value) (s : State)
+    → Reading ts p → ((i : ℕ) → value-at ts i ≤ LARGEST) → HasType p t → run p allowance room ≡ value v s → OfType s t v
+value-of-type ts p t a r v s reading small h e =
+    good-type (subst (Good InRange [] t) e (run-good (λ z k. k) p t a r h (written ts p reading small)))

@@ -1,0 +1,57 @@
+// The tokens of a sheet in table memory.
+ghost use mathlib.Core.Path.{_≡_};
+ghost use Prim.Native.Nat.{ℕ, _≤_, _<_};
+ghost use lib.ListN.{length};
+ghost use Rattle.language.specs.Sizes.{TOKENS, TABLE};
+ghost use Rattle.layout.specs.Table.{token-end, token-place, token-value, kind-of, place-of, put-token};
+
+// The kind of a token, PAST where there is none.
+pub fn kind(table: &[u32], count: usize, at: usize) -> u32
+    requires { ⌜ (TABLE ≤ length (now table)) × (count ≤ TOKENS) ⌝ }
+    ensures { λ r. ⌜ r ≡ kind-of (now (table .entry)) count at ⌝ }
+{
+    if at < count { table[4 * at] } else { 0 }
+}
+
+// Where a token begins, in bytes.
+pub fn place(table: &[u32], at: usize) -> u32
+    requires { ⌜ (TABLE ≤ length (now table)) × (at < TOKENS) ⌝ }
+    ensures { λ r. ⌜ r ≡ token-place (now (table .entry)) at ⌝ }
+{
+    table[4 * at + 1]
+}
+
+// The same for any ordinal, 0 where there is no token.
+pub fn place_of(table: &[u32], count: usize, at: usize) -> u32
+    requires { ⌜ (TABLE ≤ length (now table)) × (count ≤ TOKENS) ⌝ }
+    ensures { λ r. ⌜ r ≡ place-of (now (table .entry)) count at ⌝ }
+{
+    if at < count { table[4 * at + 1] } else { 0 }
+}
+
+// The byte behind a token's last.
+pub fn end(table: &[u32], at: usize) -> u32
+    requires { ⌜ (TABLE ≤ length (now table)) × (at < TOKENS) ⌝ }
+    ensures { λ r. ⌜ r ≡ token-end (now (table .entry)) at ⌝ }
+{
+    table[4 * at + 2]
+}
+
+// A number's value, or a name's number.
+pub fn value(table: &[u32], at: usize) -> u32
+    requires { ⌜ (TABLE ≤ length (now table)) × (at < TOKENS) ⌝ }
+    ensures { λ r. ⌜ r ≡ token-value (now (table .entry)) at ⌝ }
+{
+    table[4 * at + 3]
+}
+
+pub fn put(table: &mut [u32], at: usize, kind: u32, place: u32, end: u32, value: u32)
+    requires { ⌜ (TABLE ≤ length (now table)) × (at < TOKENS) ⌝ }
+    ensures { λ _. ⌜ now (table .exit) ≡ put-token (now (table .entry)) at kind place end value ⌝ }
+{
+    let w = 4 * at;
+    table[w] = kind;
+    table[w + 1] = place;
+    table[w + 2] = end;
+    table[w + 3] = value;
+}

@@ -1,0 +1,43 @@
+-- What the borrow checker leaves of `arithmetic::multiply`.
+use lib.IntN.{_*ℤ_}
+use Rattle.machine.proofs.Ranges.{widened, product-wide, op-64, op-32, op-is, op-over}
+use borrow.Author.Needs.{needs}
+use Rattle.machine.proofs.arithmetic.multiply.Statement.{statement}
+use Rattle.machine.proofs.arithmetic.multiply.Tie as tie
+
+cast-fits : tie.Need-cast-fits
+cast-fits c = widened (c .fits .a)
+
+cast-fits-2 : tie.Need-cast-fits-2
+cast-fits-2 c = widened (c .fits .b)
+
+mul-fits : tie.Need-mul-fits
+mul-fits c = op-64 _*ℤ_ (c .args .a) (c .args .b) (c .fits .a) (c .fits .b) (product-wide (c .args .a) (c .args .b) (c .fits .a) (c .fits .b))
+
+fits-requires : tie.Need-fits-requires
+fits-requires c κs = search needs
+
+mul-t10 : tie.Need-mul-t10
+mul-t10 c = op-32 _*ℤ_ (c .before .before .args .a) (c .before .before .args .b) (c .before .before .fits .a) (c .before .before .fits .b) (product-wide (c .before .before .args .a) (c .before .before .args .b) (c .before .before .fits .a) (c .before .before .fits .b)) _ (c .before .fits2 .ensures) (c .if1 .taken)
+
+out-of-range-requires : tie.Need-out-of-range-requires
+out-of-range-requires c κs = search needs
+
+returns : tie.Need-returns
+returns c = op-is _*ℤ_ (c .before .before .args .a) (c .before .before .args .b) (c .before .before .fits .a) (c .before .before .fits .b) (product-wide (c .before .before .args .a) (c .before .before .args .b) (c .before .before .fits .a) (c .before .before .fits .b)) _ (c .before .fits2 .ensures) (c .if1 .taken) _ _
+
+returns-2 : tie.Need-returns-2
+returns-2 c = op-over _*ℤ_ (c .before .before .before .args .a) (c .before .before .before .args .b) (c .before .before .before .fits .a) (c .before .before .before .fits .b) (product-wide (c .before .before .before .args .a) (c .before .before .before .args .b) (c .before .before .before .fits .a) (c .before .before .before .fits .b)) _ (c .before .before .fits2 .ensures) (c .before .if1 .left) _ _ _ (c .out-of-range .ensures)
+
+pub multiply-spec : {M : Type 1} → statement M
+multiply-spec =
+    tie.close
+    (tie.spec
+    cast-fits
+    cast-fits-2
+    mul-fits
+    fits-requires
+    mul-t10
+    out-of-range-requires
+    returns
+    returns-2)

@@ -1,0 +1,86 @@
+// Signed numbers of 32 bits: each operation tests that its result is in range before it answers, and
+// stops where it is not.
+ghost use mathlib.Core.Path.{_≡_};
+ghost use lib.IntN.{_+ℤ_, _-ℤ_, _*ℤ_, negℤ, pos};
+ghost use lib.Signed.{quotZ};
+ghost use Rattle.language.specs.Meaning.{in-range};
+ghost use Rattle.machine.specs.Outcomes.{Fitted};
+use crate::state::Outcome;
+use crate::state::Tally;
+use layout::values::Value;
+use numbers::Stop;
+
+// The range of int.
+const LOWEST: i64 = -2147483648;
+
+const HIGHEST: i64 = 2147483647;
+
+fn fits(x: i64) -> bool
+    ensures { λ r. ⌜ r ≡ in-range x ⌝ }
+{
+    if x < LOWEST {
+        return false;
+    }
+    if HIGHEST < x {
+        return false;
+    }
+    true
+}
+
+fn out_of_range(place: u32, s: Tally) -> Outcome
+    ensures { λ r. ⌜ r ≡ Outcome.Halts Stop.OutOfRange place s ⌝ }
+{
+    Outcome::Halts(Stop::OutOfRange, place, s)
+}
+
+pub fn add(place: u32, a: i32, b: i32, s: Tally) -> Outcome
+    ensures { λ r. ⌜ Fitted (a +ℤ b) place s r ⌝ }
+{
+    if fits((a as i64) + (b as i64)) {
+        Outcome::Gives(Value::Int(a + b), s)
+    } else {
+        out_of_range(place, s)
+    }
+}
+
+pub fn subtract(place: u32, a: i32, b: i32, s: Tally) -> Outcome
+    ensures { λ r. ⌜ Fitted (a -ℤ b) place s r ⌝ }
+{
+    if fits((a as i64) - (b as i64)) {
+        Outcome::Gives(Value::Int(a - b), s)
+    } else {
+        out_of_range(place, s)
+    }
+}
+
+pub fn multiply(place: u32, a: i32, b: i32, s: Tally) -> Outcome
+    ensures { λ r. ⌜ Fitted (a *ℤ b) place s r ⌝ }
+{
+    if fits((a as i64) * (b as i64)) {
+        Outcome::Gives(Value::Int(a * b), s)
+    } else {
+        out_of_range(place, s)
+    }
+}
+
+// The lowest int divided by -1 is out of range.
+pub fn divide(place: u32, a: i32, b: i32, s: Tally) -> Outcome
+    requires { ⌜ (b ≡ pos 0 → ⊥) ⌝ }
+    ensures { λ r. ⌜ Fitted (quotZ a b) place s r ⌝ }
+{
+    if fits((a as i64) / (b as i64)) {
+        Outcome::Gives(Value::Int(a / b), s)
+    } else {
+        out_of_range(place, s)
+    }
+}
+
+pub fn negate(place: u32, a: i32, s: Tally) -> Outcome
+    ensures { λ r. ⌜ Fitted (negℤ a) place s r ⌝ }
+{
+    if fits(-(a as i64)) {
+        Outcome::Gives(Value::Int(-a), s)
+    } else {
+        out_of_range(place, s)
+    }
+}

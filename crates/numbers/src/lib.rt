@@ -1,0 +1,118 @@
+// The table of numbers, for the code: why a text does not split, why a reading has no type, why nothing
+// is run and why a run stops, and the number of each. `specs/Meanings.antt` says which case of the written
+// language each case here stands for.
+ghost use mathlib.Core.Path.{_≡_};
+ghost use Rattle.language.specs.Numbers.{flaw-number, reason-number, refusal-number, stop-number};
+ghost use Rattle.numbers.specs.Meanings.{flaw-meant, reason-meant, refusal-meant, stop-meant};
+
+// What stops the split of a text.
+pub enum Flaw {
+    StrangeByte,
+    OpenComment,
+    LargeNumber,
+    ManyTokens,
+}
+
+// Why a reading has no type.
+pub enum Reason {
+    NoBinding,
+    NoFunction,
+    WrongNumber,
+    WrongArgument,
+    WrongOperand,
+    WrongOperands,
+    NotUnit,
+    NotBool,
+    BranchesDiffer,
+    WrongBody,
+    TooManyRefs,
+    TooManyFunctions,
+    TooManyParameters,
+    FunctionTwice,
+    ParameterTwice,
+}
+
+// Why nothing is run, in the order in which it is looked for.
+pub enum Refusal {
+    ShortMemory,
+    LargeAllowance,
+    LongSource,
+    Text(Flaw),
+    NoReading,
+    ManyNodes,
+    Types(Reason),
+}
+
+// Why a run stops before it has a value.
+pub enum Stop {
+    NoUnit,
+    TooDeep,
+    OutOfRange,
+    ZeroDivisor,
+    CellFreed,
+    CellsFull,
+    NotAByte,
+    OutputFull,
+}
+
+pub fn of_flaw(flaw: Flaw) -> u32
+    ensures { λ r. ⌜ r ≡ flaw-number (flaw-meant flaw) ⌝ }
+{
+    match flaw {
+        Flaw::StrangeByte => 11,
+        Flaw::OpenComment => 12,
+        Flaw::LargeNumber => 13,
+        Flaw::ManyTokens => 14,
+    }
+}
+
+pub fn of_reason(reason: Reason) -> u32
+    ensures { λ r. ⌜ r ≡ reason-number (reason-meant reason) ⌝ }
+{
+    match reason {
+        Reason::TooManyFunctions => 30,
+        Reason::TooManyParameters => 30,
+        Reason::FunctionTwice => 31,
+        Reason::ParameterTwice => 32,
+        Reason::NoBinding => 33,
+        Reason::NoFunction => 33,
+        Reason::WrongNumber => 33,
+        Reason::WrongArgument => 33,
+        Reason::WrongOperand => 33,
+        Reason::WrongOperands => 33,
+        Reason::NotUnit => 33,
+        Reason::NotBool => 33,
+        Reason::BranchesDiffer => 33,
+        Reason::WrongBody => 33,
+        Reason::TooManyRefs => 34,
+    }
+}
+
+pub fn of_refusal(refusal: Refusal) -> u32
+    ensures { λ r. ⌜ r ≡ refusal-number (refusal-meant refusal) ⌝ }
+{
+    match refusal {
+        Refusal::ShortMemory => 40,
+        Refusal::LargeAllowance => 41,
+        Refusal::LongSource => 10,
+        Refusal::Text(flaw) => of_flaw(flaw),
+        Refusal::NoReading => 20,
+        Refusal::ManyNodes => 21,
+        Refusal::Types(reason) => of_reason(reason),
+    }
+}
+
+pub fn of_stop(stop: Stop) -> u32
+    ensures { λ r. ⌜ r ≡ stop-number (stop-meant stop) ⌝ }
+{
+    match stop {
+        Stop::NoUnit => 50,
+        Stop::TooDeep => 51,
+        Stop::OutOfRange => 52,
+        Stop::ZeroDivisor => 53,
+        Stop::CellFreed => 54,
+        Stop::CellsFull => 55,
+        Stop::NotAByte => 56,
+        Stop::OutputFull => 57,
+    }
+}

@@ -1,0 +1,45 @@
+-- `is_of` decides whether a byte is of a class.
+use borrow.Author.Needs.{needs}
+use mathlib.Core.Path.{sym, _∙_, ap}
+use Rattle.language.specs.Text.{is-in-line}
+use Rattle.tokens.proofs.bytes.is_of.Statement.{statement}
+use Rattle.tokens.proofs.bytes.is_of.Tie as tie
+use Rattle.tokens.specs.Found.{is-of}
+
+enum-told : tie.Need-enum-told
+enum-told c = search needs
+
+is-name-byte-requires : tie.Need-is-name-byte-requires
+is-name-byte-requires c κs = search needs
+
+enum-told-2 : tie.Need-enum-told-2
+enum-told-2 c = search needs
+
+is-digit-requires : tie.Need-is-digit-requires
+is-digit-requires c κs = search needs
+
+enum-told-3 : tie.Need-enum-told-3
+enum-told-3 c = search needs
+
+returns : tie.Need-returns
+returns c = c .is-name-byte .ensures ∙ ap (λ x. is-of x (c .before .before .before .args .b)) (sym (c .before .enum-told .given .1))
+
+returns-2 : tie.Need-returns-2
+returns-2 c = c .is-digit .ensures ∙ ap (λ x. is-of x (c .before .before .before .args .b)) (sym (c .before .enum-told2 .given .1))
+
+returns-3 : tie.Need-returns-3
+unfolding is-in-line
+returns-3 c = ap (λ x. is-of x (c .before .before .args .b)) (sym (c .enum-told3 .given .1))
+
+pub is-of-spec : {M : Type 1} → statement M
+is-of-spec =
+    tie.close
+    (tie.spec
+    enum-told
+    is-name-byte-requires
+    enum-told-2
+    is-digit-requires
+    enum-told-3
+    returns
+    returns-2
+    returns-3)
