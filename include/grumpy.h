@@ -60,7 +60,6 @@ extern "C" {
 #define GRUMPY_LARGE_NUMBER 13    /* a number that is too large to write */
 #define GRUMPY_MANY_TOKENS 14     /* more than 1,024 tokens */
 #define GRUMPY_NOT_A_PROGRAM 20   /* the tokens have no reading */
-#define GRUMPY_MANY_NODES 21      /* more than 1,024 nodes */
 #define GRUMPY_MANY_FUNCTIONS 30  /* a 33rd function, or a ninth parameter */
 #define GRUMPY_DEFINED_TWICE 31   /* a function's name is taken */
 #define GRUMPY_PARAMETER_TWICE 32 /* a parameter's name is taken */

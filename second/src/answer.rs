@@ -1,10 +1,9 @@
 //! What the two services must report, and in which state each lent memory
 //! must be afterwards.
 
-use crate::{grammar, run as runner, text, types, Refusal};
+use crate::{grammar, run as runner, text, tree, types, Refusal};
 
 pub const MOST_BYTES: usize = 8192;
-pub const MOST_NODES: usize = 1024;
 pub const MOST_UNITS: u64 = 1_000_000;
 pub const TABLE_WORDS: usize = 12_288;
 pub const WORK_WORDS: usize = 16_384;
@@ -98,15 +97,12 @@ pub fn run(source: &[u8], lent: &Lent) -> Answer {
 }
 
 /// Everything Check and Run share once the loans are known to be long enough.
-fn prepare(source: &[u8]) -> Result<(grammar::Program, types::Type), Refusal> {
+fn prepare(source: &[u8]) -> Result<(tree::Program, types::Type), Refusal> {
     if source.len() > MOST_BYTES {
         return Err(Refusal::new(10, 0));
     }
     let tokens = text::tokens(source)?;
     let program = grammar::read(&tokens).ok_or(Refusal::new(20, 0))?;
-    if program.nodes() > MOST_NODES {
-        return Err(Refusal::new(21, 0));
-    }
     let kind = types::check(&program)?;
     Ok((program, kind))
 }

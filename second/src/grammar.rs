@@ -1,69 +1,8 @@
 //! Tokens to a tree, one function for each rule of the grammar.
 
 use crate::text::{Kind, Token};
+use crate::tree::{Form, Function, Infix, Node, Parameter, Prefix, Program};
 use crate::types::Type;
-
-pub struct Program {
-    pub functions: Vec<Function>,
-    pub last: Node,
-}
-
-pub struct Function {
-    pub def: usize,
-    pub name: String,
-    pub name_place: usize,
-    pub parameters: Vec<Parameter>,
-    pub result: Type,
-    pub body: Node,
-}
-
-pub struct Parameter {
-    pub name: String,
-    pub place: usize,
-    pub kind: Type,
-}
-
-pub struct Node {
-    pub place: usize,
-    pub form: Form,
-}
-
-#[derive(Clone, Copy, Debug, PartialEq, Eq)]
-pub enum Prefix {
-    Minus,
-    Not,
-    Read,
-    Cell,
-}
-
-#[derive(Clone, Copy, Debug, PartialEq, Eq)]
-pub enum Infix {
-    Plus,
-    Minus,
-    Times,
-    Over,
-    Less,
-    Same,
-    And,
-    Or,
-    Write,
-    Then,
-}
-
-pub enum Form {
-    Number(i32),
-    Truth(bool),
-    Unit,
-    Variable(String),
-    Call(String, Vec<Node>),
-    Group(Box<Node>),
-    Block(Box<Node>),
-    Prefix(Prefix, Box<Node>),
-    Infix(Infix, Box<Node>, Box<Node>),
-    Let(String, Box<Node>, Box<Node>),
-    If(Box<Node>, Box<Node>, Box<Node>),
-    While(Box<Node>, Box<Node>),
-}
 
 /// The only reading of the tokens, or nothing.
 pub fn read(tokens: &[Token]) -> Option<Program> {
@@ -343,28 +282,5 @@ fn infix(place: usize, mark: Infix, left: Node, right: Node) -> Node {
     Node {
         place,
         form: Form::Infix(mark, Box::new(left), Box::new(right)),
-    }
-}
-
-impl Node {
-    pub fn children(&self) -> Vec<&Node> {
-        match &self.form {
-            Form::Number(_) | Form::Truth(_) | Form::Unit | Form::Variable(_) => vec![],
-            Form::Call(_, arguments) => arguments.iter().collect(),
-            Form::Group(a) | Form::Block(a) | Form::Prefix(_, a) => vec![a],
-            Form::Infix(_, a, b) | Form::Let(_, a, b) | Form::While(a, b) => vec![a, b],
-            Form::If(a, b, c) => vec![a, b, c],
-        }
-    }
-
-    fn count(&self) -> usize {
-        1 + self.children().into_iter().map(Node::count).sum::<usize>()
-    }
-}
-
-impl Program {
-    pub fn nodes(&self) -> usize {
-        let bodies = self.functions.iter().map(|f| f.body.count());
-        bodies.sum::<usize>() + self.last.count()
     }
 }

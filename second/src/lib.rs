@@ -20,6 +20,7 @@ pub mod run;
 pub mod sheets;
 pub mod shrink;
 pub mod text;
+pub mod tree;
 pub mod trial;
 pub mod types;
 

@@ -90,7 +90,7 @@ fn alone(trial: &Trial, answer: &Answer) -> Result<(), String> {
             answer.printed.len() <= trial.lent.output,
             "more bytes than room",
         ),
-        (answer.number != 21, "more nodes than tokens"),
+        (answer.number != 21, "a number that is out of the table"),
         (
             answer.number != 50 || answer.units == trial.lent.allowance,
             "50 with units left",

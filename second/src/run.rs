@@ -1,6 +1,6 @@
 //! The interpreter. It only ever sees programs the checker has passed.
 
-use crate::grammar::{Form, Function, Infix, Node, Prefix, Program};
+use crate::tree::{Form, Function, Infix, Node, Prefix, Program};
 use crate::Refusal;
 use std::collections::{BTreeMap, HashMap};
 

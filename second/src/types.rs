@@ -1,6 +1,6 @@
 //! The checker: which type a program has, or the first refusal in it.
 
-use crate::grammar::{Form, Function, Infix, Node, Prefix, Program};
+use crate::tree::{Form, Function, Infix, Node, Prefix, Program};
 use crate::Refusal;
 use std::collections::HashMap;
 

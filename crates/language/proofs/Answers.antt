@@ -5,5 +5,6 @@ pub mod Endings
 pub mod OneAnswer
 pub mod Demand1
 pub mod Demand3
+pub mod NotAgain
 pub mod Examples
 pub mod FurtherExamples

@@ -9,17 +9,17 @@ use Prim.Native.Nat.{ℕ, _-_, _≤_, _<_}
 use lib.Dec.{ltb}
 use lib.IntN.{ℤ, pos}
 use lib.ListN.{length, drop, replicate}
-use Rattle.language.specs.Sizes.{SOURCE, NODES, ALLOWANCE, TABLE, WORK}
+use Rattle.language.specs.Sizes.{SOURCE, ALLOWANCE, TABLE, WORK}
 use Rattle.language.specs.Tokens.{Token, place-at}
 use Rattle.language.specs.Text.{Flaw}
 use Rattle.language.specs.Edition.{Splits, Flawed}
-use Rattle.language.specs.Trees.{Ty, Program, program-nodes}
+use Rattle.language.specs.Trees.{Ty, Program}
 use Rattle.language.specs.Grammar.{Reading}
 use Rattle.language.specs.Types.{HasType}
 use Rattle.language.specs.Faults.{Reason, HasFault}
 use Rattle.language.specs.State.{State, Outcome, value, stop, stuck}
 use Rattle.language.specs.Meaning.{run, value-number, type-number}
-use Rattle.language.specs.Numbers.{Refusal, short-memory, large-allowance, long-source, text, no-reading, many-nodes, types, Told, passed, refused, stopped}
+use Rattle.language.specs.Numbers.{Refusal, short-memory, large-allowance, long-source, text, no-reading, types, Told, passed, refused, stopped}
 
 -- ---- where tokens come from
 
@@ -64,14 +64,12 @@ from-text source = record {
 -- they are a program of this type
 pub record Proper (ts : List Token) (p : Program) (t : Ty) : Type 0 where
   pub reads : Reading ts p
-  pub small : program-nodes p ≤ NODES
   pub typed : HasType p t
 
 -- or not, and why and at which token; a fault's order is in Faults
 pub data Denied (ts : List Token) : Refusal → Spot → Type 0 where
   unread : ((p : Program) → Reading ts p → ⊥) → Denied ts no-reading nowhere
-  too-large : {p : Program} → Reading ts p → NODES < program-nodes p → Denied ts many-nodes nowhere
-  faulty : {p : Program} {r : Reason} {i : ℕ} → Reading ts p → program-nodes p ≤ NODES → HasFault p r i → Denied ts (types r) (at i)
+  faulty : {p : Program} {r : Reason} {i : ℕ} → Reading ts p → HasFault p r i → Denied ts (types r) (at i)
 
 -- The two steps together: what an origin comes to.
 module _ {P : Type 0} (o : Origin P) where
@@ -111,7 +109,6 @@ keeps large-allowance = false
 keeps long-source = false
 keeps (text f) = false
 keeps no-reading = false
-keeps many-nodes = false
 keeps (types r) = false
 
 unfoldable pub cleared : ℕ → List ℕ → List ℕ

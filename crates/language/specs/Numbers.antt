@@ -1,4 +1,5 @@
--- The table of numbers (S068 to S090): what an answer tells, and the number of it.
+-- The table of numbers (S068 to S090): what an answer tells, and the number of it. 21 stood for too many nodes, which no
+-- reading has; it is not used again (R02.4).
 use Prim.Native.Nat.{ℕ}
 use Rattle.language.specs.Text.{Flaw, strange-byte, open-comment, large-number, many-tokens}
 use Rattle.language.specs.Faults.{Reason, no-binding, no-function, wrong-number, wrong-argument, wrong-operand, wrong-operands, not-unit, not-bool, branches-differ, wrong-body, too-many-refs, too-many-functions, too-many-parameters, function-twice, parameter-twice}
@@ -8,7 +9,7 @@ use Rattle.language.specs.State.{Stop, no-unit, too-deep, out-of-range, 
 pub data Refusal : Type 0 where
   short-memory large-allowance long-source : Refusal
   text : Flaw → Refusal
-  no-reading many-nodes : Refusal
+  no-reading : Refusal
   types : Reason → Refusal
 
 -- a program passed or ran to a value, or nothing was run, or a run stopped
@@ -46,7 +47,6 @@ refusal-number large-allowance = 41
 refusal-number long-source = 10
 refusal-number (text f) = flaw-number f
 refusal-number no-reading = 20
-refusal-number many-nodes = 21
 refusal-number (types r) = reason-number r
 
 abbrev pub stop-number : Stop → ℕ

@@ -92,7 +92,7 @@ pub record Program : Type 0 where
   pub defs : List Def
   pub main : Exp
 
--- ---- how many nodes a reading has (row 21)
+-- ---- how many nodes a reading has: never more than tokens (R02.2)
 
 unfoldable mutual
   pub nodes : Exp → ℕ

@@ -76,7 +76,6 @@ refusal-of Numbers.large-allowance = Refusal.LargeAllowance
 refusal-of Numbers.long-source = Refusal.LongSource
 refusal-of (Numbers.text f) = Refusal.Text (flaw-of f)
 refusal-of Numbers.no-reading = Refusal.NoReading
-refusal-of Numbers.many-nodes = Refusal.ManyNodes
 refusal-of (Numbers.types r) = Refusal.Types (reason-of r)
 
 pub refusal-back : (y : Refusal) → refusal-of (refusal-meant y) ≡ y
@@ -85,7 +84,6 @@ refusal-back Refusal.LargeAllowance = refl
 refusal-back Refusal.LongSource = refl
 refusal-back (Refusal.Text f) = ap Refusal.Text (flaw-back f)
 refusal-back Refusal.NoReading = refl
-refusal-back Refusal.ManyNodes = refl
 refusal-back (Refusal.Types r) = ap Refusal.Types (reason-back r)
 
 -- two that mean the same are the same

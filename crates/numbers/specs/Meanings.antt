@@ -37,7 +37,6 @@ refusal-meant Refusal.LargeAllowance = Numbers.large-allowance
 refusal-meant Refusal.LongSource = Numbers.long-source
 refusal-meant (Refusal.Text f) = Numbers.text (flaw-meant f)
 refusal-meant Refusal.NoReading = Numbers.no-reading
-refusal-meant Refusal.ManyNodes = Numbers.many-nodes
 refusal-meant (Refusal.Types r) = Numbers.types (reason-meant r)
 
 abbrev pub stop-meant : Stop → State.Stop

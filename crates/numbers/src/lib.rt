@@ -39,7 +39,6 @@ pub enum Refusal {
     LongSource,
     Text(Flaw),
     NoReading,
-    ManyNodes,
     Types(Reason),
 }
 
@@ -97,7 +96,6 @@ pub fn of_refusal(refusal: Refusal) -> u32
         Refusal::LongSource => 10,
         Refusal::Text(flaw) => of_flaw(flaw),
         Refusal::NoReading => 20,
-        Refusal::ManyNodes => 21,
         Refusal::Types(reason) => of_reason(reason),
     }
 }

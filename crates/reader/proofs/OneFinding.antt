@@ -1,12 +1,11 @@
 -- The reader's contract leaves no choice, and a program that it finds is held by the table.
 use mathlib.Core.List.{List}
-use mathlib.Core.Path.{_≡_, refl, sym, ap, _∙_}
-use Prim.Native.Nat.{ℕ, _≤_, _<_}
-use native.Mathlib.Omega.{arith}
+use mathlib.Core.Path.{_≡_, sym, _∙_}
+use Prim.Native.Nat.{ℕ, _≤_}
 use lib.ListN.{length}
-use Rattle.language.specs.Sizes.{NODES, TABLE}
+use Rattle.language.specs.Sizes.{TABLE}
 use Rattle.language.specs.Tokens.{Token}
-use Rattle.language.specs.Trees.{Program, program-nodes}
+use Rattle.language.specs.Trees.{Program}
 use Rattle.language.specs.Grammar.{Reading}
 use Rattle.language.proofs.Executable.Settles.{settles-once}
 use Rattle.language.proofs.Grammar.OneReading.{one-reading}
@@ -17,10 +16,6 @@ use Rattle.reader.specs.Findings.{Finds}
 use Rattle.reader.specs.declared.Found.{Found}
 
 module _ (ts : List Token) where
-  -- a reading does not have too many nodes and few enough
-  one-size : {p q : Program} → Reading ts p → Reading ts q → program-nodes p ≤ NODES → NODES < program-nodes q → ⊥
-  one-size {p} {q} a b l m = let e = ap program-nodes (one-reading ts p q a b) in omega arith
-
   -- for tokens that the table stands for there are no two answers, and no two tables
   pub one-finding : (w : List ℕ) (g h : Found) (x y : List ℕ) → Finds ts w g x → Finds ts w h y → (g ≡ h) × (x ≡ y)
   one-finding w (Found.Program d r) (Found.Program d₂ r₂) x y a b =
@@ -33,13 +28,8 @@ module _ (ts : List Token) where
       let l₂ = b .laid in
       (cc, cc)
   one-finding w (Found.Program d r) (Found.None e) x y a b = absurd (b .unreadable (a .program) (a .reading))
-  one-finding w (Found.Program d r) Found.TooLarge x y a b = absurd (one-size (a .reading) (b .reading) (a .small) (b .large))
   one-finding w (Found.None e) (Found.Program d r) x y a b = absurd (a .unreadable (b .program) (b .reading))
   one-finding w (Found.None e) (Found.None e₂) x y a b = let q = settles-once (a .at) (b .at) in (cc, a .clear ∙ sym (b .clear))
-  one-finding w (Found.None e) Found.TooLarge x y a b = absurd (a .unreadable (b .program) (b .reading))
-  one-finding w Found.TooLarge (Found.Program d r) x y a b = absurd (one-size (b .reading) (a .reading) (b .small) (a .large))
-  one-finding w Found.TooLarge (Found.None e) x y a b = absurd (b .unreadable (a .program) (a .reading))
-  one-finding w Found.TooLarge Found.TooLarge x y a b = (refl, a .clear ∙ sym (b .clear))
 
   -- the table holds the program that was found, a reading of the tokens
   pub found-held : {w w′ : List ℕ} {count defs root : ℕ} → TABLE ≤ length w → Stand w count ts → Finds ts w (Found.Program defs root) w′

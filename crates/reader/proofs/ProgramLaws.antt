@@ -113,27 +113,18 @@ module _ {count : ℕ} {w w₁ : List ℕ} where
         let x = S.entire-short (a .told ts s .told) (λ e. h (e ∙ s .long)) in
         record { unreadable = settled-none x; at = x; clear = q ∙ a .clear }
 
-    module _ (h : m ≡ count) where
-      -- a program: it has no more nodes than rows
-      pub found-program : r < NODES → (ts : List Token) → Stand w count ts → Finds ts w (Found.Program d r) w₁
-      unfolding main-row lay-program
-      found-program l ts s =
-          let x = a .told ts s in
-          let p = x .program in
-          let e : 0 + defs-rows (p .defs) ≡ defs-rows (p .defs) = omega arith in
-          let u = x .laid in
-          record {
-            program = p;
-            reading = settled-reading (S.entire-got (x .told) (h ∙ sym (s .long)));
-            small = omega (arith, nodes-in-rows p, x .top);
-            count = omega (arith, x .count);
-            top = omega (arith, x .top);
-            laid = cc;
-          }
-
-      -- no program has more rows than tokens
-      pub found-large : {w₂ : List ℕ} → NODES ≤ r → (ts : List Token) → Stand w count ts → Finds ts w Found.TooLarge w₂
-      found-large l ts s =
-          let x = a .told ts s in
-          let y = few-rows ts (x .program) (settled-reading (S.entire-got (x .told) (h ∙ sym (s .long)))) in
-          absurd (omega (arith, x .top, s .few, s .long))
+    -- a program
+    pub found-program : m ≡ count → (ts : List Token) → Stand w count ts → Finds ts w (Found.Program d r) w₁
+    unfolding main-row lay-program
+    found-program h ts s =
+        let x = a .told ts s in
+        let p = x .program in
+        let e : 0 + defs-rows (p .defs) ≡ defs-rows (p .defs) = omega arith in
+        let u = x .laid in
+        record {
+          program = p;
+          reading = settled-reading (S.entire-got (x .told) (h ∙ sym (s .long)));
+          count = omega (arith, x .count);
+          top = omega (arith, x .top);
+          laid = cc;
+        }

@@ -1,11 +1,10 @@
 -- What the reader finds in a table whose tokens stand for ts: the table was w, and is w′.
 use mathlib.Core.List.{List}
 use mathlib.Core.Path.{_≡_}
-use Prim.Native.Nat.{ℕ, _≤_, _<_}
+use Prim.Native.Nat.{ℕ}
 use lib.ListN.{length}
-use Rattle.language.specs.Sizes.{NODES}
 use Rattle.language.specs.Tokens.{Token}
-use Rattle.language.specs.Trees.{Program, program-nodes}
+use Rattle.language.specs.Trees.{Program}
 use Rattle.language.specs.Grammar.{Reading}
 use Rattle.language.proofs.Executable.Parses.{failed}
 use Rattle.language.proofs.Executable.Parser.{entire}
@@ -18,7 +17,6 @@ use Rattle.reader.specs.declared.Found.{Found}
 pub record Read (ts : List Token) (w : List ℕ) (defs root : ℕ) (w′ : List ℕ) : Type 0 where
   pub program : Program
   pub reading : Reading ts program
-  pub small : program-nodes program ≤ NODES
   pub count : defs ≡ length (program .defs)
   pub top : root ≡ main-row program
   pub laid : w′ ≡ lay-program w program
@@ -29,14 +27,6 @@ pub record Unread (ts : List Token) (w : List ℕ) (e : ℕ) (w′ : List ℕ) :
   pub at : Settles ts entire 0 (failed e)
   pub clear : w′ ≡ without-rows w
 
--- one with too many nodes (row 21)
-pub record Oversized (ts : List Token) (w w′ : List ℕ) : Type 0 where
-  pub program : Program
-  pub reading : Reading ts program
-  pub large : NODES < program-nodes program
-  pub clear : w′ ≡ without-rows w
-
 abbrev pub Finds : List Token → List ℕ → Found → List ℕ → Type 0
 Finds ts w (Found.Program defs root) w′ = Read ts w defs root w′
 Finds ts w (Found.None e) w′ = Unread ts w e w′
-Finds ts w Found.TooLarge w′ = Oversized ts w w′

@@ -13,7 +13,6 @@ ghost use Rattle.layout.specs.Names.{Stand};
 ghost use Rattle.reader.specs.Findings.{Finds};
 use definitions::Sheet;
 use definitions::program;
-use language::NODES;
 use layout::ROWS_AT;
 use layout::VARIABLES_AT;
 use layout::memory::clear;
@@ -23,14 +22,10 @@ pub enum Found {
     Program { defs: usize, root: usize },
     // The token at which reading failed.
     None { at: usize },
-    TooLarge,
 }
 
-// Reads the first `count` tokens of the table. Where there is no reading, no row is left in it.
-//
-// The last row is the root's, and every node has a row: where the root lies among the first NODES rows,
-// there are at most NODES nodes. Each row has a token of its own, so that TooLarge is never answered
-// while a sheet has no more tokens than nodes may be.
+// Reads the first `count` tokens of the table. Where there is no reading, no row is left in it. Each row has a
+// token of its own, so there is room for every row.
 pub fn read(table: &mut [u32], count: usize) -> Found
     requires { ⌜ (TABLE ≤ length (now table)) × (count ≤ TOKENS) ⌝ }
     ensures { λ g. ⌜ ((ts : List Token) → Stand (now (table .entry)) count ts → Finds ts (now (table .entry)) g (now (table .exit))) ⌝ }
@@ -43,14 +38,10 @@ pub fn read(table: &mut [u32], count: usize) -> Found
                 return Found::None { at: next };
             }
             let row = root as usize;
-            if row < NODES {
-                return Found::Program {
-                    defs: defs,
-                    root: row,
-                };
+            Found::Program {
+                defs: defs,
+                root: row,
             }
-            clear(table, ROWS_AT, VARIABLES_AT);
-            Found::TooLarge
         }
         Sheet::None { at: e } => {
             clear(table, ROWS_AT, VARIABLES_AT);

@@ -10,7 +10,7 @@ use borrow.Author.Tests.{ltb-true, lt-ltb, le-ltb}
 use Rattle.language.specs.Sizes.{TOKENS, TABLE}
 use Rattle.language.specs.Tokens.{Token, place-at}
 use Rattle.language.specs.Trees.{Program}
-use Rattle.language.specs.Answers.{place-in, too-long, flawed, TextGives, from-text, Denied, unread, too-large, faulty, Refused, by-origin, by-tokens}
+use Rattle.language.specs.Answers.{place-in, too-long, flawed, TextGives, from-text, Denied, unread, faulty, Refused, by-origin, by-tokens}
 use Rattle.numbers.specs.Meanings.{reason-meant, refusal-meant}
 use Rattle.numbers.specs.declared.Flaw.{Flaw}
 use Rattle.numbers.specs.declared.Reason.{Reason}
@@ -121,11 +121,11 @@ module _ (w w₁ : List ℕ) (count : ℕ) (st : Standing w count) where
   of-program (Verdict.Proper d q n) r (a, b, x) h = record {
     program = r .program;
     type = x .0;
-    proper = record { reads = r .reading; small = r .small; typed = x .1 };
+    proper = record { reads = r .reading; typed = x .1 };
     numbered = x .2;
     holds = rw (a, b) h;
   }
-  of-program (Verdict.Denied y s) r (v, j, f, e, g) h = rw (e, g) (faulty (r .reading) (r .small) f)
+  of-program (Verdict.Denied y s) r (v, j, f, e, g) h = rw (e, g) (faulty (r .reading) f)
 
   pub read-program : (w₂ : List ℕ) (r : found.Found) (defs root : ℕ) (v : Verdict) → Found r → r ≡ found.the-variants.Program defs root
       → Typed w₁ w₂ count defs root v → Read w w₂ count v
@@ -155,11 +155,6 @@ module _ (w w₁ : List ℕ) (count : ℕ) (st : Standing w count) where
   read-none r i f e =
       let g = subst Found e f in
       read-denied Refusal.NoReading Spot.Nowhere ((g (st .tokens) (st .stand)) .clear) λ ts x. unread ((g ts x) .unreadable)
-
-  pub read-large : (r : found.Found) → Found r → r ≡ found.the-variants.TooLarge → Read w w₁ count (Verdict.Denied Refusal.ManyNodes Spot.Nowhere)
-  read-large r f e =
-      let g = subst Found e f in
-      read-denied Refusal.ManyNodes Spot.Nowhere ((g (st .tokens) (st .stand)) .clear) λ ts x. too-large ((g ts x) .reading) ((g ts x) .large)
 
 -- ---- a source
 

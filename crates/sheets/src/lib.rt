@@ -83,7 +83,6 @@ fn read(table: &mut [u32], count: usize) -> Verdict
     match reader::read(table, count) {
         Found::Program { defs, root } => typed(table, count, defs, root),
         Found::None { at: _ } => Verdict::Denied(Refusal::NoReading, Spot::Nowhere),
-        Found::TooLarge => Verdict::Denied(Refusal::ManyNodes, Spot::Nowhere),
     }
 }
 

@@ -16,7 +16,6 @@ pub fn meaning(number: u32) {
         13 => say(b"a number over 2147483647"),
         14 => say(b"more than 1024 tokens"),
         20 => say(b"the sheet cannot be read as a program"),
-        21 => say(b"more than 1024 nodes"),
         30 => say(b"a 33rd function, or a ninth parameter"),
         31 => say(b"a function of this name is there already"),
         32 => say(b"a parameter of this name is there already"),

@@ -6,18 +6,18 @@ use mathlib.Core.Option.{Option, none, some}
 use mathlib.Core.Path.{_≡_, refl, sym, subst}
 use Prim.Native.Nat.{ℕ, _<_}
 use lib.ListN.{length}
-use Rattle.language.specs.Sizes.{SOURCE, NODES, ALLOWANCE, TABLE, WORK}
+use Rattle.language.specs.Sizes.{SOURCE, ALLOWANCE, TABLE, WORK}
 use Rattle.language.specs.Tokens.{Token}
 use Rattle.language.specs.Edition.{Splits, Flawed}
 use Rattle.language.specs.Text.{Flaw}
-use Rattle.language.specs.Trees.{Ty, Program, program-nodes}
+use Rattle.language.specs.Trees.{Ty, Program}
 use Rattle.language.specs.Grammar.{Reading}
 use Rattle.language.specs.Types.{HasType}
 use Rattle.language.specs.Faults.{Reason, HasFault}
 use Rattle.language.specs.State.{Stop, State, Outcome, value, stop, stuck}
 use Rattle.language.specs.Meaning.{run}
-use Rattle.language.specs.Numbers.{Refusal, short-memory, large-allowance, long-source, text, no-reading, many-nodes, types, Told, passed, refused, stopped}
-use Rattle.language.specs.Answers.{Origin, place-in, too-long, flawed, from-text, unread, too-large, faulty, Passes, Refused, by-origin, by-tokens, Ending, ending, CheckReport, Checked, check-short, check-refused, check-passed, Lent, RunReport, Ran, run-short, run-large, run-refused, run-ended}
+use Rattle.language.specs.Numbers.{Refusal, short-memory, large-allowance, long-source, text, no-reading, types, Told, passed, refused, stopped}
+use Rattle.language.specs.Answers.{Origin, place-in, too-long, flawed, from-text, unread, faulty, Passes, Refused, by-origin, by-tokens, Ending, ending, CheckReport, Checked, check-short, check-refused, check-passed, Lent, RunReport, Ran, run-short, run-large, run-refused, run-ended}
 use Rattle.language.proofs.Answers.Endings.{IsRun, is-run}
 
 -- ---- numbers and places
@@ -35,7 +35,6 @@ module _ (source : List ℕ) (l : Lent) where
     row-10 : SOURCE < length source → Listed (refused long-source) 0
     rows-11-to-14 : {f : Flaw} {p : ℕ} → Flawed source f p → Listed (refused (text f)) p
     row-20 : {ts : List Token} → Splits source ts → ((p : Program) → Reading ts p → ⊥) → Listed (refused no-reading) 0
-    row-21 : {ts : List Token} {p : Program} → Splits source ts → Reading ts p → NODES < program-nodes p → Listed (refused many-nodes) 0
     rows-30-to-34 : {ts : List Token} {p : Program} {r : Reason} {i : ℕ}
         → Splits source ts → Reading ts p → HasFault p r i → Listed (refused (types r)) (byte-of ts i)
     rows-50-to-57 : {ts : List Token} {p : Program} {t : Ty} {w : Stop} {i : ℕ} {s : State}
@@ -45,8 +44,7 @@ module _ (source : List ℕ) (l : Lent) where
   refused-listed (by-origin (too-long h)) = row-10 h
   refused-listed (by-origin (flawed h a)) = rows-11-to-14 a
   refused-listed (by-tokens g (unread h)) = row-20 (g .splits) h
-  refused-listed (by-tokens g (too-large a n)) = row-21 (g .splits) a n
-  refused-listed (by-tokens g (faulty a n f)) = rows-30-to-34 (g .splits) a f
+  refused-listed (by-tokens g (faulty a f)) = rows-30-to-34 (g .splits) a f
 
   module _ {ts : List Token} {p : Program} {t : Ty} (a : Passes (from-text source) ts p t) where
     passed-listed : Listed passed 0

@@ -13,8 +13,7 @@ use Rattle.language.specs.Grammar.{Reading}
 use Rattle.language.specs.Types.{HasType}
 use Rattle.language.specs.Meaning.{type-number}
 use Rattle.language.specs.Numbers.{Refusal, no-reading, passed, refused}
-use Rattle.language.specs.Answers.{Origin, unread, too-large, faulty, Passes, Refused, by-origin, by-tokens, CheckReport, Checked, check-short, check-refused, check-passed, Lent, Enough, RunReport, Ran, run-short, run-large, run-refused, run-ended}
-use Rattle.language.proofs.Grammar.FewNodes.{never-too-large}
+use Rattle.language.specs.Answers.{Origin, unread, faulty, Passes, Refused, by-origin, by-tokens, CheckReport, Checked, check-short, check-refused, check-passed, Lent, Enough, RunReport, Ran, run-short, run-large, run-refused, run-ended}
 use Rattle.language.proofs.Types.TypeNumbers.{one-number}
 use Rattle.language.proofs.Answers.Endings.{IsRun, is-run, some-ending}
 use Rattle.language.proofs.Answers.Origins.{Lawful}
@@ -39,11 +38,7 @@ module _ {P : Type 0} {o : Origin P} (law : Lawful o) where
   has-passed : (t : Ty) (h : IsProgram o t) → Passes o (h .tokens) (h .reading) t
   has-passed t h = record {
     given = h .given;
-    proper = record {
-      reads = h .reads;
-      small = never-too-large (h .tokens) (h .reading) (h .reads) (law .few (h .tokens) (h .given));
-      typed = h .typed;
-    };
+    proper = record { reads = h .reads; typed = h .typed };
   }
 
   passed-has : {ts : List Token} {p : Program} {u : Ty} (t : Ty) → type-number u ≡ type-number t → Passes o ts p u → IsProgram o t
@@ -58,8 +53,7 @@ module _ {P : Type 0} {o : Origin P} (law : Lawful o) where
   refused-unread : {r : Refusal} {x : P} → Refused o r x → r ≡ no-reading → NoProgram o
   refused-unread (by-origin {r} {x} d) e = absurd (law .not-reading x (subst (λ (r : Refusal). o .denies r x) e d))
   refused-unread (by-tokens {ts} g (unread h)) e = record { tokens = ts; given = g; unread = h }
-  refused-unread (by-tokens g (too-large a n)) e = let z : _≡_ {A = ℕ} 0 1 = cc in absurd (omega arith)
-  refused-unread (by-tokens g (faulty a n f)) e = let z : _≡_ {A = ℕ} 0 1 = cc in absurd (omega arith)
+  refused-unread (by-tokens g (faulty a f)) e = let z : _≡_ {A = ℕ} 0 1 = cc in absurd (omega arith)
 
   -- ---- check
 

@@ -13,7 +13,7 @@ use lib.ListN.{length}
 use borrow.Author.Tests.{leb-true}
 use Rattle.language.specs.Sizes.{ALLOWANCE, TABLE, WORK}
 use Rattle.language.specs.Tokens.{spell, same, spelled, entry, kind-at, value-at, spelling-at, place-at, Token}
-use Rattle.language.specs.Trees.{Ty, refs, size, nearest, own, nodes, def-nodes, program-nodes}
+use Rattle.language.specs.Trees.{Ty, refs, size, nearest, own}
 use Rattle.language.specs.State.{count, held, store, keep, then, choose, when-some, only}
 use Rattle.language.specs.Meaning.{charge, begin, in-range, fit, is-zero, same-int, create, apply-unary, apply-binary, settles, emit, put, literal-value, enter, arguments, invoke, passes, step, eval, functions, run, value-number, type-number}
 use Rattle.language.specs.Faults.{unsuited}
@@ -143,7 +143,7 @@ unfolding worked answered at-end ending fate text-lawful decLe decLt ℕ-discret
     check-from check-def take-params infer literal-type unbound same-types join unop binop if-yes both nearest size
     refs Types.after Types.told Types.need type-number unsuited run eval begin charge functions step then choose
     settles apply-binary apply-unary only when-some literal-value in-range fit create held store keep count put emit
-    enter arguments invoke passes is-zero same-int own value-number nodes def-nodes program-nodes
+    enter arguments invoke passes is-zero same-int own value-number
 worked-out [] = []
 worked-out (e ∷ es) = record { report = figures (worked e .report); printed = worked e .printed } ∷ worked-out es
 

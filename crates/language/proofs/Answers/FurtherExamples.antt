@@ -1,6 +1,6 @@
 -- Further examples, beside the paper's: one at least for each operator, each rule and each number that those leave out, so
 -- that constants and arithmetic are pinned by proof. The rows are the answers of an interpreter that was written from the
--- paper alone. Left out, as too large to compute: 14 and 55. Of no text with memory enough are 21, 40 and 41 told.
+-- paper alone. Left out, as too large to compute: 14 and 55. Of no text with memory enough are 40 and 41 told.
 use mathlib.Core.List.{List, [], _∷_, _++_}
 use mathlib.Core.Path.{refl}
 use Prim.Native.Nat.{ℕ, zero, suc}

@@ -12,7 +12,7 @@ use Rattle.language.specs.Sizes.{SOURCE, TOKENS}
 use Rattle.language.specs.Tokens.{Token}
 use Rattle.language.specs.Trees.{Ty, Program}
 use Rattle.language.specs.Numbers.{Refusal, text, no-reading}
-use Rattle.language.specs.Answers.{Origin, place-in, TextDenies, too-long, flawed, TextGives, from-text, Passes, Refused, by-origin, by-tokens, keeps, unread, too-large, faulty}
+use Rattle.language.specs.Answers.{Origin, place-in, TextDenies, too-long, flawed, TextGives, from-text, Passes, Refused, by-origin, by-tokens, keeps, unread, faulty}
 use Rattle.language.proofs.Text.Marks.{laws-1}
 use Rattle.language.proofs.Text.OneSplit.{one-split, one-flaw}
 use Rattle.language.proofs.Text.OneSplit as OneSplit
@@ -151,5 +151,4 @@ module _ {P : Type 0} {o : Origin P} (law : Lawful o) where
   pub refused-clears : {r : Refusal} {x : P} → Refused o r x → keeps r ≡ false
   refused-clears (by-origin {r} {x} d) = law .not-memory r x d
   refused-clears (by-tokens g (unread h)) = refl
-  refused-clears (by-tokens g (too-large a n)) = refl
-  refused-clears (by-tokens g (faulty a n f)) = refl
+  refused-clears (by-tokens g (faulty a f)) = refl

@@ -2,17 +2,13 @@
 -- definition of the language; it is shown to say exactly what the written Proper and Denied say.
 use mathlib.Core.List.{List}
 use mathlib.Core.Path.{_≡_, refl, ap, _∙_}
-use Prim.Native.Nat.{ℕ, _≤_, _<_}
-use native.Mathlib.Decide.{decLe}
-use native.Mathlib.Omega.{arith}
-use Rattle.language.specs.Sizes.{NODES}
 use Rattle.language.specs.Tokens.{Token}
-use Rattle.language.specs.Trees.{Ty, Program, program-nodes}
+use Rattle.language.specs.Trees.{Ty, Program}
 use Rattle.language.specs.Grammar.{Reading}
 use Rattle.language.specs.Types.{HasType}
 use Rattle.language.specs.Faults.{HasFault}
-use Rattle.language.specs.Numbers.{Refusal, no-reading, many-nodes, types}
-use Rattle.language.specs.Answers.{Spot, nowhere, at, Proper, Denied, unread, too-large, faulty}
+use Rattle.language.specs.Numbers.{Refusal, no-reading, types}
+use Rattle.language.specs.Answers.{Spot, nowhere, at, Proper, Denied, unread, faulty}
 use Rattle.language.proofs.Executable.Parses as Parses
 use Rattle.language.proofs.Executable.Parses.{failed, got}
 use Rattle.language.proofs.Executable.Parser.{answer}
@@ -33,16 +29,12 @@ unfoldable by-type : Program → Types.Res Ty → Verdict
 by-type p (ok t) = proper p t
 by-type p (bad r i) = denied (types r) (at i)
 
-unfoldable by-size : (p : Program) → Dec (program-nodes p ≤ NODES) → Verdict
-by-size p (yes h) = by-type p (check p)
-by-size p (no h) = denied many-nodes nowhere
-
 unfoldable by-reading : Parses.Result Program → Verdict
 by-reading (failed k) = denied no-reading nowhere
-by-reading (got p j) = by-size p (decLe (program-nodes p) NODES)
+by-reading (got p j) = by-type p (check p)
 
 unfoldable pub verdict : List Token → Verdict
-unfolding by-type by-size by-reading answer check decLe
+unfolding by-type by-reading answer check
 verdict ts = by-reading (answer ts)
 
 module _ (ts : List Token) where
@@ -52,21 +44,15 @@ module _ (ts : List Token) where
 
   -- ---- what it says is so
 
-  type-says : (p : Program) → Reading ts p → program-nodes p ≤ NODES
-      → (c : Types.Res Ty) → Types.Says (HasType p) (HasFault p) c → Says (by-type p c)
+  type-says : (p : Program) → Reading ts p → (c : Types.Res Ty) → Types.Says (HasType p) (HasFault p) c → Says (by-type p c)
   unfolding by-type
-  type-says p a n (ok t) (says h) = record { reads = a; small = n; typed = h }
-  type-says p a n (bad r i) (faults h) = faulty a n h
-
-  size-says : (p : Program) → Reading ts p → (d : Dec (program-nodes p ≤ NODES)) → Says (by-size p d)
-  unfolding by-size
-  size-says p a (yes h) = type-says p a h (check p) (check-sound p)
-  size-says p a (no h) = too-large a (omega (arith, h))
+  type-says p a (ok t) (says h) = record { reads = a; typed = h }
+  type-says p a (bad r i) (faults h) = faulty a h
 
   reading-says : (r : Parses.Result Program) → answer ts ≡ r → Says (by-reading r)
   unfolding by-reading
   reading-says (failed k) e = unread (OneReading.no-reading ts k e)
-  reading-says (got p j) e = size-says p (answer-sound ts p j e) (decLe (program-nodes p) NODES)
+  reading-says (got p j) e = type-says p (answer-sound ts p j e) (check p) (check-sound p)
 
   pub verdict-says : Says (verdict ts)
   unfolding verdict
@@ -74,19 +60,9 @@ module _ (ts : List Token) where
 
   -- ---- what is so it says
 
-  reads-is : {p : Program} → Reading ts p → verdict ts ≡ by-size p (decLe (program-nodes p) NODES)
+  reads-is : {p : Program} → Reading ts p → verdict ts ≡ by-type p (check p)
   unfolding verdict by-reading
   reads-is {p} a = ap by-reading (answers ts p a)
-
-  small-is : (p : Program) (d : Dec (program-nodes p ≤ NODES)) → program-nodes p ≤ NODES → by-size p d ≡ by-type p (check p)
-  unfolding by-size
-  small-is p (yes k) h = refl
-  small-is p (no k) h = absurd (k h)
-
-  large-is : (p : Program) (d : Dec (program-nodes p ≤ NODES)) → NODES < program-nodes p → by-size p d ≡ denied many-nodes nowhere
-  unfolding by-size
-  large-is p (yes k) h = absurd (omega arith)
-  large-is p (no k) h = refl
 
   unread-is : (r : Parses.Result Program) → answer ts ≡ r → ((p : Program) → Reading ts p → ⊥) → by-reading r ≡ denied no-reading nowhere
   unfolding by-reading
@@ -95,12 +71,9 @@ module _ (ts : List Token) where
 
   pub proper-is : {p : Program} {t : Ty} → Proper ts p t → verdict ts ≡ proper p t
   unfolding by-type
-  proper-is {p} {t} h =
-      reads-is (h .reads) ∙ small-is p (decLe (program-nodes p) NODES) (h .small) ∙ ap (by-type p) (check-complete p t (h .typed))
+  proper-is {p} {t} h = reads-is (h .reads) ∙ ap (by-type p) (check-complete p t (h .typed))
 
   pub denied-is : {r : Refusal} {s : Spot} → Denied ts r s → verdict ts ≡ denied r s
   unfolding verdict by-type
   denied-is (unread h) = unread-is (answer ts) refl h
-  denied-is (too-large {p} a n) = reads-is a ∙ large-is p (decLe (program-nodes p) NODES) n
-  denied-is (faulty {p} {r} {i} a n f) =
-      reads-is a ∙ small-is p (decLe (program-nodes p) NODES) n ∙ ap (by-type p) (check-fault p r i f)
+  denied-is (faulty {p} {r} {i} a f) = reads-is a ∙ ap (by-type p) (check-fault p r i f)

@@ -1,6 +1,6 @@
 -- The whole list: what is read of it, and what is cleared where that is not all of it.
 use borrow.Author.Needs.{needs}
-use Rattle.reader.proofs.ProgramLaws.{known-program, found-none, found-short, found-program, found-large}
+use Rattle.reader.proofs.ProgramLaws.{known-program, found-none, found-short, found-program}
 use Rattle.reader.proofs.read.Statement.{statement}
 use Rattle.reader.proofs.read.Tie as tie
 
@@ -31,37 +31,25 @@ same-length-2 c = search needs
 
 returns-2 : tie.Need-returns-2
 returns-2 c =
-    found-program
-    (known-program (c .before .before .before .before .before .before .before .program .ensures)
-    (c .before .before .before .sheet .given .1)) (c .before .if1 .left) (c .if2 .taken)
-
-clear-requires-2 : tie.Need-clear-requires-2
-clear-requires-2 c κs = search needs
+    let at-sheet = c .before .before in
+    let at-program = at-sheet .before .before .before .before in
+    found-program (known-program (at-program .program .ensures) (at-sheet .sheet .given .1)) (c .if1 .left)
 
 enum-known-sheet-2 : tie.Need-enum-known-sheet-2
 enum-known-sheet-2 c = search needs
 
-clear-requires-3 : tie.Need-clear-requires-3
-clear-requires-3 c κs = search needs
+clear-requires-2 : tie.Need-clear-requires-2
+clear-requires-2 c κs = search needs
 
 same-length-3 : tie.Need-same-length-3
 same-length-3 c = search needs
 
 returns-3 : tie.Need-returns-3
 returns-3 c =
-    found-large
-    (known-program (c .before .before .before .before .before .before .before .before .before .before .before .program .ensures)
-    (c .before .before .before .before .before .before .before .sheet .given .1)) (c .before .before .before .before .before .if1 .left)
-    (c .before .before .before .before .if2 .left)
-
-same-length-4 : tie.Need-same-length-4
-same-length-4 c = search needs
-
-returns-4 : tie.Need-returns-4
-returns-4 c =
-    found-none
-    (known-program (c .before .before .before .before .before .before .before .before .before .program .ensures)
-    (c .before .before .before .before .before .sheet2 .given .1)) (c .before .before .clear3 .ensures)
+    let at-clear = c .before .before in
+    let at-sheet = at-clear .before .before .before in
+    let at-program = at-sheet .before .before .before .before in
+    found-none (known-program (at-program .program .ensures) (at-sheet .sheet2 .given .1)) (at-clear .clear2 .ensures)
 
 pub read-spec : {M : Type 1} → statement M
 read-spec =
@@ -73,12 +61,9 @@ read-spec =
     same-length
     returns
     cast-row
+    enum-known-sheet-2
+    clear-requires-2
     same-length-2
     returns-2
-    clear-requires-2
-    enum-known-sheet-2
-    clear-requires-3
     same-length-3
-    returns-3
-    same-length-4
-    returns-4)
+    returns-3)

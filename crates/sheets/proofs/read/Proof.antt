@@ -1,5 +1,5 @@
 use borrow.Author.Needs.{needs}
-use Rattle.sheets.proofs.Layers.{program-held, read-program, read-none, read-large}
+use Rattle.sheets.proofs.Layers.{program-held, read-program, read-none}
 use Rattle.sheets.proofs.read.Statement.{statement}
 use Rattle.sheets.proofs.read.Tie as tie
 
@@ -18,9 +18,6 @@ typed-requires c κs =
 
 enum-told : tie.Need-enum-told
 enum-told c = search needs
-
-enum-told-2 : tie.Need-enum-told-2
-enum-told-2 c = search needs
 
 same-length : tie.Need-same-length
 same-length c = search needs
@@ -42,15 +39,6 @@ returns-2 c =
     let start = read .before .before .before in
     read-none _ _ _ (start .pre) _ _ (read .read .ensures) (c .enum-told .given .1)
 
-same-length-3 : tie.Need-same-length-3
-same-length-3 c = search needs
-
-returns-3 : tie.Need-returns-3
-returns-3 c =
-    let read = c .before .before .before .before in
-    let start = read .before .before .before in
-    read-large _ _ _ (start .pre) _ (read .read .ensures) (c .enum-told2 .given .1)
-
 pub read-spec : {M : Type 1} → statement M
 read-spec =
     tie.close
@@ -59,10 +47,7 @@ read-spec =
     enum-known-defs
     typed-requires
     enum-told
-    enum-told-2
     same-length
     returns
     same-length-2
-    returns-2
-    same-length-3
-    returns-3)
+    returns-2)

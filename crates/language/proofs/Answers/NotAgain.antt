@@ -1,0 +1,70 @@
+-- 21 stood for a reading with too many nodes. No answer has that number any more (R02.4), and none needs it: whatever tokens
+-- a lawful origin comes to, a reading of them has no more nodes than there may be (R02.2, R02.3).
+use mathlib.Core.List.{List}
+use mathlib.Core.Path.{_≡_}
+use Prim.Native.Nat.{ℕ, _≤_}
+use native.Mathlib.Omega.{arith}
+use Rattle.language.specs.Sizes.{NODES}
+use Rattle.language.specs.Tokens.{Token}
+use Rattle.language.specs.Text as Text
+use Rattle.language.specs.Trees.{Program, program-nodes}
+use Rattle.language.specs.Grammar.{Reading}
+use Rattle.language.specs.Faults as Faults
+use Rattle.language.specs.State as State
+use Rattle.language.specs.Numbers.{Refusal, short-memory, large-allowance, long-source, text, no-reading, types, Told, passed, refused, stopped, number, flaw-number, reason-number, stop-number}
+use Rattle.language.specs.Answers.{Origin}
+use Rattle.language.proofs.Grammar.FewNodes.{never-too-large}
+use Rattle.language.proofs.Answers.Origins.{Lawful}
+
+-- the number that is out of use
+abbrev pub GONE : ℕ
+GONE = 21
+
+flaw-not : (f : Text.Flaw) → flaw-number f ≤ 14
+flaw-not Text.Flaw.strange-byte = omega arith
+flaw-not Text.Flaw.open-comment = omega arith
+flaw-not Text.Flaw.large-number = omega arith
+flaw-not Text.Flaw.many-tokens = omega arith
+
+reason-not : (r : Faults.Reason) → 30 ≤ reason-number r
+reason-not Faults.Reason.too-many-functions = omega arith
+reason-not Faults.Reason.too-many-parameters = omega arith
+reason-not Faults.Reason.function-twice = omega arith
+reason-not Faults.Reason.parameter-twice = omega arith
+reason-not Faults.Reason.no-binding = omega arith
+reason-not Faults.Reason.no-function = omega arith
+reason-not Faults.Reason.wrong-number = omega arith
+reason-not Faults.Reason.wrong-argument = omega arith
+reason-not Faults.Reason.wrong-operand = omega arith
+reason-not Faults.Reason.wrong-operands = omega arith
+reason-not Faults.Reason.not-unit = omega arith
+reason-not Faults.Reason.not-bool = omega arith
+reason-not Faults.Reason.branches-differ = omega arith
+reason-not Faults.Reason.wrong-body = omega arith
+reason-not Faults.Reason.too-many-refs = omega arith
+
+stop-not : (s : State.Stop) → 50 ≤ stop-number s
+stop-not State.Stop.no-unit = omega arith
+stop-not State.Stop.too-deep = omega arith
+stop-not State.Stop.out-of-range = omega arith
+stop-not State.Stop.zero-divisor = omega arith
+stop-not State.Stop.cell-freed = omega arith
+stop-not State.Stop.cells-full = omega arith
+stop-not State.Stop.not-a-byte = omega arith
+stop-not State.Stop.output-full = omega arith
+
+-- no answer tells it
+pub not-again : (a : Told) → number a ≡ GONE → ⊥
+not-again passed e = omega arith
+not-again (refused short-memory) e = omega arith
+not-again (refused large-allowance) e = omega arith
+not-again (refused long-source) e = omega arith
+not-again (refused (text f)) e = omega (arith, flaw-not f)
+not-again (refused no-reading) e = omega arith
+not-again (refused (types r)) e = omega (arith, reason-not r)
+not-again (stopped s) e = omega (arith, stop-not s)
+
+-- and none needs it
+pub never-needed : {P : Type 0} {o : Origin P} → Lawful o → (ts : List Token) → o .gives ts → (p : Program) → Reading ts p
+    → program-nodes p ≤ NODES
+never-needed law ts g p r = never-too-large ts p r (law .few ts g)
