@@ -59,12 +59,15 @@ extern "C" {
 #define GRUMPY_OPEN_COMMENT 12    /* a comment that is never closed */
 #define GRUMPY_LARGE_NUMBER 13    /* a number that is too large to write */
 #define GRUMPY_MANY_TOKENS 14     /* more than 1,024 tokens */
-#define GRUMPY_NOT_A_PROGRAM 20   /* the tokens have no reading */
+#define GRUMPY_NOT_A_PROGRAM 20   /* the tokens have no reading; the place is where it goes wrong */
 #define GRUMPY_MANY_FUNCTIONS 30  /* a 33rd function, or a ninth parameter */
 #define GRUMPY_DEFINED_TWICE 31   /* a function's name is taken */
 #define GRUMPY_PARAMETER_TWICE 32 /* a parameter's name is taken */
 #define GRUMPY_ILL_TYPED 33       /* no typing rule fits */
 #define GRUMPY_MANY_REFS 34       /* a type with more than 15 ref */
+#define GRUMPY_NO_BINDING 35      /* a variable with no binding */
+#define GRUMPY_NO_FUNCTION 36     /* a call of a function that is not in sight */
+#define GRUMPY_WRONG_NUMBER 37    /* a call with too many or too few arguments */
 #define GRUMPY_SHORT_MEMORY 40    /* a lent memory or the report is too short */
 #define GRUMPY_LARGE_ALLOWANCE 41 /* the allowance is too large */
 #define GRUMPY_OUT_OF_UNITS 50    /* the allowance is used up */

@@ -1,7 +1,7 @@
 //! What the two services must report, and in which state each lent memory
 //! must be afterwards.
 
-use crate::{grammar, run as runner, text, tree, types, Refusal};
+use crate::{begins, grammar, run as runner, text, tree, types, Refusal};
 
 pub const MOST_BYTES: usize = 8192;
 pub const MOST_UNITS: u64 = 1_000_000;
@@ -102,9 +102,16 @@ fn prepare(source: &[u8]) -> Result<(tree::Program, types::Type), Refusal> {
         return Err(Refusal::new(10, 0));
     }
     let tokens = text::tokens(source)?;
-    let program = grammar::read(&tokens).ok_or(Refusal::new(20, 0))?;
+    let program = grammar::read(&tokens).ok_or_else(|| no_reading(source, &tokens))?;
     let kind = types::check(&program)?;
     Ok((program, kind))
+}
+
+/// 20 is told at the token that no program begins with; where only the end is
+/// wrong, at the end of the source, behind blanks and comments too.
+fn no_reading(source: &[u8], tokens: &[text::Token]) -> Refusal {
+    let wrong = begins::first_wrong(tokens).map(|index| tokens[index].place);
+    Refusal::new(20, wrong.unwrap_or(source.len()))
 }
 
 fn refused(refusal: Refusal, left: Left) -> Answer {

@@ -57,7 +57,7 @@ fn runs_together(left: &str, right: &str) -> bool {
         || (left == "/" && matches!(next, b'/' | b'*'))
 }
 
-fn any_token(chance: &mut Chance) -> String {
+pub fn any_token(chance: &mut Chance) -> String {
     match chance.below(3) {
         0 => chance.pick(&RESERVED).to_string(),
         1 => chance.pick(&MARKS).to_string(),

@@ -3,11 +3,13 @@
 //! follow does, so everything is an ordinary tree, vector or map.
 
 pub mod answer;
+pub mod begins;
 pub mod cases;
 pub mod chance;
 pub mod compare;
 pub mod damage;
 pub mod deep;
+pub mod follows;
 pub mod forms;
 pub mod grammar;
 pub mod layers;
@@ -19,6 +21,7 @@ pub mod rare;
 pub mod run;
 pub mod sheets;
 pub mod shrink;
+pub mod slips;
 pub mod text;
 pub mod tree;
 pub mod trial;

@@ -22,7 +22,7 @@ use second::cases::{self, Case};
 use second::compare::compare;
 use second::piped::Piped;
 use second::trial::Trial;
-use second::{on_big_stack, paper, shrink, trial};
+use second::{follows, on_big_stack, paper, shrink, trial};
 use std::collections::BTreeMap;
 use std::io::Write;
 use std::process::ExitCode;
@@ -104,7 +104,7 @@ fn alone(trial: &Trial, answer: &Answer) -> Result<(), String> {
             "a type with a refusal",
         ),
         (
-            answer.place == 0 || answer.place < trial.sheet.len() as u64,
+            answer.place < (trial.sheet.len() + usize::from(answer.number == 20)).max(1) as u64,
             "a place outside",
         ),
     ];
@@ -213,6 +213,12 @@ fn all_cases() -> u64 {
                 tally.failed += 1;
             }
         }
+    }
+    for sheet in follows::ends() {
+        tally.add("an end", Trial::of(&sheet, Lent::default()));
+    }
+    for follow in follows::all() {
+        tally.add("a token", Trial::of(&follow.sheet, Lent::default()));
     }
     tally.close()
 }

@@ -88,7 +88,7 @@ fn proved() -> Vec<Case> {
         refused("2147483648", 13, 0),
         int("-7/2", -3, 4),
         stop("7/0", 53, 1, 3),
-        refused("1<2<3", 20, 0),
+        refused("1<2<3", 20, 3),
         refused("", 20, 0),
         refused("let x=1 in x;2", 33, 12),
         refused("/*/*/", 12, 0),
@@ -111,7 +111,7 @@ fn easily_wrong() -> Vec<Case> {
         int("let x=1 in let z = ref x in {z := 5}; !z + 1", 6, 14),
         stop("(-2147483647-1)/-1", 52, 15, 8),
         stop("-(-2147483647-1)", 52, 0, 6),
-        refused("def f():int{x}let x=1 in f()", 33, 12),
+        refused("def f():int{x}let x=1 in f()", 35, 12),
         int(
             "def f(x:int):int{let y=x in y}let x=7 in let y=9 in f(1)+x+y",
             17,
@@ -135,7 +135,7 @@ fn scope_programs() -> Vec<Case> {
     let place = |sheet: &str, part: &str| sheet.rfind(part).expect("the part is there") as u64;
     vec![
         int(LEGAL, 5, 21),
-        refused(ILLEGAL, 33, place(ILLEGAL, "w + 1")),
+        refused(ILLEGAL, 35, place(ILLEGAL, "w + 1")),
         stop(DANGLING, 54, place(DANGLING, "!h()"), 8),
     ]
 }

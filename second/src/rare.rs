@@ -31,7 +31,7 @@ pub fn sheet(chance: &mut Chance) -> Vec<u8> {
 }
 
 /// A short random expression, to vary what stands around a limit.
-fn part(chance: &mut Chance, kind: &Type) -> String {
+pub fn part(chance: &mut Chance, kind: &Type) -> String {
     let fuel = chance.between(1, 6) as i32;
     let mut writer = Writer::new(chance, fuel);
     writer.expression(kind, SEQ);

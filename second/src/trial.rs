@@ -2,7 +2,7 @@
 
 use crate::answer::{self, Lent, MOST_UNITS, TABLE_WORDS, WORK_WORDS};
 use crate::chance::Chance;
-use crate::{damage, rare, sheets};
+use crate::{damage, rare, sheets, slips};
 
 #[derive(Clone, Debug)]
 pub struct Trial {
@@ -63,13 +63,16 @@ fn make_sheet(chance: &mut Chance) -> Vec<u8> {
         let tokens = damage::soup(chance);
         return damage::spell(chance, &tokens);
     }
+    if choice < 36 {
+        return slips::sheet(chance);
+    }
     let fuel = chance.pick(&[2, 5, 10, 20, 40, 80]);
     let mut tokens = sheets::program(chance, fuel);
-    if choice < 40 {
+    if choice < 44 {
         damage::damage_tokens(chance, &mut tokens);
     }
     let mut sheet = damage::spell(chance, &tokens);
-    if (40..50).contains(&choice) {
+    if (44..52).contains(&choice) {
         damage::damage_bytes(chance, &mut sheet);
     }
     sheet

@@ -117,29 +117,41 @@ impl Checker {
             }
         }
         self.rule(&node.form, &inside)
-            .ok_or(Refusal::new(33, node.place))
+            .map_err(|number| Refusal::new(number, node.place))
     }
 
-    /// The type of a form whose children have these types, if a rule fits.
-    fn rule(&self, form: &Form, inside: &[Type]) -> Option<Type> {
-        match (form, inside) {
+    /// The type of a form whose children have these types, or the number of
+    /// its refusal.
+    fn rule(&self, form: &Form, inside: &[Type]) -> Result<Type, u32> {
+        let fitting = match (form, inside) {
+            (Form::Variable(name), _) => return self.variable(name),
+            (Form::Call(name, _), arguments) => return self.call(name, arguments),
             (Form::Number(_), _) => Some(Type::Int),
             (Form::Truth(_), _) => Some(Type::Bool),
             (Form::Unit, _) => Some(Type::Unit),
-            (Form::Variable(name), _) => {
-                let nearest = self.variables.iter().rev().find(|(n, _)| n == name);
-                nearest.map(|(_, kind)| kind.clone())
-            }
-            (Form::Call(name, _), arguments) => {
-                let signature = self.functions.get(name)?;
-                (signature.parameters == arguments).then(|| signature.result.clone())
-            }
             (Form::Group(_) | Form::Block(_), [kind]) => Some(kind.clone()),
             (Form::Prefix(prefix, _), [kind]) => prefix_rule(*prefix, kind),
             (Form::Infix(mark, ..), [left, right]) => infix_rule(*mark, left, right),
             (Form::If(..), [Type::Bool, yes, no]) => (yes == no).then(|| yes.clone()),
             (Form::While(..), [Type::Bool, Type::Unit]) => Some(Type::Unit),
             _ => None,
+        };
+        fitting.ok_or(33)
+    }
+
+    fn variable(&self, name: &str) -> Result<Type, u32> {
+        let nearest = self.variables.iter().rev().find(|(n, _)| n == name);
+        nearest.map(|(_, kind)| kind.clone()).ok_or(35)
+    }
+
+    fn call(&self, name: &str, arguments: &[Type]) -> Result<Type, u32> {
+        let signature = self.functions.get(name).ok_or(36u32)?;
+        if signature.parameters.len() != arguments.len() {
+            return Err(37);
+        }
+        match signature.parameters == arguments {
+            true => Ok(signature.result.clone()),
+            false => Err(33),
         }
     }
 }

@@ -6,7 +6,7 @@ use second::on_big_stack;
 #[test]
 fn all_case_files_agree() {
     let cases = read_folder(&folder()).unwrap_or_else(|problem| panic!("{problem}"));
-    assert!(cases.len() >= 320, "only {} cases", cases.len());
+    assert!(cases.len() >= 800, "only {} cases", cases.len());
     let wrong: Vec<String> = on_big_stack(|| {
         cases
             .iter()

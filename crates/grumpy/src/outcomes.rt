@@ -106,7 +106,8 @@ fn answer(table: &[u32], count: usize, end: usize, type_number: u32, ending: End
             units,
             printed,
         } => {
-            let place = sheets::place(table, count, end, at);
+            let ordinal = at as usize;
+            let place = sheets::place(table, count, end, ordinal);
             Ran::Stopped {
                 why,
                 place,

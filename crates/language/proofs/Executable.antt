@@ -12,6 +12,15 @@ pub mod Settles
 pub mod SettlesExpressions
 pub mod SettlesLevels
 pub mod SettlesPrograms
+-- how far it looks, and that what it has passed can be completed
+pub mod Locality
+pub mod Agreement
+pub mod Fresh
+pub mod Failing
+pub mod FailingPrograms
+pub mod FailingExpressions
+pub mod FailingAtoms
+pub mod Completion
 -- operators in one loop
 pub mod Climbing
 -- the checker

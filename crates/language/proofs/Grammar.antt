@@ -6,3 +6,6 @@ pub mod OneReading
 pub mod FewNodes
 pub mod OwnTokens
 pub mod OwnOnce
+pub mod Prefixes
+pub mod FirstWrong
+pub mod WrongPlaces

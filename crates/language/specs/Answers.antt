@@ -15,6 +15,7 @@ use Rattle.language.specs.Text.{Flaw}
 use Rattle.language.specs.Edition.{Splits, Flawed}
 use Rattle.language.specs.Trees.{Ty, Program}
 use Rattle.language.specs.Grammar.{Reading}
+use Rattle.language.specs.Starts.{FirstWrong}
 use Rattle.language.specs.Types.{HasType}
 use Rattle.language.specs.Faults.{Reason, HasFault}
 use Rattle.language.specs.State.{State, Outcome, value, stop, stuck}
@@ -68,7 +69,8 @@ pub record Proper (ts : List Token) (p : Program) (t : Ty) : Type 0 where
 
 -- or not, and why and at which token; a fault's order is in Faults
 pub data Denied (ts : List Token) : Refusal → Spot → Type 0 where
-  unread : ((p : Program) → Reading ts p → ⊥) → Denied ts no-reading nowhere
+  -- R01.3: at the first token with which no program goes on, or at the end
+  unread : {i : ℕ} → FirstWrong ts i → Denied ts no-reading (at i)
   faulty : {p : Program} {r : Reason} {i : ℕ} → Reading ts p → HasFault p r i → Denied ts (types r) (at i)
 
 -- The two steps together: what an origin comes to.

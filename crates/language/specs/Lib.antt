@@ -4,6 +4,7 @@ pub mod Text
 pub mod Edition
 pub mod Trees
 pub mod Grammar
+pub mod Starts
 pub mod Types
 pub mod Faults
 pub mod State

@@ -1,4 +1,4 @@
--- The table of numbers (S068 to S090): what an answer tells, and the number of it. 21 stood for too many nodes, which no
+-- The table of numbers (S068 to S090, R01.2): what an answer tells, and the number of it. 21 stood for too many nodes, which no
 -- reading has; it is not used again (R02.4).
 use Prim.Native.Nat.{ℕ}
 use Rattle.language.specs.Text.{Flaw, strange-byte, open-comment, large-number, many-tokens}
@@ -29,9 +29,9 @@ reason-number too-many-functions = 30
 reason-number too-many-parameters = 30
 reason-number function-twice = 31
 reason-number parameter-twice = 32
-reason-number no-binding = 33
-reason-number no-function = 33
-reason-number wrong-number = 33
+reason-number no-binding = 35
+reason-number no-function = 36
+reason-number wrong-number = 37
 reason-number wrong-argument = 33
 reason-number wrong-operand = 33
 reason-number wrong-operands = 33

@@ -7,7 +7,7 @@ use Rattle.language.specs.Sizes.{TABLE}
 use Rattle.language.specs.Tokens.{Token}
 use Rattle.language.specs.Trees.{Program}
 use Rattle.language.specs.Grammar.{Reading}
-use Rattle.language.proofs.Executable.Settles.{settles-once}
+use Rattle.language.proofs.Grammar.FirstWrong.{one-place, place-exactly}
 use Rattle.language.proofs.Grammar.OneReading.{one-reading}
 use Rattle.layout.specs.Names.{Stand}
 use Rattle.layout.specs.Decode.{Holds}
@@ -27,9 +27,9 @@ module _ (ts : List Token) where
       let l₁ = a .laid in
       let l₂ = b .laid in
       (cc, cc)
-  one-finding w (Found.Program d r) (Found.None e) x y a b = absurd (b .unreadable (a .program) (a .reading))
-  one-finding w (Found.None e) (Found.Program d r) x y a b = absurd (a .unreadable (b .program) (b .reading))
-  one-finding w (Found.None e) (Found.None e₂) x y a b = let q = settles-once (a .at) (b .at) in (cc, a .clear ∙ sym (b .clear))
+  one-finding w (Found.Program d r) (Found.None e) x y a b = absurd (place-exactly ts .0 (_, b .at) (a .program) (a .reading))
+  one-finding w (Found.None e) (Found.Program d r) x y a b = absurd (place-exactly ts .0 (_, a .at) (b .program) (b .reading))
+  one-finding w (Found.None e) (Found.None e₂) x y a b = let q = one-place ts (a .at) (b .at) in (cc, a .clear ∙ sym (b .clear))
 
   -- the table holds the program that was found, a reading of the tokens
   pub found-held : {w w′ : List ℕ} {count defs root : ℕ} → TABLE ≤ length w → Stand w count ts → Finds ts w (Found.Program defs root) w′

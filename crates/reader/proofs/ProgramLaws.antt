@@ -7,7 +7,8 @@ use Rattle.language.specs.Sizes.{TOKENS, NODES}
 use Rattle.language.specs.Tokens.{Token, DEF}
 use Rattle.language.specs.Trees.{Program}
 use Rattle.language.specs.Grammar.{before}
-use Rattle.language.proofs.Executable.Settles.{settled-reading, settled-none}
+use Rattle.language.proofs.Executable.Settles.{settled-reading}
+use Rattle.language.proofs.Grammar.FirstWrong.{place}
 use Rattle.language.proofs.Executable.SettlesPrograms as S
 use Rattle.layout.specs.Table.{kind-of, put-function, without-rows}
 use Rattle.layout.specs.Names.{Stand}
@@ -103,15 +104,14 @@ module _ {count : ℕ} {w w₁ : List ℕ} where
   -- nothing, or no program
   pub found-none : {e : ℕ} {w₂ : List ℕ} → ProgramAnswer (Sequel 0) count w 0 0 (Sheet.None e) w₁ → w₂ ≡ without-rows w₁
       → (ts : List Token) → Stand w count ts → Finds ts w (Found.None e) w₂
-  found-none a q ts s = let x = S.entire-failed (a .told ts s) in record { unreadable = settled-none x; at = x; clear = q ∙ a .clear }
+  found-none a q ts s = record { at = place ts (S.entire-failed (a .told ts s)); clear = q ∙ a .clear }
 
   module _ {d r m : ℕ} (a : ProgramAnswer (Sequel 0) count w 0 0 (Sheet.Program d r m) w₁) where
     -- a program that ends too early
     pub found-short : {w₂ : List ℕ} → (m ≡ count → ⊥) → w₂ ≡ without-rows w₁ → (ts : List Token) → Stand w count ts
         → Finds ts w (Found.None m) w₂
     found-short h q ts s =
-        let x = S.entire-short (a .told ts s .told) (λ e. h (e ∙ s .long)) in
-        record { unreadable = settled-none x; at = x; clear = q ∙ a .clear }
+        record { at = place ts (S.entire-short (a .told ts s .told) (λ e. h (e ∙ s .long))); clear = q ∙ a .clear }
 
     -- a program
     pub found-program : m ≡ count → (ts : List Token) → Stand w count ts → Finds ts w (Found.Program d r) w₁

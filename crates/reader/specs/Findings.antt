@@ -6,9 +6,7 @@ use lib.ListN.{length}
 use Rattle.language.specs.Tokens.{Token}
 use Rattle.language.specs.Trees.{Program}
 use Rattle.language.specs.Grammar.{Reading}
-use Rattle.language.proofs.Executable.Parses.{failed}
-use Rattle.language.proofs.Executable.Parser.{entire}
-use Rattle.language.proofs.Executable.Settles.{Settles}
+use Rattle.language.specs.Starts.{FirstWrong}
 use Rattle.layout.specs.Table.{without-rows}
 use Rattle.layout.specs.Rows.{lay-program, main-row}
 use Rattle.reader.specs.declared.Found.{Found}
@@ -21,10 +19,9 @@ pub record Read (ts : List Token) (w : List ℕ) (defs root : ℕ) (w′ : List 
   pub top : root ≡ main-row program
   pub laid : w′ ≡ lay-program w program
 
--- none: the grammar can go on with no token from number e on
+-- none: token e is the first with which no program goes on, or the end where only the end is wrong (R01.3)
 pub record Unread (ts : List Token) (w : List ℕ) (e : ℕ) (w′ : List ℕ) : Type 0 where
-  pub unreadable : (p : Program) → Reading ts p → ⊥
-  pub at : Settles ts entire 0 (failed e)
+  pub at : FirstWrong ts e
   pub clear : w′ ≡ without-rows w
 
 abbrev pub Finds : List Token → List ℕ → Found → List ℕ → Type 0

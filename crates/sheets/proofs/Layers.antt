@@ -10,7 +10,7 @@ use borrow.Author.Tests.{ltb-true, lt-ltb, le-ltb}
 use Rattle.language.specs.Sizes.{TOKENS, TABLE}
 use Rattle.language.specs.Tokens.{Token, place-at}
 use Rattle.language.specs.Trees.{Program}
-use Rattle.language.specs.Answers.{place-in, too-long, flawed, TextGives, from-text, Denied, unread, faulty, Refused, by-origin, by-tokens}
+use Rattle.language.specs.Answers.{at, too-long, flawed, TextGives, from-text, Denied, unread, faulty, Refused, by-origin, by-tokens}
 use Rattle.numbers.specs.Meanings.{reason-meant, refusal-meant}
 use Rattle.numbers.specs.declared.Flaw.{Flaw}
 use Rattle.numbers.specs.declared.Reason.{Reason}
@@ -32,8 +32,7 @@ use Rattle.reader.specs.Findings as Reader
 use Rattle.reader.specs.declared.Found as found
 use Rattle.checker.specs.Checked as Checker
 use Rattle.rules.specs.declared.Typing as typing
-use Rattle.sheets.specs.Sheets.{wiped, spot-meant, byte-of, byte-in, Held, OfProgram, Typed, Standing, OfTokens, Read, Placed, OfSource, Examined}
-use Rattle.sheets.specs.declared.Spot.{Spot}
+use Rattle.sheets.specs.Sheets.{wiped, byte-of, Held, OfProgram, Typed, Standing, OfTokens, Read, Placed, OfSource, Examined}
 use Rattle.sheets.specs.declared.Verdict.{Verdict}
 use Rattle.sheets.specs.declared.Seen.{Seen}
 
@@ -58,11 +57,6 @@ pub byte-past : (w : List ℕ) (count end i : ℕ) → count ≤ i → end ≡ b
 unfolding byte-of
 byte-past w count end i h = rw (le-ltb i count h) refl
 
-spot-stands : {w : List ℕ} {count : ℕ} {ts : List Token} (source : List ℕ) → Stand w count ts → (p : Spot)
-    → byte-in w count (length source) p ≡ place-in (from-text source) ts (spot-meant p)
-spot-stands source s Spot.Nowhere = refl
-spot-stands source s (Spot.At i) = byte-stands source s i
-
 -- ---- the type of a program that is held
 
 module _ (w w′ : List ℕ) (count defs root : ℕ) where
@@ -85,9 +79,9 @@ module _ (w w′ : List ℕ) (count defs root : ℕ) where
   }
 
   pub typed-fault : (r : typing.Typing) (y : Reason) (i : ℕ) → Checker.Checked w w′ count defs root r → r ≡ typing.the-variants.Fault y i
-      → Typed w w′ count defs root (Verdict.Denied (Refusal.Types y) (Spot.At i))
+      → Typed w w′ count defs root (Verdict.Denied (Refusal.Types y) i)
   typed-fault r y i c q = record {
-    told = λ ts p h. (reason-meant y, i, subst (λ (r : typing.Typing). Checker.Answers r p) q (c .right ts p h), refl, refl);
+    told = λ ts p h. (reason-meant y, subst (λ (r : typing.Typing). Checker.Answers r p) q (c .right ts p h), refl);
     holds = checked-holds (c .table);
     rest = checked-rest (c .table);
     long = checked-long (c .table);
@@ -125,7 +119,7 @@ module _ (w w₁ : List ℕ) (count : ℕ) (st : Standing w count) where
     numbered = x .2;
     holds = rw (a, b) h;
   }
-  of-program (Verdict.Denied y s) r (v, j, f, e, g) h = rw (e, g) (faulty (r .reading) f)
+  of-program (Verdict.Denied y i) r (v, f, e) h = rw e (faulty (r .reading) f)
 
   pub read-program : (w₂ : List ℕ) (r : found.Found) (defs root : ℕ) (v : Verdict) → Found r → r ≡ found.the-variants.Program defs root
       → Typed w₁ w₂ count defs root v → Read w w₂ count v
@@ -142,28 +136,28 @@ module _ (w w₁ : List ℕ) (count : ℕ) (st : Standing w count) where
       }
 
   -- where there is no program the rows are cleared
-  read-denied : (y : Refusal) (s : Spot) → w₁ ≡ without-rows w → ((ts : List Token) → Stand w count ts → Denied ts (refusal-meant y) (spot-meant s))
-      → Read w w₁ count (Verdict.Denied y s)
-  read-denied y s e d = record {
+  read-denied : (y : Refusal) (i : ℕ) → w₁ ≡ without-rows w → ((ts : List Token) → Stand w count ts → Denied ts (refusal-meant y) (at i))
+      → Read w w₁ count (Verdict.Denied y i)
+  read-denied y i e d = record {
     told = d;
     stands = λ ts x. rw e (stand-same (without-rows w) w count ts (λ j h. zeros-before _ w _ j h) x);
     rest = ap wiped e ∙ wiped-without-rows w;
     long = ap length e ∙ length-zeros _ w _;
   }
 
-  pub read-none : (r : found.Found) (i : ℕ) → Found r → r ≡ found.the-variants.None i → Read w w₁ count (Verdict.Denied Refusal.NoReading Spot.Nowhere)
+  pub read-none : (r : found.Found) (i : ℕ) → Found r → r ≡ found.the-variants.None i → Read w w₁ count (Verdict.Denied Refusal.NoReading i)
   read-none r i f e =
       let g = subst Found e f in
-      read-denied Refusal.NoReading Spot.Nowhere ((g (st .tokens) (st .stand)) .clear) λ ts x. unread ((g ts x) .unreadable)
+      read-denied Refusal.NoReading i ((g (st .tokens) (st .stand)) .clear) λ ts x. unread ((g ts x) .at)
 
 -- ---- a source
 
 pub placed-proper : (w : List ℕ) (count end d r n : ℕ) (v : Verdict) → v ≡ Verdict.Proper d r n → Placed w count end v (Seen.Passes count d r n)
 placed-proper w count end d r n v e = subst (λ (v : Verdict). Placed w count end v (Seen.Passes count d r n)) (sym e) refl
 
-pub placed-denied : (w : List ℕ) (count end x : ℕ) (y : Refusal) (p : Spot) (v : Verdict) → v ≡ Verdict.Denied y p → x ≡ byte-in w count end p
+pub placed-denied : (w : List ℕ) (count end x : ℕ) (y : Refusal) (i : ℕ) (v : Verdict) → v ≡ Verdict.Denied y i → x ≡ byte-of w count end i
     → Placed w count end v (Seen.Refused y x)
-placed-denied w count end x y p v e f = subst (λ (v : Verdict). Placed w count end v (Seen.Refused y x)) (sym e) (ap (Seen.Refused y) f)
+placed-denied w count end x y i v e f = subst (λ (v : Verdict). Placed w count end v (Seen.Refused y x)) (sym e) (ap (Seen.Refused y) f)
 
 module _ (source w w₁ : List ℕ) (long : TABLE ≤ length w) where
   whole-stands : {n : ℕ} (x : Tokens.Whole source w w₁ n) → Stand w₁ n (x .tokens)
@@ -199,9 +193,9 @@ module _ (source w w₁ : List ℕ) (long : TABLE ≤ length w) where
     numbered = a .numbered;
     holds = a .holds;
   }
-  of-tokens x w₂ st (Verdict.Denied y p) s a e =
+  of-tokens x w₂ st (Verdict.Denied y i) s a e =
       subst (OfSource source w₂) (sym e)
-      (subst (Refused (from-text source) (refusal-meant y)) (sym (spot-stands source st p)) (by-tokens (given x) a))
+      (subst (Refused (from-text source) (refusal-meant y)) (sym (byte-stands source st i)) (by-tokens (given x) a))
 
   pub examined-tokens : (r : split.Split) (n : ℕ) (w₂ : List ℕ) (v : Verdict) (s : Seen) → Tokens.IsSplit source w w₁ r → r ≡ split.the-variants.Tokens n
       → Read w₁ w₂ n v → Placed w₂ n (length source) v s → Examined source w w₂ s

@@ -12,13 +12,11 @@ use Rattle.language.specs.Types.{HasType}
 use Rattle.language.specs.Faults.{Reason, HasFault}
 use Rattle.language.specs.Meaning.{type-number}
 use Rattle.language.specs.Numbers.{types}
-use Rattle.language.specs.Answers as Answers
-use Rattle.language.specs.Answers.{from-text, Proper, Denied, Passes, Refused}
+use Rattle.language.specs.Answers.{at, from-text, Proper, Denied, Passes, Refused}
 use Rattle.numbers.specs.Meanings.{refusal-meant}
 use Rattle.layout.specs.Table.{token-word, zeros}
 use Rattle.layout.specs.Names.{Stand}
 use Rattle.layout.specs.Decode.{Holds}
-use Rattle.sheets.specs.declared.Spot.{Spot}
 use Rattle.sheets.specs.declared.Verdict.{Verdict}
 use Rattle.sheets.specs.declared.Seen.{Seen}
 
@@ -28,17 +26,9 @@ wiped w = zeros w 0 TABLE
 
 -- ---- places
 
-abbrev pub spot-meant : Spot → Answers.Spot
-spot-meant Spot.Nowhere = Answers.nowhere
-spot-meant (Spot.At i) = Answers.at i
-
 -- the byte of an ordinal, from the words of a table; the source ends at `end`
 unfoldable pub byte-of : List ℕ → ℕ → ℕ → ℕ → ℕ
 byte-of w count end i = cond (ltb i count) (token-word w i 1) end
-
-abbrev pub byte-in : List ℕ → ℕ → ℕ → Spot → ℕ
-byte-in w count end Spot.Nowhere = 0
-byte-in w count end (Spot.At i) = byte-of w count end i
 
 -- ---- a program that the table holds
 
@@ -50,8 +40,7 @@ pub record Held (w : List ℕ) (count defs root : ℕ) : Type 0 where
 -- the type of p, or its fault
 abbrev pub OfProgram : Program → ℕ → ℕ → Verdict → Type 0
 OfProgram p defs root (Verdict.Proper d r n) = (d ≡ defs) × (r ≡ root) × ((t : Ty) × HasType p t × (n ≡ type-number t))
-OfProgram p defs root (Verdict.Denied y s) =
-    (r : Reason) × (i : ℕ) × HasFault p r i × (refusal-meant y ≡ types r) × (spot-meant s ≡ Answers.at i)
+OfProgram p defs root (Verdict.Denied y i) = (r : Reason) × HasFault p r i × (refusal-meant y ≡ types r)
 
 pub record Typed (w w′ : List ℕ) (count defs root : ℕ) (v : Verdict) : Type 0 where
   pub told : (ts : List Token) (p : Program) → Holds ts w count defs root p → OfProgram p defs root v
@@ -76,7 +65,7 @@ pub record Allowed (ts : List Token) (w : List ℕ) (count defs root n : ℕ) : 
 
 abbrev pub OfTokens : List Token → List ℕ → ℕ → Verdict → Type 0
 OfTokens ts w count (Verdict.Proper d r n) = Allowed ts w count d r n
-OfTokens ts w count (Verdict.Denied y s) = Denied ts (refusal-meant y) (spot-meant s)
+OfTokens ts w count (Verdict.Denied y i) = Denied ts (refusal-meant y) (at i)
 
 pub record Read (w w′ : List ℕ) (count : ℕ) (v : Verdict) : Type 0 where
   pub told : (ts : List Token) → Stand w count ts → OfTokens ts w′ count v
@@ -89,7 +78,7 @@ pub record Read (w w′ : List ℕ) (count : ℕ) (v : Verdict) : Type 0 where
 -- what is seen of a source that ends at `end`, from what becomes of its tokens
 abbrev pub Placed : List ℕ → ℕ → ℕ → Verdict → Seen → Type 0
 Placed w count end (Verdict.Proper d r n) s = s ≡ Seen.Passes count d r n
-Placed w count end (Verdict.Denied y p) s = s ≡ Seen.Refused y (byte-in w count end p)
+Placed w count end (Verdict.Denied y i) s = s ≡ Seen.Refused y (byte-of w count end i)
 
 -- it passes, and the table holds its program
 pub record Passing (source w : List ℕ) (count defs root n : ℕ) : Type 0 where

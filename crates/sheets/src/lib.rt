@@ -4,27 +4,21 @@ ghost use mathlib.Core.Path.{_≡_};
 ghost use Prim.Native.Nat.{_≤_};
 ghost use lib.ListN.{length};
 ghost use Rattle.language.specs.Sizes.{TOKENS, TABLE};
-ghost use Rattle.sheets.specs.Sheets.{byte-of, byte-in, Held, Typed, Standing, Read, Placed, Examined};
+ghost use Rattle.sheets.specs.Sheets.{byte-of, Held, Typed, Standing, Read, Placed, Examined};
 use numbers::Refusal;
 use reader::Found;
 use rules::Typing;
 use tokens::answer::Split;
 
-// What an answer points at: nothing, or the token with this ordinal.
-pub enum Spot {
-    Nowhere,
-    At(u32),
-}
-
 // What becomes of tokens: a program, as the table holds it, with its type's number; or why they are none,
-// and where.
+// and the ordinal of the token at which this is told.
 pub enum Verdict {
     Proper {
         defs: usize,
         root: usize,
         type_number: u32,
     },
-    Denied(Refusal, Spot),
+    Denied(Refusal, usize),
 }
 
 // What becomes of a source: the same, with the count of its tokens and a byte for a place.
@@ -39,25 +33,14 @@ pub enum Seen {
 }
 
 // The byte of the token with this ordinal; past the last token, the end of the source.
-pub fn place(table: &[u32], count: usize, end: usize, at: u32) -> usize
+pub fn place(table: &[u32], count: usize, end: usize, at: usize) -> usize
     requires { ⌜ (TABLE ≤ length (now table)) × (count ≤ TOKENS) ⌝ }
     ensures { λ r. ⌜ r ≡ byte-of (now (table .entry)) count end at ⌝ }
 {
-    let i = at as usize;
-    if i < count {
-        return layout::token::place(table, i) as usize;
+    if at < count {
+        return layout::token::place(table, at) as usize;
     }
     end
-}
-
-fn place_in(table: &[u32], count: usize, end: usize, spot: Spot) -> usize
-    requires { ⌜ (TABLE ≤ length (now table)) × (count ≤ TOKENS) ⌝ }
-    ensures { λ r. ⌜ r ≡ byte-in (now (table .entry)) count end spot ⌝ }
-{
-    match spot {
-        Spot::Nowhere => 0,
-        Spot::At(at) => place(table, count, end, at),
-    }
 }
 
 // The type of the program that the table holds.
@@ -71,7 +54,10 @@ fn typed(table: &mut [u32], count: usize, defs: usize, root: usize) -> Verdict
             root,
             type_number,
         },
-        Typing::Fault(why, at) => Verdict::Denied(Refusal::Types(why), Spot::At(at)),
+        Typing::Fault(why, at) => {
+            let ordinal = at as usize;
+            Verdict::Denied(Refusal::Types(why), ordinal)
+        }
     }
 }
 
@@ -82,7 +68,7 @@ fn read(table: &mut [u32], count: usize) -> Verdict
 {
     match reader::read(table, count) {
         Found::Program { defs, root } => typed(table, count, defs, root),
-        Found::None { at: _ } => Verdict::Denied(Refusal::NoReading, Spot::Nowhere),
+        Found::None { at } => Verdict::Denied(Refusal::NoReading, at),
     }
 }
 
@@ -102,7 +88,7 @@ fn placed(table: &[u32], count: usize, end: usize, verdict: Verdict) -> Seen
             root,
             type_number,
         },
-        Verdict::Denied(why, spot) => Seen::Refused(why, place_in(table, count, end, spot)),
+        Verdict::Denied(why, at) => Seen::Refused(why, place(table, count, end, at)),
     }
 }
 

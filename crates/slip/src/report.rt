@@ -75,7 +75,7 @@ pub fn place(source: &[u8], at: usize) {
 // Has this number a place?
 fn has_place(n: u32) -> bool {
     match n {
-        0 | 10 | 20 | 40 | 41 => false,
+        0 | 10 | 40 | 41 => false,
         _ => true,
     }
 }

@@ -12,6 +12,7 @@ use Rattle.language.specs.Edition.{Splits, Flawed}
 use Rattle.language.specs.Text.{Flaw}
 use Rattle.language.specs.Trees.{Ty, Program}
 use Rattle.language.specs.Grammar.{Reading}
+use Rattle.language.specs.Starts.{FirstWrong}
 use Rattle.language.specs.Types.{HasType}
 use Rattle.language.specs.Faults.{Reason, HasFault}
 use Rattle.language.specs.State.{Stop, State, Outcome, value, stop, stuck}
@@ -23,7 +24,7 @@ use Rattle.language.proofs.Answers.Endings.{IsRun, is-run}
 -- ---- numbers and places
 
 module _ (source : List ℕ) (l : Lent) where
-  -- the byte of token i
+  -- the byte of token i, or the text's length for the end
   abbrev byte-of : List Token → ℕ → ℕ
   byte-of ts i = from-text source .at ts i
 
@@ -34,8 +35,8 @@ module _ (source : List ℕ) (l : Lent) where
     row-41 : ALLOWANCE < l .allowance → Listed (refused large-allowance) 0
     row-10 : SOURCE < length source → Listed (refused long-source) 0
     rows-11-to-14 : {f : Flaw} {p : ℕ} → Flawed source f p → Listed (refused (text f)) p
-    row-20 : {ts : List Token} → Splits source ts → ((p : Program) → Reading ts p → ⊥) → Listed (refused no-reading) 0
-    rows-30-to-34 : {ts : List Token} {p : Program} {r : Reason} {i : ℕ}
+    row-20 : {ts : List Token} {i : ℕ} → Splits source ts → FirstWrong ts i → Listed (refused no-reading) (byte-of ts i)
+    rows-30-to-37 : {ts : List Token} {p : Program} {r : Reason} {i : ℕ}
         → Splits source ts → Reading ts p → HasFault p r i → Listed (refused (types r)) (byte-of ts i)
     rows-50-to-57 : {ts : List Token} {p : Program} {t : Ty} {w : Stop} {i : ℕ} {s : State}
         → Splits source ts → Reading ts p → HasType p t → run p (l .allowance) (l .output) ≡ stop w i s → Listed (stopped w) (byte-of ts i)
@@ -44,7 +45,7 @@ module _ (source : List ℕ) (l : Lent) where
   refused-listed (by-origin (too-long h)) = row-10 h
   refused-listed (by-origin (flawed h a)) = rows-11-to-14 a
   refused-listed (by-tokens g (unread h)) = row-20 (g .splits) h
-  refused-listed (by-tokens g (faulty a f)) = rows-30-to-34 (g .splits) a f
+  refused-listed (by-tokens g (faulty a f)) = rows-30-to-37 (g .splits) a f
 
   module _ {ts : List Token} {p : Program} {t : Ty} (a : Passes (from-text source) ts p t) where
     passed-listed : Listed passed 0

@@ -18,6 +18,7 @@ use Rattle.language.proofs.Types.TypeNumbers.{one-number}
 use Rattle.language.proofs.Answers.Endings.{IsRun, is-run, some-ending}
 use Rattle.language.proofs.Answers.Origins.{Lawful}
 use Rattle.language.proofs.Answers.OneAnswer.{one-checked, one-ran}
+use Rattle.language.proofs.Grammar.FirstWrong.{place-exactly}
 
 module _ {P : Type 0} (o : Origin P) where
   -- it comes to tokens that have a reading of the type t
@@ -52,7 +53,7 @@ module _ {P : Type 0} {o : Origin P} (law : Lawful o) where
 
   refused-unread : {r : Refusal} {x : P} → Refused o r x → r ≡ no-reading → NoProgram o
   refused-unread (by-origin {r} {x} d) e = absurd (law .not-reading x (subst (λ (r : Refusal). o .denies r x) e d))
-  refused-unread (by-tokens {ts} g (unread h)) e = record { tokens = ts; given = g; unread = h }
+  refused-unread (by-tokens {ts} g (unread h)) e = record { tokens = ts; given = g; unread = place-exactly ts .0 (_, h) }
   refused-unread (by-tokens g (faulty a f)) e = let z : _≡_ {A = ℕ} 0 1 = cc in absurd (omega arith)
 
   -- ---- check
@@ -81,7 +82,7 @@ module _ {P : Type 0} {o : Origin P} (law : Lawful o) where
       check-none-exactly = (
         λ e. of-unread a e,
         λ h.
-            let e = one-checked law table a (check-refused room (by-tokens (h .given) (unread (h .unread)))) in
+            let e = one-checked law table a (check-refused room (by-tokens (h .given) (unread (place-exactly (h .tokens) .1 (h .unread) .1)))) in
             ap (λ (r : CheckReport P). r .told) e,
       )
 
@@ -114,6 +115,6 @@ module _ {P : Type 0} {o : Origin P} (law : Lawful o) where
       run-none-exactly = (
         λ e. of-no-run a e,
         λ h.
-            let e = one-ran law l a (run-refused enough fair (by-tokens (h .given) (unread (h .unread)))) in
+            let e = one-ran law l a (run-refused enough fair (by-tokens (h .given) (unread (place-exactly (h .tokens) .1 (h .unread) .1)))) in
             ap (λ (r : RunReport P). r .told) (e .0),
       )

@@ -107,7 +107,7 @@ examples =
     ∷ example "2147483647+1" 100 52 10 1 (pos 0) 3 []
     ∷ example "2147483648" 100 13 0 0 (pos 0) 0 []
     ∷ example "-7/2" 100 0 0 1 (negsuc 2) 4 []
-    ∷ example "1<2<3" 100 20 0 0 (pos 0) 0 []
+    ∷ example "1<2<3" 100 20 3 0 (pos 0) 0 []
     ∷ example "" 100 20 0 0 (pos 0) 0 []
     ∷ example "let x=1 in x;2" 100 33 12 0 (pos 0) 0 []
     ∷ example "/*/*/" 100 12 0 0 (pos 0) 0 []
@@ -138,7 +138,7 @@ unfoldable worked : Example → Answer
 worked e = answered (e .allowance) (e .output) (spell (e .source)) (fate (text-lawful (spell (e .source))))
 
 unfoldable pub worked-out : List Example → List Said
-unfolding worked answered at-end ending fate text-lawful decLe decLt ℕ-discrete Parser.answer Parser.parse Parser.step
+unfolding worked answered at-end ending fate text-lawful decLe decLt ℕ-discrete Parser.parse Parser.step
     Parses.then Parses.test Parses.look Parses.need kind-at value-at spelling-at place-at entry same spelled check
     check-from check-def take-params infer literal-type unbound same-types join unop binop if-yes both nearest size
     refs Types.after Types.told Types.need type-number unsuited run eval begin charge functions step then choose

@@ -138,7 +138,7 @@ module _ (ts : List Token) where
 
   -- as many steps deep as there is fuel
   unfoldable pub parse : ℕ → (g : Goal) → ℕ → Result (Answer g)
-  parse zero g i = failed 0
+  parse zero g i = failed i
   parse (suc f) g i = step (parse f) g i
 
   -- the whole list; the fuel is enough for every reading

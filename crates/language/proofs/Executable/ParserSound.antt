@@ -23,7 +23,8 @@ module _ (ts : List Token) where
   Right result i x j = At ts i COLON × Reads ts type (i + 1) j x × At ts j LBRACE
   Right entire i x j = Reads ts program i (length ts) x
 
-  at : (i k : ℕ) → is ts i k ≡ true → At ts i k
+  -- the parser's test tells the kind
+  pub at : (i k : ℕ) → is ts i k ≡ true → At ts i k
   at i k e = eqb-true (kind-at ts i) k e
 
   module _ (r : (g : Goal) → ℕ → Result (Answer g)) (ok : (g : Goal) (i : ℕ) → All (Right g i) (r g i)) where
@@ -134,6 +135,9 @@ module _ (ts : List Token) where
   unfolding parse
   sound zero g i = nothing
   sound (suc f) g i = step-sound (parse ts f) (sound f) g i
+
+  pub right : (f : ℕ) (g : Goal) (i : ℕ) {x : Answer g} {j : ℕ} → parse ts f g i ≡ got x j → Right g i x j
+  right f g i e = all-got (subst (All (Right g i)) e (sound f g i))
 
   -- a program that is got is the list's reading
   pub answer-sound : (p : Program) (j : ℕ) → answer ts ≡ got p j → Reading ts p

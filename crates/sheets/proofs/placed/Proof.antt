@@ -9,16 +9,16 @@ enum-known-verdict c = search needs
 enum-known-verdict-2 : tie.Need-enum-known-verdict-2
 enum-known-verdict-2 c = search needs
 
-place-in-requires : tie.Need-place-in-requires
-place-in-requires c κs = search needs
+place-requires : tie.Need-place-requires
+place-requires c κs = search needs
 
 returns : tie.Need-returns
 returns c = placed-proper _ _ _ _ _ _ _ (c .before .verdict .given .1)
 
 returns-2 : tie.Need-returns-2
-returns-2 c = placed-denied _ _ _ _ _ _ _ (c .before .before .verdict2 .given .1) (c .place-in .ensures)
+returns-2 c = placed-denied _ _ _ _ _ _ _ (c .before .before .verdict2 .given .1) (c .place .ensures)
 
 pub placed-spec : {M : Type 1} → statement M
 placed-spec =
     tie.close
-    (tie.spec enum-known-verdict enum-known-verdict-2 place-in-requires returns returns-2)
+    (tie.spec enum-known-verdict enum-known-verdict-2 place-requires returns returns-2)

@@ -16,8 +16,8 @@ typed-requires c κs =
     let start = read .before .before .before in
     program-held _ _ _ (start .pre) _ _ _ (read .read .ensures) (defs .defs .given .1)
 
-enum-told : tie.Need-enum-told
-enum-told c = search needs
+enum-known-at : tie.Need-enum-known-at
+enum-known-at c = search needs
 
 same-length : tie.Need-same-length
 same-length c = search needs
@@ -35,9 +35,9 @@ same-length-2 c = search needs
 
 returns-2 : tie.Need-returns-2
 returns-2 c =
-    let read = c .before .before .before .before in
+    let read = c .before .before .before .before .before in
     let start = read .before .before .before in
-    read-none _ _ _ (start .pre) _ _ (read .read .ensures) (c .enum-told .given .1)
+    read-none _ _ _ (start .pre) _ _ (read .read .ensures) (c .before .at .given .1)
 
 pub read-spec : {M : Type 1} → statement M
 read-spec =
@@ -46,7 +46,7 @@ read-spec =
     read-requires
     enum-known-defs
     typed-requires
-    enum-told
+    enum-known-at
     same-length
     returns
     same-length-2

@@ -12,6 +12,9 @@ enum-known-type-number c = search needs
 enum-known-why : tie.Need-enum-known-why
 enum-known-why c = search needs
 
+cast-ordinal : tie.Need-cast-ordinal
+cast-ordinal c = search needs
+
 same-length : tie.Need-same-length
 same-length c = search needs
 
@@ -35,6 +38,7 @@ typed-spec =
     type-of-requires
     enum-known-type-number
     enum-known-why
+    cast-ordinal
     same-length
     returns
     same-length-2

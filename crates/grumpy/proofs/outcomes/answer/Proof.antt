@@ -14,6 +14,9 @@ enum-known-ending c = search needs
 enum-known-ending-2 : tie.Need-enum-known-ending-2
 enum-known-ending-2 c = search needs
 
+cast-ordinal : tie.Need-cast-ordinal
+cast-ordinal c = search needs
+
 place-requires : tie.Need-place-requires
 place-requires c κs = search needs
 
@@ -28,4 +31,4 @@ returns-2 c = ran-stopped _ _ _ _ _ _ _ _ _ _ (c .before .before .ending2 .given
 pub answer-spec : {M : Type 1} → statement M
 answer-spec =
     tie.close
-    (tie.spec enum-known-ending enum-known-ending-2 place-requires returns returns-2)
+    (tie.spec enum-known-ending enum-known-ending-2 cast-ordinal place-requires returns returns-2)

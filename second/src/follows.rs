@@ -1,0 +1,175 @@
+//! Which tokens may come after which beginning, by hand: for the place of 20
+//! every kind of token is set behind every beginning, also where it is wrong.
+
+use crate::text::{MARKS, RESERVED};
+
+/// What begins an operand, what begins an item too, what a sequence, a program.
+const OPERAND: &str = "- not ! ref x 1 true false tt ( {";
+const ITEM: &str = "if while - not ! ref x 1 true false tt ( {";
+const SEQ: &str = "let if while - not ! ref x 1 true false tt ( {";
+const PROGRAM: &str = "def let if while - not ! ref x 1 true false tt ( {";
+
+/// What may come behind an operand before a sequence has to end.
+const MORE: &str = "+ - * / < == && || := ;";
+
+/// A beginning, and what may come behind it.
+const TABLE: &[(&str, &[&str])] = &[
+    ("", &[PROGRAM]),
+    ("def", &["x"]),
+    ("def f", &["("]),
+    ("def f(", &["x )"]),
+    ("def f(a", &[":"]),
+    ("def f(a:", &["int bool unit"]),
+    ("def f(a:int", &["ref , )"]),
+    ("def f(a:bool ref", &["ref , )"]),
+    ("def f(a:int,", &["x"]),
+    ("def f(a:int,b", &[":"]),
+    ("def f(a:int,b:unit", &["ref , )"]),
+    ("def f()", &[":"]),
+    ("def f(a:int)", &[":"]),
+    ("def f():", &["int bool unit"]),
+    ("def f():int", &["ref {"]),
+    ("def f():int ref", &["ref {"]),
+    ("def f():int{", &[SEQ]),
+    ("def f():int{1", &[MORE, "}"]),
+    ("def f():int{1}", &[PROGRAM]),
+    ("def f():int{1}1", &[MORE]),
+    ("let", &["x"]),
+    ("let x", &["="]),
+    ("let x=", &[SEQ]),
+    ("let x=1", &[MORE, "in"]),
+    ("let x=1;1", &[MORE, "in"]),
+    ("let x=1 in", &[SEQ]),
+    ("let x=1 in 1", &[MORE]),
+    ("let x=let y=1", &[MORE, "in"]),
+    ("let x=let y=1 in 1", &[MORE, "in"]),
+    ("if", &[SEQ]),
+    ("if 1", &[MORE, "then"]),
+    ("if 1 then", &[SEQ]),
+    ("if 1 then 1", &[MORE, "else"]),
+    ("if 1 then 1 else", &[ITEM]),
+    ("if 1 then 1 else 1", &[MORE]),
+    ("if 1 then if 1 then 1 else 1", &[MORE, "else"]),
+    ("if 1 then 1 else if 1 then 1", &[MORE, "else"]),
+    ("if 1 then 1 else if 1 then 1 else", &[ITEM]),
+    ("if 1 then let x=1 in 1", &[MORE, "else"]),
+    ("if 1 then 1 else while 1{1}", &[";"]),
+    ("while", &[SEQ]),
+    ("while 1", &[MORE, "{"]),
+    ("while {1}", &[MORE, "{"]),
+    ("while 1{", &[SEQ]),
+    ("while 1{1", &[MORE, "}"]),
+    ("while 1{1}", &[";"]),
+    ("while 1{1};", &[SEQ]),
+    ("(", &[SEQ]),
+    ("(1", &[MORE, ")"]),
+    ("(1)", &[MORE]),
+    ("(while 1{1}", &["; )"]),
+    ("{", &[SEQ]),
+    ("{1", &[MORE, "}"]),
+    ("{1}", &[MORE]),
+    ("({1", &[MORE, "}"]),
+    ("({1}", &[MORE, ")"]),
+    ("f", &[MORE, "("]),
+    ("f(", &[SEQ, ")"]),
+    ("f(1", &[MORE, ", )"]),
+    ("f(1,", &[SEQ]),
+    ("f(1,1", &[MORE, ", )"]),
+    ("f()", &[MORE]),
+    ("f(1)", &[MORE]),
+    ("f((1", &[MORE, ")"]),
+    ("1", &[MORE]),
+    ("true", &[MORE]),
+    ("false", &[MORE]),
+    ("tt", &[MORE]),
+    ("1;", &[SEQ]),
+    ("1;1", &[MORE]),
+    ("-", &[OPERAND]),
+    ("not", &[OPERAND]),
+    ("!", &[OPERAND]),
+    ("ref", &[OPERAND]),
+    ("-1", &[MORE]),
+    ("1+", &[OPERAND]),
+    ("1-", &[OPERAND]),
+    ("1*", &[OPERAND]),
+    ("1/", &[OPERAND]),
+    ("1<", &[OPERAND]),
+    ("1==", &[OPERAND]),
+    ("1&&", &[OPERAND]),
+    ("1||", &[OPERAND]),
+    ("1:=", &[OPERAND]),
+    ("1+1", &[MORE]),
+    ("1*1", &[MORE]),
+    ("1<1", &["+ - * / && || := ;"]),
+    ("1==1", &["+ - * / && || := ;"]),
+    ("1<1&&1", &[MORE]),
+    ("1<1||1", &[MORE]),
+    ("1:=1", &["+ - * / < == && || ;"]),
+    ("1:=1<1", &["+ - * / && || ;"]),
+    ("1:=1;1", &[MORE]),
+    ("(1:=1)", &[MORE]),
+    ("(1<1)", &[MORE]),
+];
+
+/// A sheet of a beginning and one token, and whether that token may be there.
+pub struct Follow {
+    pub sheet: Vec<u8>,
+    pub place: usize,
+    pub may: bool,
+}
+
+/// Every beginning with every kind of token behind it.
+pub fn all() -> Vec<Follow> {
+    let kinds = RESERVED.iter().chain(&MARKS).chain(&["x", "1"]);
+    let kinds: Vec<&str> = kinds.copied().collect();
+    let follow = |(begin, allowed): &(&str, &[&str])| {
+        let allowed: Vec<&str> = allowed.iter().flat_map(|a| a.split(' ')).collect();
+        let one = |kind: &&str| Follow {
+            sheet: format!("{begin} {kind}").into_bytes(),
+            place: begin.len() + 1,
+            may: allowed.contains(kind),
+        };
+        kinds.iter().map(one).collect::<Vec<Follow>>()
+    };
+    TABLE.iter().flat_map(follow).collect()
+}
+
+/// Every beginning by itself, and with what is no token behind it.
+pub fn ends() -> Vec<Vec<u8>> {
+    let behind = ["", "  ", "\n", "/* x */", " // x"];
+    let end = |(begin, _): &(&str, &[&str])| behind.map(|b| format!("{begin}{b}").into_bytes());
+    TABLE.iter().flat_map(end).collect()
+}
+
+#[cfg(test)]
+mod tests {
+    use super::*;
+    use crate::answer::{check, TABLE_WORDS};
+    use crate::on_big_stack;
+
+    /// A token that may not be there is where 20 is told, and no other is.
+    #[test]
+    fn a_wrong_token_is_told_where_it_stands() {
+        on_big_stack(|| {
+            for Follow { sheet, place, may } in all() {
+                let answer = check(&sheet, TABLE_WORDS);
+                let told = answer.number == 20 && answer.place == place as u64;
+                let shown = String::from_utf8_lossy(&sheet);
+                assert_eq!(told, !may, "{shown}: {} {}", answer.number, answer.place);
+            }
+        });
+    }
+
+    /// No beginning has a wrong token in it, so what is missing is at the end.
+    #[test]
+    fn a_missing_end_is_told_at_the_end() {
+        on_big_stack(|| {
+            for sheet in ends() {
+                let answer = check(&sheet, TABLE_WORDS);
+                let shown = String::from_utf8_lossy(&sheet);
+                let told = answer.number != 20 || answer.place == sheet.len() as u64;
+                assert!(told, "{shown}: {}", answer.place);
+            }
+        });
+    }
+}
