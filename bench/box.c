@@ -2,8 +2,9 @@
  *
  *     box SHEET ALLOWANCE REPEATS   value, units, bytes printed, and the nanoseconds of the shortest run
  *     box SHEET ALLOWANCE print     what the sheet prints, and its value on a line under it
+ *     box SHEET ALLOWANCE check     checks the sheet once, and does not run it
  *
- * A sheet that does not come to a value ends it with a complaint: half a run is no measure.
+ * A sheet that is refused or does not come to a value ends it with a complaint: half a run is no measure.
  */
 #define _POSIX_C_SOURCE 200809L
 #include <inttypes.h>
@@ -26,22 +27,26 @@ static uint64_t now(void) {
   return (uint64_t)t.tv_sec * 1000000000u + (uint64_t)t.tv_nsec;
 }
 
+/* Ends with a complaint, unless the sheet passed or came to a value. */
+static void fine(const char *name, uint32_t number) {
+  if (number == GRUMPY_OK) return;
+  fprintf(stderr, "%s: number %" PRIu32 " at byte %" PRIu64 "\n", name, number, report[1]);
+  exit(1);
+}
+
 /* Runs the sheet once; the nanoseconds it took. */
 static uint64_t run(const char *name, size_t length, uint64_t allowance) {
   uint64_t began = now();
   uint32_t number = grumpy_run(sheet, length, table, GRUMPY_TABLE, work, GRUMPY_WORK, out, sizeof out,
                                allowance, report, GRUMPY_RUN_REPORT);
   uint64_t took = now() - began;
-  if (number != GRUMPY_OK) {
-    fprintf(stderr, "%s: number %" PRIu32 " at byte %" PRIu64 "\n", name, number, report[1]);
-    exit(1);
-  }
+  fine(name, number);
   return took;
 }
 
 int main(int count, char **words) {
   if (count != 4) {
-    fprintf(stderr, "use: box SHEET ALLOWANCE REPEATS|print\n");
+    fprintf(stderr, "use: box SHEET ALLOWANCE REPEATS|print|check\n");
     return 2;
   }
   FILE *file = fopen(words[1], "rb");
@@ -52,6 +57,10 @@ int main(int count, char **words) {
   size_t length = fread(sheet, 1, sizeof sheet, file);
   fclose(file);
 
+  if (strcmp(words[3], "check") == 0) {
+    fine(words[1], grumpy_check(sheet, length, table, GRUMPY_TABLE, report, GRUMPY_CHECK_REPORT));
+    return 0;
+  }
   uint64_t allowance = strtoull(words[2], NULL, 10);
   uint64_t best = run(words[1], length, allowance);
   if (strcmp(words[3], "print") == 0) {

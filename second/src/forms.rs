@@ -1,6 +1,6 @@
 //! The expressions of random programs: one function for each kind of form.
 
-use crate::sheets::{cell_of, Known, Writer, NAMES};
+use crate::sheets::{cell_of, Known, Writer};
 use crate::types::Type;
 
 /// Rule levels, loosest first: an expression written for one level may use
@@ -108,18 +108,18 @@ impl Writer<'_> {
         } else {
             plain
         };
-        let name = self.chance.pick(&NAMES);
+        let name = self.name();
         self.put(&format!("let {name} ="));
         self.expression(&bound, SEQ);
         self.put("in");
-        self.variables.push((name.to_string(), bound));
+        self.variables.push((name, bound));
         self.expression(kind, SEQ);
         self.variables.pop();
     }
 
     /// A loop whose counter nothing else can name.
     fn counted_loop(&mut self, kind: &Type) {
-        let counter = format!("i{}", self.counters);
+        let counter = format!("i_{}", self.counters);
         let rounds = self.chance.below(5);
         self.counters += 1;
         self.loops += 1;

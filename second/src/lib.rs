@@ -13,6 +13,7 @@ pub mod follows;
 pub mod forms;
 pub mod grammar;
 pub mod layers;
+pub mod near;
 pub mod nests;
 pub mod paper;
 pub mod piped;

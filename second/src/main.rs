@@ -22,7 +22,7 @@ use second::cases::{self, Case};
 use second::compare::compare;
 use second::piped::Piped;
 use second::trial::Trial;
-use second::{follows, on_big_stack, paper, shrink, trial};
+use second::{follows, near, on_big_stack, paper, shrink, trial};
 use std::collections::BTreeMap;
 use std::io::Write;
 use std::process::ExitCode;
@@ -219,6 +219,9 @@ fn all_cases() -> u64 {
     }
     for follow in follows::all() {
         tally.add("a token", Trial::of(&follow.sheet, Lent::default()));
+    }
+    for (sheet, _) in near::sheets() {
+        tally.add("near misses", Trial::of(&sheet, Lent::default()));
     }
     tally.close()
 }

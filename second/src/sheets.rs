@@ -3,6 +3,7 @@
 
 use crate::chance::Chance;
 use crate::forms::{CMP, ITEM, PROD, SEQ};
+use crate::near;
 use crate::types::Type;
 
 /// What a call of a function already written needs.
@@ -78,6 +79,14 @@ impl<'a> Writer<'a> {
             kind = cell_of(&kind);
         }
         kind
+    }
+
+    /// A name to be bound, now and then one that is all but reserved.
+    pub fn name(&mut self) -> String {
+        match self.chance.one_in(6) {
+            true => near::name(self.chance),
+            false => self.chance.pick(&NAMES).to_string(),
+        }
     }
 
     fn put_kind(&mut self, kind: &Type) {

@@ -1,57 +1,139 @@
--- A name compared with the reserved words in the order of their table, one row after the other.
-use borrow.Author.Tests.{eqb-true}
-use lib.Dec.{eqb}
-use lib.ListN.{length, drop}
-use mathlib.Core.Bool.{Bool, true, false, cond}
-use mathlib.Core.List.{[], _∷_}
-use mathlib.Core.Option.{some}
-use mathlib.Core.Path.{_≡_, refl, sym, _∙_, ap}
-use Prim.Native.Nat.{ℕ, zero, suc, _<_}
+-- A name looked up among the reserved words by its length and its first byte: the words that these leave decide.
+use borrow.Author.Tests.{eqb-true, eq-eqb, le-leb, lt-leb}
+use lib.Dec.{eqb, leb}
+use lib.ListN.{length}
+use lib.Seq.{slice, slice-cons, length-slice}
+use mathlib.Core.Bool.{Bool, true, false, cond, _&&_}
+use mathlib.Core.List.{List, [], _∷_}
+use mathlib.Core.Logic.{⊎-elim}
+use mathlib.Core.Option.{Option, none, some}
+use mathlib.Core.Path.{_≡_, refl, sym, _∙_, ap, ap₂, subst}
+use native.Mathlib.Omega.{arith}
+use Prim.Native.Nat.{ℕ, suc, _+_, _-_, _≤_, _<_}
 use Prim.Native.String.{String}
-use Rattle.language.proofs.Text.Tables.{Table, spelling-of, kind-of, row, same-one, every, every-row}
-use Rattle.language.specs.Text.{or-name}
-use Rattle.language.specs.Tokens.{Spelling, same, Row, spelled, words}
+use Rattle.language.proofs.Text.Choices.{either, outcome, clash, and-both}
+use Rattle.language.proofs.Text.Spellings.{stands}
+use Rattle.language.proofs.Text.Tables.{Table, spelling-of, kind-of, every, same-one, no-kind}
+use Rattle.language.specs.Text.{byte, or-name, word-kind}
+use Rattle.language.specs.Tokens.{Spelling, spell, same, Row, spelled, words, EDITION-1, NAME}
 use Rattle.language.specs.Tokens.Row.{_is_}
+use Rattle.tokens.proofs.Compared.{stands-same}
+use Rattle.tokens.proofs.FirstBytes.{NoneOf, begins-so, other-first}
 
--- by the table each row's spelling has the row's own kind
-unfoldable pub own : Table → Bool
-own rows = every (λ r. eqb (or-name (spelled rows (spelling-of r))) (kind-of r)) rows
+-- ---- the words that are left
 
--- so it is by that of the words, and by what is left of it behind the first eleven
-pub words-own : own words ≡ true
-unfolding own every spelled same
-words-own = refl
+-- a spelling of n bytes that begins with b
+unfoldable pub fits : ℕ → ℕ → Spelling → Bool
+fits n b [] = false
+fits n b (a ∷ w) = eqb (length (a ∷ w)) n && eqb a b
 
-pub rest-own : own (drop 11 words) ≡ true
-unfolding own every spelled same
-rest-own = refl
+-- the rows with such spellings
+unfoldable pub left : ℕ → ℕ → Table → Table
+left n b [] = []
+left n b (r ∷ rows) = cond (fits n b (spelling-of r)) (r ∷ left n b rows) (left n b rows)
 
--- a name that is spelled as row i of such a table has its kind
-pub here : (rows : Table) → own rows ≡ true → (i : ℕ) → i < length rows → (s : Spelling) {r : Bool}
-    → r ≡ same (spelling-of (row rows i)) s → r ≡ true → kind-of (row rows i) ≡ or-name (spelled rows s)
-unfolding own
-here rows ok i l s e f =
-    let w = spelling-of (row rows i) in
-    let k = every-row (λ r. eqb (or-name (spelled rows (spelling-of r))) (kind-of r)) rows ok i l in
-    sym (eqb-true (or-name (spelled rows w)) (kind-of (row rows i)) k) ∙ ap (λ x. or-name (spelled rows x)) (same-one w s (sym e ∙ f))
+-- the kind of the first of some rows whose spelling stands at p, and else NAME
+abbrev pub stood : Table → List ℕ → ℕ → ℕ
+stood [] t p = NAME
+stood (r ∷ rows) t p = cond (stands t p (spelling-of r)) (kind-of r) (stood rows t p)
 
--- s is spelled as none of the first n rows
-abbrev pub Past : ℕ → Table → Spelling → Type 0
-Past zero rows s = Unit {0}
-Past (suc n) [] s = Unit {0}
-Past (suc n) (r ∷ rows) s = (same (spelling-of r) s ≡ false) × Past n rows s
+left-yes : (n b : ℕ) (r : Row String ℕ) (rows : Table) → fits n b (spelling-of r) ≡ true → left n b (r ∷ rows) ≡ r ∷ left n b rows
+unfolding left
+left-yes n b r rows e = ap (λ x. cond x (r ∷ left n b rows) (left n b rows)) e
 
-spelled-row : (r : Row String ℕ) (rows : Table) (s : Spelling)
-    → spelled (r ∷ rows) s ≡ cond (same (spelling-of r) s) (some (kind-of r)) (spelled rows s)
-unfolding spelled
-spelled-row (w is k) rows s = refl
+left-no : (n b : ℕ) (r : Row String ℕ) (rows : Table) → fits n b (spelling-of r) ≡ false → left n b (r ∷ rows) ≡ left n b rows
+unfolding left
+left-no n b r rows e = ap (λ x. cond x (r ∷ left n b rows) (left n b rows)) e
 
-past : (n : ℕ) (rows : Table) (s : Spelling) → Past n rows s → spelled rows s ≡ spelled (drop n rows) s
-past zero rows s m = refl
-past (suc n) [] s m = refl
-past (suc n) (r ∷ rows) s m = spelled-row r rows s ∙ rw (m .0) (past n rows s (m .1))
+or-name-cond : (x : Bool) (k : ℕ) (o : Option ℕ) → or-name (cond x (some k) o) ≡ cond x k (or-name o)
+or-name-cond true k o = refl
+or-name-cond false k o = refl
 
--- so the others decide what it is
-pub left : (n : ℕ) (rows : Table) (s : Spelling) {k : ℕ} → Past n rows s
-    → k ≡ or-name (spelled (drop n rows) s) → k ≡ or-name (spelled rows s)
-left n rows s m e = e ∙ ap or-name (sym (past n rows s m))
+fits-length : (n b : ℕ) (w : Spelling) → fits n b w ≡ true → length w ≡ n
+unfolding fits
+fits-length n b (a ∷ w) e = eqb-true (length (a ∷ w)) n (and-both (eqb (length (a ∷ w)) n) (eqb a b) e .0)
+fits-length n b [] e = absurd (clash e refl)
+
+-- the name of n bytes from p on
+module _ (t : List ℕ) (p n b : ℕ) (some : 0 < n) (inside : p + n ≤ length t) (first : byte t p ≡ b) where
+  abbrev name : Spelling
+  name = slice p (p + n) t
+
+  name-cons : name ≡ b ∷ slice (suc p) (p + n) t
+  name-cons = rw (← first) (slice-cons p (p + n) t 0 (omega arith) inside)
+
+  name-length : length name ≡ n
+  name-length = omega (arith, length-slice p (p + n) t inside)
+
+  fits-name : (w : Spelling) → same w name ≡ true → fits n b w ≡ true
+  unfolding fits
+  fits-name w e =
+      let z : w ≡ b ∷ slice (suc p) (p + n) t = same-one w name e ∙ name-cons in
+      let l : suc (length (slice (suc p) (p + n) t)) ≡ n = ap length (sym name-cons) ∙ name-length in
+      rw (z, eq-eqb (suc (length (slice (suc p) (p + n) t))) n l, eq-eqb b b refl)
+
+  -- those that fit decide
+  decide : (rows : Table) → or-name (spelled rows name) ≡ stood (left n b rows) t p
+  unfolding spelled left
+  decide [] = refl
+  decide ((w is k) ∷ rows) =
+      ⊎-elim
+      (λ e. let l : length (spell w) ≡ p + n - p = omega (arith, fits-length n b (spell w) e) in
+      let z = stands-same t (spell w) p (p + n) (omega arith) inside l in
+      or-name-cond (same (spell w) name) k (spelled rows name)
+      ∙ ap₂ (λ x y. cond x k y) (sym z) (decide rows)
+      ∙ ap (λ x. stood x t p) (sym (left-yes n b (w is k) rows e)))
+      (λ e. ⊎-elim (λ f. absurd (clash (fits-name (spell w) f) e))
+      (λ f. or-name-cond (same (spell w) name) k (spelled rows name)
+      ∙ ap (λ x. cond x k (or-name (spelled rows name))) f
+      ∙ decide rows
+      ∙ ap (λ x. stood x t p) (sym (left-no n b (w is k) rows e)))
+      (outcome (same (spell w) name)))
+      (outcome (fits n b (spell w)))
+
+  -- so it is by the table of the words
+  pub by-first : {r : ℕ} → r ≡ stood (left n b words) t p → r ≡ word-kind EDITION-1 name
+  unfolding word-kind
+  by-first e = e ∙ sym (decide words)
+
+-- where no word of that length begins so, it is a name
+pub no-first : (t : List ℕ) (p n b : ℕ) (ks : List ℕ) → p + (n + 1) ≤ length t → b ≡ byte t p
+    → every (λ r. begins-so n ks (spelling-of r)) words ≡ true → NoneOf ks b
+    → NAME ≡ word-kind EDITION-1 (slice p (p + (n + 1)) t)
+unfolding word-kind
+no-first t p n b ks h f e m =
+    let q = p + (n + 1) in
+    let s = slice (suc p) q t in
+    let l : length s ≡ n = omega (arith, length-slice (suc p) q t h) in
+    rw (slice-cons p q t 0 (omega arith) h)
+    (ap or-name (sym (other-first words ks (byte t p) s (rw l e) (subst (NoneOf ks) f m))))
+
+-- ---- lengths
+
+-- a name that ends at q, by its length
+pub by-length : (t : List ℕ) (p q n : ℕ) {r : ℕ} → p ≤ q → q - p ≡ n
+    → r ≡ word-kind EDITION-1 (slice p (p + n) t) → r ≡ word-kind EDITION-1 (slice p q t)
+by-length t p q n {r} o e f =
+    let z : p + n ≡ q = omega arith in
+    subst (λ x. r ≡ word-kind EDITION-1 (slice p x t)) z f
+
+-- a word has two to five bytes
+short : Spelling → Bool
+short w = leb 2 (length w) && leb (length w) 5
+
+not-short : (n : ℕ) → NoneOf (5 ∷ 4 ∷ 3 ∷ 2 ∷ []) n → (leb 2 n && leb n 5) ≡ false
+not-short n m =
+    let five = m .1 in
+    let four = m .0 .1 in
+    let three = m .0 .0 .1 in
+    let two = m .0 .0 .0 .1 in
+    ⊎-elim (λ l. rw (lt-leb 2 n l)) (λ l. rw (le-leb 2 n l, lt-leb n 5 (omega arith))) (either n 2)
+
+-- any other name is none
+pub no-length : (t : List ℕ) (p q : ℕ) → q ≤ length t → NoneOf (5 ∷ 4 ∷ 3 ∷ 2 ∷ []) (q - p)
+    → NAME ≡ word-kind EDITION-1 (slice p q t)
+unfolding word-kind short every
+no-length t p q h m =
+    let s = slice p q t in
+    let l : q - p ≡ length s = sym (length-slice p q t h) in
+    ap or-name (sym (no-kind short words s refl (not-short (length s) (subst (NoneOf (5 ∷ 4 ∷ 3 ∷ 2 ∷ [])) l m))))

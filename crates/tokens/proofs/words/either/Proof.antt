@@ -1,0 +1,20 @@
+-- `either` compares the name with one word and then with another.
+use borrow.Author.Needs.{needs}
+use mathlib.Core.Path.{sym, _∙_}
+use Rattle.tokens.proofs.words.either.Statement.{statement}
+use Rattle.tokens.proofs.words.either.Tie as tie
+
+stands-at-requires : tie.Need-stands-at-requires
+stands-at-requires c κs = search needs
+
+returns : tie.Need-returns
+returns c = let e = sym (c .before .stands-at .ensures) ∙ c .if1 .taken in rw e
+
+only-requires : tie.Need-only-requires
+only-requires c κs = search needs
+
+returns-2 : tie.Need-returns-2
+returns-2 c = let e = sym (c .before .before .stands-at .ensures) ∙ c .before .if1 .left in rw e (c .only .ensures)
+
+pub either-spec : {M : Type 1} → statement M
+either-spec = tie.close (tie.spec stands-at-requires returns only-requires returns-2)
