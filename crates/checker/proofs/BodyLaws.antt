@@ -21,7 +21,7 @@ use Rattle.layout.specs.Decode.{tree-at, Right, ParamsAt, params-none, params-m
 use Rattle.layout.proofs.NameLaws.{name-inside}
 use Rattle.layout.proofs.VariablesWords.{row-without, function-without}
 use Rattle.numbers.specs.Meanings.{reason-meant}
-use Rattle.rules.specs.Sight.{Variables, Sheet}
+use Rattle.rules.specs.Sight.{Variables, InSight}
 use Rattle.rules.specs.Asked.{Tells}
 use Rattle.judge.specs.Judged.{Kept, Ready, Judged}
 use Rattle.checker.specs.Ruled.{Rules, check-head, check-body, Headings, Taken, Next, Headlines, Fresh, Bodied, Fitting, Listed, Ruled}
@@ -35,7 +35,7 @@ use Rattle.rules.proofs.TellLaws.{type-told, fault-told, tells-as}
 use Rattle.rules.proofs.OperatorLaws.{is-type, isnt-type}
 use Rattle.judge.proofs.KeptLaws.{kept-self, kept-then, kept-fewer, kept-row}
 use Rattle.rules.proofs.PlainLaws.{headed-plain}
-use Rattle.checker.proofs.FunctionLaws.{sheet-with, next-few, next-headed}
+use Rattle.checker.proofs.FunctionLaws.{sight-with, next-few, next-headed}
 
 -- ---- its body
 
@@ -83,7 +83,7 @@ module _ {w : List ℕ} {k row : ℕ} (b : Bodied w k row) {at result : ℕ} (ea
         subst (λ (x : Exp). Tells q (infer (with-def Δ d) x Γ)) (ap (λ (i : ℕ). tree-at f ts p i) r ∙ a .body)
         (j .right ts f (with-def Δ d) Γ record {
           depth = f;
-          sheet = sheet-with n;
+          sight = sight-with n;
           whole = subst (λ (i : ℕ). Right f ts p i) (sym r) (a .right);
           scope = subst (λ (i : ℕ). Variables ts w i Γ) (sym c) vs;
         })
@@ -244,8 +244,8 @@ module _ {w : List ℕ} {k row : ℕ} (l : Listed w k) (er : row ≡ function-ro
               long = long;
               stands = record {
                 depth = l .f;
-                sheet = subst (λ (v : List ℕ). Sheet (l .tokens) (l .f) v (k + 1) (with-def (l .functions) (l .def))) (sym
-                    (t .kept .rest)) (sheet-with (l .next));
+                sight = subst (λ (v : List ℕ). InSight (l .tokens) (l .f) v (k + 1) (with-def (l .functions) (l .def))) (sym
+                    (t .kept .rest)) (sight-with (l .next));
                 whole = subst (λ (v : List ℕ). Right (l .f) (l .tokens) v (row-word p row 4)) (sym (t .kept .rest)) (a .right);
                 scope = c .2;
               };

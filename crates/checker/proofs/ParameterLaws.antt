@@ -32,7 +32,7 @@ use Rattle.checker.specs.declared.programs.Verdict.{Verdict}
 use Rattle.checker.specs.declared.programs.Verdict.the-variants as Verdict
 use Rattle.rules.proofs.TellLaws.{type-told, fault-told, tells-as}
 use Rattle.judge.proofs.KeptLaws.{kept-self, kept-put, variables-put}
-use Rattle.judge.proofs.SheetLaws.{look-tells, stand-few}
+use Rattle.judge.proofs.ScopeLaws.{look-tells, stand-few}
 
 -- ---- what is bound under a name
 

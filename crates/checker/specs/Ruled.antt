@@ -15,6 +15,7 @@ use Rattle.layout.specs.Table.{OWN, ARITY, BODY, row-word, function-row, withou
 use Rattle.layout.specs.Names.{Stand}
 use Rattle.layout.specs.Functions.{Headed}
 use Rattle.layout.specs.Decode.{ParamsAt, FunctionAt, Holds}
+use Rattle.layout.specs.declared.Held.{Held}
 use Rattle.numbers.specs.Meanings.{reason-meant}
 use Rattle.rules.specs.Sight.{Variables, Functions}
 use Rattle.rules.specs.Asked.{Tells}
@@ -129,6 +130,6 @@ pub record Ruled (w w′ : List ℕ) (k : ℕ) (r : Verdict) : Type 0 where
 -- ---- programs
 
 -- the whole program's answer
-pub record Concluded (w w′ : List ℕ) (count defs root : ℕ) (r : Typing) : Type 0 where
+pub record Concluded (w w′ : List ℕ) (P : Held) (r : Typing) : Type 0 where
   pub kept : Kept w w′ 0
-  pub right : (ts : List Token) (p : Program) → Holds ts w count defs root p → Tells r (check p)
+  pub right : (ts : List Token) (p : Program) → Holds ts w P p → Tells r (check p)

@@ -26,9 +26,7 @@ pub fn check(source: &[u8], table: &mut [u32]) -> Checked
     memory::clear(table, 0, TABLE);
     match seen {
         Seen::Passes {
-            count: _,
-            defs: _,
-            root: _,
+            program: _,
             type_number,
         } => Checked::Passed(type_number),
         Seen::Refused(why, place) => Checked::Refused(why, place),

@@ -34,7 +34,7 @@ use Rattle.judge.specs.declared.expressions.Passed.{Passed}
 use Rattle.judge.specs.declared.expressions.Passed.the-variants as Passed
 use Rattle.rules.proofs.TellLaws.{fault-is, type-told, fault-told, tells-from}
 use Rattle.judge.proofs.KeptLaws.{variables-kept, variables-put}
-use Rattle.judge.proofs.SheetLaws.{callee-means}
+use Rattle.judge.proofs.ScopeLaws.{callee-means}
 use Rattle.judge.proofs.NodeLaws.{stands-child, told-shape}
 
 -- ---- let
@@ -57,13 +57,13 @@ module _ {p w w′ : List ℕ} {node seen binds : ℕ} (same : p ≡ without-var
       let y = spelling-at ts (row-word p node 1 + 1) in
       let a = let-children _ k (nd .shape) (nd .known) in
       let q = type-told (h ts f Δ Γ (stands-child st (nd .first (omega arith) .1))) in
-      let nm = subst (λ (z : ℕ). Named ts z y) (sym ex) (named-at (st .sheet .stand) (row-word p node 1 + 1) (nd .bound k)) in
+      let nm = subst (λ (z : ℕ). Named ts z y) (sym ex) (named-at (st .sight .stand) (row-word p node 1 + 1) (nd .bound k)) in
       let e : without-variables (put-variable w′ binds x n) ≡ p = without-put-variable w′ binds x n room ∙ sym same in
       let g′ = subst (λ (v : List ℕ). Told v (put-variable w′ binds x n) (row-word p node 3) seen (binds + 1) r) e g in
       tells-from (after-ok _ (q .1) refl)
       (g′ ts f Δ (push y (q .0) Γ) (record {
         depth = st .depth;
-        sheet = st .sheet;
+        sight = st .sight;
         whole = nd .second (omega arith) .1;
         scope = variables-put long room nm (q .2) (variables-kept kept (st .scope));
       }))
@@ -135,7 +135,7 @@ module _ {p w : List ℕ} {row seen binds : ℕ} {c : Callee} {k : ℕ} {b : Boo
     args-stop h ts (suc f) Δ Γ st =
         let a = st .whole some-row in
         wrong-is (ap (λ es. infers Δ es Γ) (an-argument f ts p row some-row)
-        ∙ after-bad _ (fault-told (h ts f Δ Γ record { depth = st .depth; sheet = st .sheet; whole = a .exp .1; scope = st .scope })))
+        ∙ after-bad _ (fault-told (h ts f Δ Γ record { depth = st .depth; sight = st .sight; whole = a .exp .1; scope = st .scope })))
 
     -- the later ones' answer, with the first
     pub args-go : {n v : ℕ} {q : Passed} → v ≡ wanted-in p c k → Told p w (row-word p row 2) seen binds (Typing.«Type» n)
@@ -144,9 +144,9 @@ module _ {p w : List ℕ} {row seen binds : ℕ} {c : Callee} {k : ℕ} {b : Boo
     args-go o h g ts zero Δ Γ st = absurd (some-row (st .whole))
     args-go o h g ts (suc f) Δ Γ st =
         let a = st .whole some-row in
-        let u = type-told (h ts f Δ Γ record { depth = st .depth; sheet = st .sheet; whole = a .exp .1; scope = st .scope }) in
+        let u = type-told (h ts f Δ Γ record { depth = st .depth; sight = st .sight; whole = a .exp .1; scope = st .scope }) in
         let e = ap (λ es. infers Δ es Γ) (an-argument f ts p row some-row) in
-        one-more (u .2) o (g ts f Δ Γ record { depth = st .depth; sheet = st .sheet; whole = a .next .1; scope = st .scope })
+        one-more (u .2) o (g ts f Δ Γ record { depth = st .depth; sight = st .sight; whole = a .next .1; scope = st .scope })
         (λ us d. e ∙ after-ok _ (u .1) (after-ok _ d refl)) (λ r i d. e ∙ after-ok _ (u .1) (after-bad _ d))
 
 -- ---- a call
@@ -159,7 +159,7 @@ module _ {p w : List ℕ} {node seen binds : ℕ} (kind : row-word p node 0 ≡ 
   call-stops h =
       told-shape a-call (ap shape-of kind) λ ts f Δ Γ st nd.
       fault-is (after-bad _ (wrong-told (h ts f Δ Γ record
-      { depth = st .depth; sheet = st .sheet; whole = nd .args kind .1; scope = st .scope })))
+      { depth = st .depth; sight = st .sight; whole = nd .args kind .1; scope = st .scope })))
 
   -- and when all have types the call asks
   pub call-goes : {x n i : ℕ} {s : Bool} {r : Typing} → x ≡ token-value p (row-word p node 1) → c ≡ callee-in p x seen
@@ -169,8 +169,8 @@ module _ {p w : List ℕ} {node seen binds : ℕ} (kind : row-word p node 0 ≡ 
   call-goes {x} {n} {s = s} {r = r} ex ec ei h asks =
       told-shape a-call (ap shape-of kind) λ ts f Δ Γ st nd.
       let y = spelling-at ts (row-word p node 1) in
-      let nm = subst (λ (z : ℕ). Named ts z y) (sym ex) (named-at (st .sheet .stand) (row-word p node 1) (nd .called kind)) in
-      let u = types-told (h ts f Δ Γ record { depth = st .depth; sheet = st .sheet; whole = nd .args kind .1; scope = st .scope }) in
-      let m = subst (λ (c : Callee). Means (st .depth) ts p c (nearest y Δ)) (sym ec) (callee-means (st .sheet) nm) in
+      let nm = subst (λ (z : ℕ). Named ts z y) (sym ex) (named-at (st .sight .stand) (row-word p node 1) (nd .called kind)) in
+      let u = types-told (h ts f Δ Γ record { depth = st .depth; sight = st .sight; whole = nd .args kind .1; scope = st .scope }) in
+      let m = subst (λ (c : Callee). Means (st .depth) ts p c (nearest y Δ)) (sym ec) (callee-means (st .sight) nm) in
       subst (λ (i : ℕ). AsksCall p c n s i r) ei asks ts (st .depth) Δ Γ y (args-at f ts p (row-word p node 2)) (u .0) m (u .1) (u .2
       ∙ omega arith) (u .3)

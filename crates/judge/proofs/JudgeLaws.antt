@@ -21,7 +21,7 @@ use Rattle.rules.specs.declared.sight.Callee.{Callee}
 use Rattle.judge.specs.declared.expressions.Passed.{Passed}
 use Rattle.judge.specs.declared.expressions.Passed.the-variants as Passed
 use Rattle.judge.proofs.KeptLaws.{kept-self, kept-then, kept-fewer, kept-put, told-before, told-all-before}
-use Rattle.judge.proofs.SheetLaws.{sheet-headed}
+use Rattle.judge.proofs.ScopeLaws.{sight-headed}
 use Rattle.rules.proofs.PlainLaws.{callee-plain, rowed-plain, wanted-plain, asks-plain}
 use Rattle.judge.proofs.NodeLaws.{first-stops, one-goes, second-stops, two-goes, then-stops, else-stops, if-goes, name-goes, constant-goes}
 use Rattle.judge.proofs.BindLaws.{let-goes, args-end, args-stop, args-go, call-stops, call-goes}
@@ -200,7 +200,7 @@ module _ {w : List ℕ} {node seen binds : ℕ} (r : Ready w node seen binds) wh
           kept = h .kept;
           right = call-goes kind-plain (ex ∙ sym (ap (λ (i : ℕ). token-value p i) d
               ∙ token-without w (row-word w node 1) 3 l (omega arith)))
-              (ec ∙ sym (callee-plain w x seen (sheet-headed (r .stands .sheet)))) (plain 1 (omega arith) ei) (args-told e)
+              (ec ∙ sym (callee-plain w x seen (sight-headed (r .stands .sight)))) (plain 1 (omega arith) ei) (args-told e)
               (subst (λ (v : List ℕ). AsksCall v c n b i q) (h .kept .rest) (asks-plain w₁ c i rowed asks));
         }
 

@@ -15,7 +15,7 @@ use Rattle.language.proofs.Executable.Checker.{infer, infers}
 use Rattle.layout.specs.Table.{VARIABLES-AT, row-word, put-variable, without-variables}
 use Rattle.layout.specs.Decode.{tree-at, args-at}
 use Rattle.layout.specs.Names.{Named}
-use Rattle.layout.proofs.VariablesWords.{row-without, length-put-variable, without-put-variable, put-variable-name, put-variable-kind, put-variable-before}
+use Rattle.layout.proofs.VariablesWords.{row-without, length-put-variable, without-put-variable, put-variable-name, put-variable-type, put-variable-before}
 use Rattle.rules.specs.Sight.{Variables, variables-none, variables-more}
 use Rattle.rules.specs.Asked.{Tells}
 use Rattle.judge.specs.Judged.{Kept, Stands, Told, ToldAll, TellsAll}
@@ -25,7 +25,7 @@ use Rattle.judge.specs.declared.expressions.Passed.{Passed}
 
 -- nothing done
 pub kept-self : (w : List ℕ) (binds : ℕ) → Kept w w binds
-kept-self w binds = record { long = refl; rest = refl; names = λ i h. refl; kinds = λ i h. refl }
+kept-self w binds = record { long = refl; rest = refl; names = λ i h. refl; types = λ i h. refl }
 
 -- one after another
 pub kept-then : {u v w : List ℕ} {binds : ℕ} → Kept u v binds → Kept v w binds → Kept u w binds
@@ -33,12 +33,12 @@ kept-then h k = record {
   long = k .long ∙ h .long;
   rest = k .rest ∙ h .rest;
   names = λ i l. k .names i l ∙ h .names i l;
-  kinds = λ i l. k .kinds i l ∙ h .kinds i l;
+  types = λ i l. k .types i l ∙ h .types i l;
 }
 
 -- what leaves more leaves less
 pub kept-fewer : {v w : List ℕ} {m n : ℕ} → n ≤ m → Kept v w m → Kept v w n
-kept-fewer l h = record { long = h .long; rest = h .rest; names = λ i k. h .names i (omega arith); kinds = λ i k. h .kinds i (omega arith) }
+kept-fewer l h = record { long = h .long; rest = h .rest; names = λ i k. h .names i (omega arith); types = λ i k. h .types i (omega arith) }
 
 -- a variable that is written leaves those before it
 pub kept-put : (w : List ℕ) (i x t : ℕ) → i < TOKENS → Kept w (put-variable w i x t) i
@@ -46,7 +46,7 @@ kept-put w i x t h = record {
   long = length-put-variable w i x t;
   rest = without-put-variable w i x t h;
   names = λ j l. put-variable-before w i x t (VARIABLES-AT + 2 * j) (omega arith);
-  kinds = λ j l. put-variable-before w i x t (VARIABLES-AT + 2 * j + 1) (omega arith);
+  types = λ j l. put-variable-before w i x t (VARIABLES-AT + 2 * j + 1) (omega arith);
 }
 
 -- rows are the same
@@ -58,7 +58,7 @@ variables-same : {ts : List Token} {v w : List ℕ} {n : ℕ} {Γ : Scope Ty} {b
     → Variables ts w n Γ
 variables-same l k variables-none = variables-none
 variables-same {ts} l k (variables-more {n = n} {x = x} e a b r) =
-    variables-more e (subst (λ (y : ℕ). Named ts y x) (sym (k .names n (omega arith))) a) (k .kinds n (omega arith)
+    variables-more e (subst (λ (y : ℕ). Named ts y x) (sym (k .names n (omega arith))) a) (k .types n (omega arith)
     ∙ b) (variables-same (omega arith) k r)
 
 -- all of them
@@ -71,7 +71,7 @@ pub variables-put : {ts : List Token} {w : List ℕ} {n : ℕ} {Γ : Scope Ty} {
     → TABLE ≤ length w → n < TOKENS → Named ts x y → k ≡ type-number t → Variables ts w n Γ
     → Variables ts (put-variable w n x k) (n + 1) (push y t Γ)
 variables-put {ts} {w} {n} {x = x} {y = y} {k = k} l h a b r =
-    variables-more (add-one n) (subst (λ (z : ℕ). Named ts z y) (sym (put-variable-name w n x k l h)) a) (put-variable-kind w n x k l h ∙ b)
+    variables-more (add-one n) (subst (λ (z : ℕ). Named ts z y) (sym (put-variable-name w n x k l h)) a) (put-variable-type w n x k l h ∙ b)
     (variables-kept (kept-put w n x k h) r)
 
 -- the words go on to stand for what they stood for
@@ -81,7 +81,7 @@ pub stands-kept : {Whole : ℕ → List Token → List ℕ → ℕ
     → Stands Whole (without-variables w) w i seen binds ts f Δ Γ
 stands-kept {Whole} {w = w} {i = i} {seen = seen} {binds = binds} {ts = ts} {f = f} {Δ = Δ} {Γ = Γ} k s =
     subst (λ (p : List ℕ). Stands Whole p w i seen binds ts f Δ Γ) (sym (k .rest))
-    (record { depth = s .depth; sheet = s .sheet; whole = s .whole; scope = variables-kept k (s .scope) })
+    (record { depth = s .depth; sight = s .sight; whole = s .whole; scope = variables-kept k (s .scope) })
 
 -- what was told after a step was so before it
 module _ {v w : List ℕ} {binds : ℕ} (k : Kept v w binds) where

@@ -1,5 +1,5 @@
 pub mod KeptLaws
-pub mod SheetLaws
+pub mod ScopeLaws
 mod Naming
 mod NodeLaws
 mod BindLaws

@@ -16,7 +16,7 @@ use Rattle.layout.specs.Rows.{CALL}
 use Rattle.layout.specs.Decode.{Shape, a-name, a-follow, a-group, a-block, a-call, a-let, an-if, a-while, a-unary, a-binary, shape-of, children, build, build-if, tree-at, args-at, Node, Right, RightArgs}
 use Rattle.layout.specs.Names.{Named}
 use Rattle.layout.proofs.NameLaws.{named-at}
-use Rattle.layout.proofs.VariablesTrees.{shape-kind, kind-of-shape}
+use Rattle.layout.proofs.Shapes.{shape-kind, kind-of-shape, Parted, is-follow, is-while, is-let, is-binary, is-if, parted}
 use Rattle.rules.specs.Sight.{find-variable}
 use Rattle.rules.specs.Asked.{Tells, Children, Constant, AsksOne, AsksTwo, AsksIf}
 use Rattle.judge.specs.Judged.{Stands, looked, Told}
@@ -24,8 +24,7 @@ use Rattle.numbers.specs.declared.Reason.{Reason}
 use Rattle.rules.specs.declared.Typing.{Typing}
 use Rattle.rules.specs.declared.Typing.the-variants as Typing
 use Rattle.rules.proofs.TellLaws.{type-is, fault-is, type-told, fault-told}
-use Rattle.judge.proofs.SheetLaws.{look-tells, sheet-few}
-use Rattle.rules.proofs.ShapeLaws.{TwoChildren, is-follow, is-while, is-let, is-binary, two-children, three-children}
+use Rattle.judge.proofs.ScopeLaws.{look-tells, sight-few}
 
 -- ---- a row as a node
 
@@ -41,6 +40,10 @@ module _ (f : ℕ) (ts : List Token) (p : List ℕ) (i : ℕ) (s : Shape) (known
 -- a kind that is one shape's
 shape-one : (k : ℕ) (s q : Shape) → shape-of k ≡ some s → shape-of k ≡ some q → s ≡ q
 shape-one k s q e d = cc
+
+-- only an `if` has three children
+if-is : (s : Shape) → Parted s 3 → s ≡ an-if
+if-is s is-if = refl
 
 -- a row that is no `let`
 not-let : (k : ℕ) → (k ≡ LET → ⊥) → (s : Shape) → shape-of k ≡ some s → s ≡ a-let → ⊥
@@ -68,7 +71,7 @@ module _ (ts : List Token) (Δ : Scope Sig) (Γ : Scope Ty) (i : ℕ) (a b c : E
   first-wrong (a-binary o) l h = fault-is (after-bad _ (fault-told h))
 
   -- and the second's, of a node whose children see the same
-  second-wrong : (s : Shape) → TwoChildren s → (s ≡ a-let → ⊥) → {t : Ty} → infer Δ a Γ ≡ ok t → Tells (Typing.Fault r j) (infer Δ b Γ)
+  second-wrong : (s : Shape) → Parted s 2 → (s ≡ a-let → ⊥) → {t : Ty} → infer Δ a Γ ≡ ok t → Tells (Typing.Fault r j) (infer Δ b Γ)
       → Tells (Typing.Fault r j) (infer Δ (build ts s i a b c es) Γ)
   unfolding infer build
   second-wrong s is-follow n e h = fault-is (after-ok _ e (after-bad _ (fault-told h)))
@@ -81,7 +84,7 @@ module _ (ts : List Token) (Δ : Scope Sig) (Γ : Scope Ty) (i : ℕ) (a b c : E
 -- a part stands in the same sight
 pub stands-child : {p w : List ℕ} {node seen binds : ℕ} {ts : List Token} {Δ : Scope Sig} {Γ : Scope Ty} {f j k : ℕ}
     → Stands Right p w node seen binds ts k Δ Γ → Right f ts p j → Stands Right p w j seen binds ts f Δ Γ
-stands-child st h = record { depth = st .depth; sheet = st .sheet; whole = h; scope = st .scope }
+stands-child st h = record { depth = st .depth; sight = st .sight; whole = h; scope = st .scope }
 
 -- a node over its parts, as the words have them
 abbrev pub over : ℕ → List Token → List ℕ → ℕ → Shape → Exp
@@ -140,7 +143,7 @@ module _ {p w : List ℕ} {node seen binds : ℕ} where
         told-node λ ts f Δ Γ st nd.
         let a = has (nd .shape) (nd .known) in
         let q = type-told (h ts f Δ Γ (stands-child st (nd .first (omega arith) .1))) in
-        second-wrong ts Δ Γ _ _ _ _ _ (nd .shape) (two-children (nd .shape) (sym a)) (not-let _ other (nd .shape) (nd .known)) (q .1)
+        second-wrong ts Δ Γ _ _ _ _ _ (nd .shape) (parted (nd .shape) (sym a)) (not-let _ other (nd .shape) (nd .known)) (q .1)
         (g ts f Δ Γ (stands-child st (nd .second (omega arith) .1)))
 
     -- both have types: the node asks
@@ -166,7 +169,7 @@ module _ {p w : List ℕ} {node seen binds : ℕ} where
         told-node λ ts f Δ Γ st nd.
         let a = has (nd .shape) (nd .known) in
         let q = type-told (h ts f Δ Γ (stands-child st (nd .first (omega arith) .1))) in
-        subst (λ (s : Shape). Tells r (infer Δ (over f ts p node s) Γ)) (sym (three-children (nd .shape) (sym a)))
+        subst (λ (s : Shape). Tells r (infer Δ (over f ts p node s) Γ)) (sym (if-is (nd .shape) (parted (nd .shape) (sym a))))
         (g ts f Δ Γ st (q .0) (q .1) (q .2) (nd .second (omega arith) .1) (nd .third (omega arith) .1))
 
     -- a fault of the first branch
@@ -205,8 +208,8 @@ module _ {p w : List ℕ} {node seen binds : ℕ} where
   unfolding infer build shape-of entry
   name-goes k ei ex =
       told-shape a-name (ap shape-of k) λ ts f Δ Γ st nd.
-      let h = named-at (st .sheet .stand) (row-word p node 1) (nd .named k) in
-      rw ei (look-tells (sheet-few (st .sheet)) (subst (λ (z : ℕ). Named ts z (spelling-at ts (row-word p node 1))) (sym ex) h)
+      let h = named-at (st .sight .stand) (row-word p node 1) (nd .named k) in
+      rw ei (look-tells (sight-few (st .sight)) (subst (λ (z : ℕ). Named ts z (spelling-at ts (row-word p node 1))) (sym ex) h)
       (row-word p node 1) (st .scope))
 
   -- a constant has its type

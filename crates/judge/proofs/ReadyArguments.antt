@@ -62,7 +62,7 @@ module _ {w : List ℕ} {row seen binds : ℕ} {c : Callee} {k : ℕ} (r : Ready
           functions = r .functions;
           variables = r .variables;
           long = r .long;
-          stands = record { depth = r .stands .depth; sheet = r .stands .sheet; whole = ready-argued .here .exp .1; scope = r .stands .scope };
+          stands = record { depth = r .stands .depth; sight = r .stands .sight; whole = ready-argued .here .exp .1; scope = r .stands .scope };
           room = ready-argued .first;
         },
       )
@@ -79,7 +79,7 @@ module _ {w : List ℕ} {row seen binds : ℕ} {c : Callee} {k : ℕ} (r : Ready
           functions = r .functions;
           variables = r .variables;
           long = omega (arith, r .long, h .long);
-          stands = stands-kept h record { depth = r .stands .depth; sheet = r .stands .sheet; whole = a .1; scope = r .stands .scope };
+          stands = stands-kept h record { depth = r .stands .depth; sight = r .stands .sight; whole = a .1; scope = r .stands .scope };
           room = subst (λ (v : List ℕ). binds + under (args-at (ready-argued .f) (r .tokens) v (row-word pa row 3)) < NODES) (sym
               (h .rest)) (ready-argued .later);
           callee = subst (λ (v : List ℕ). Rowed v c) (sym (h .rest)) (r .callee);

@@ -15,14 +15,14 @@ use Rattle.layout.proofs.NameLaws.{named-at, name-inside}
 use Rattle.layout.proofs.VariablesWords.{row-without, token-without, length-put-variable, without-put-variable}
 use Rattle.layout.proofs.VariablesTrees.{right-inside}
 use Rattle.layout.specs.Functions.{Headed}
-use Rattle.rules.specs.Sight.{Sheet, Rowed, callee-in}
+use Rattle.rules.specs.Sight.{InSight, Rowed, callee-in}
 use Rattle.rules.specs.Asked.{Children}
 use Rattle.judge.specs.Judged.{Kept, Ready, Told, ReadyAll}
 use Rattle.rules.specs.declared.Typing.the-variants as Typing
 use Rattle.rules.specs.declared.sight.Callee.{Callee}
 use Rattle.rules.proofs.TellLaws.{type-told}
 use Rattle.judge.proofs.KeptLaws.{stands-kept, variables-kept, variables-put}
-use Rattle.judge.proofs.SheetLaws.{sheet-headed, callee-rowed}
+use Rattle.judge.proofs.ScopeLaws.{sight-headed, callee-rowed}
 use Rattle.rules.proofs.PlainLaws.{headed-plain, callee-plain}
 use Rattle.judge.proofs.NodeLaws.{tree-is}
 use Rattle.judge.proofs.BindLaws.{let-children}
@@ -101,7 +101,7 @@ module _ {w : List ℕ} {node seen binds : ℕ} (r : Ready w node seen binds) wh
   ready-binds = omega (arith, r .room)
 
   token-few : (i : ℕ) → At (r .tokens) i NAME → i < TOKENS
-  token-few i h = let a = name-inside (r .tokens) i h in omega (arith, r .stands .sheet .stand .long, r .stands .sheet .stand .few)
+  token-few i h = let a = name-inside (r .tokens) i h in omega (arith, r .stands .sight .stand .long, r .stands .sight .stand .few)
 
   -- the tokens of a name, of a call and of what a `let` binds
   pub ready-name : row-word w node 0 ≡ NAME → row-word w node 1 < TOKENS
@@ -128,7 +128,7 @@ module _ {w : List ℕ} {node seen binds : ℕ} (r : Ready w node seen binds) wh
 
   -- the functions in sight
   pub ready-headed : (k : ℕ) → k < seen → Headed w k
-  ready-headed k l = headed-plain w (sheet-headed (r .stands .sheet) k l)
+  ready-headed k l = headed-plain w (sight-headed (r .stands .sight) k l)
 
   -- a part can be checked in its turn, after what was done before it
   module _ {w′ : List ℕ} (k : Kept w w′ binds) where
@@ -139,7 +139,7 @@ module _ {w : List ℕ} {node seen binds : ℕ} (r : Ready w node seen binds) wh
       functions = r .functions;
       variables = r .variables;
       long = omega (arith, r .long, k .long);
-      stands = stands-kept k record { depth = r .stands .depth; sheet = r .stands .sheet; whole = h; scope = r .stands .scope };
+      stands = stands-kept k record { depth = r .stands .depth; sight = r .stands .sight; whole = h; scope = r .stands .scope };
       room = subst (λ (v : List ℕ). binds + below (tree-at f (r .tokens) v j) < NODES) (sym (k .rest)) l;
     }
 
@@ -184,7 +184,7 @@ module _ {w : List ℕ} {node seen binds : ℕ} (r : Ready w node seen binds) wh
         ap (λ (i : ℕ). token-value p (i + 1)) (ready-row 1 (omega arith)) ∙ token-without w (row-word w node 1 + 1) 3 l (omega arith)
         ∙ sym ex in
         subst (λ (z : ℕ). Named (r .tokens) z (spelling-at (r .tokens) (row-word p node 1 + 1))) e
-        (named-at (r .stands .sheet .stand) (row-word p node 1 + 1) (ready-parts .row .bound (ready-row 0 (omega arith) ∙ kind)))
+        (named-at (r .stands .sight .stand) (row-word p node 1 + 1) (ready-parts .row .bound (ready-row 0 (omega arith) ∙ kind)))
 
     -- its body can be checked, with one variable more
     pub ready-body : {x n j : ℕ} {v : List ℕ} → row-word w node 0 ≡ LET → x ≡ token-value w (row-word w node 1 + 1)
@@ -195,7 +195,7 @@ module _ {w : List ℕ} {node seen binds : ℕ} (r : Ready w node seen binds) wh
         let a : 2 ≡ children (c .row .shape) = let-children _ (ready-row 0 (omega arith) ∙ kind) (c .row .shape) (c .row .known) in
         let d : 2 ≤ children (c .row .shape) = omega arith in
         let q = type-told (h (r .tokens) (c .f) (r .functions) (r .variables)
-        record { depth = r .stands .depth; sheet = r .stands .sheet; whole = c .row .first (omega arith) .1; scope = r .stands .scope }) in
+        record { depth = r .stands .depth; sight = r .stands .sight; whole = c .row .first (omega arith) .1; scope = r .stands .scope }) in
         let long : TABLE ≤ length w′ = omega (arith, r .long, k .long) in
         let e : without-variables (put-variable w′ binds x n) ≡ p = without-put-variable w′ binds x n ready-binds ∙ k .rest in
         let g = length-put-variable w′ binds x n in
@@ -209,7 +209,7 @@ module _ {w : List ℕ} {node seen binds : ℕ} (r : Ready w node seen binds) wh
             long = omega arith;
             stands = record {
               depth = r .stands .depth;
-              sheet = subst (λ (v : List ℕ). Sheet (r .tokens) (r .stands .depth) v seen (r .functions)) (sym e) (r .stands .sheet);
+              sight = subst (λ (v : List ℕ). InSight (r .tokens) (r .stands .depth) v seen (r .functions)) (sym e) (r .stands .sight);
               whole = subst (λ (v : List ℕ). Right (c .f) (r .tokens) v (row-word p node 3)) (sym e) (c .row .second d .1);
               scope = variables-put long ready-binds (bound-named kind ex) (q .2) (variables-kept k (r .stands .scope));
             };
@@ -229,7 +229,7 @@ module _ {w : List ℕ} {node seen binds : ℕ} (r : Ready w node seen binds) wh
       let e : token-value p (row-word p node 1) ≡ x =
       ap (λ (i : ℕ). token-value p i) (ready-row 1 (omega arith)) ∙ token-without w (row-word w node 1) 3 l (omega arith) ∙ sym ex in
       let nm = subst (λ (z : ℕ). Named (r .tokens) z (spelling-at (r .tokens) (row-word p node 1))) e
-      (named-at (r .stands .sheet .stand) (row-word p node 1) (q .row .called k)) in
+      (named-at (r .stands .sight .stand) (row-word p node 1) (q .row .called k)) in
       let h = q .row .args k in
       subst (λ (row : ℕ). (row ≤ node) × ReadyAll w row seen binds c 0) (ready-row 2 (omega arith) ∙ sym er) (
         h .0,
@@ -239,10 +239,10 @@ module _ {w : List ℕ} {node seen binds : ℕ} (r : Ready w node seen binds) wh
           functions = r .functions;
           variables = r .variables;
           long = r .long;
-          stands = record { depth = r .stands .depth; sheet = r .stands .sheet; whole = h .1; scope = r .stands .scope };
+          stands = record { depth = r .stands .depth; sight = r .stands .sight; whole = h .1; scope = r .stands .scope };
           room = q .args k;
-          callee = subst (λ (c : Callee). Rowed p c) (callee-plain w x seen (sheet-headed (r .stands .sheet))
-              ∙ sym ec) (callee-rowed (r .stands .sheet) nm);
+          callee = subst (λ (c : Callee). Rowed p c) (callee-plain w x seen (sight-headed (r .stands .sight))
+              ∙ sym ec) (callee-rowed (r .stands .sight) nm);
           few = let i = ready-inside in omega (arith, h .0);
         },
       )

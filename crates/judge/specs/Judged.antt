@@ -13,11 +13,11 @@ use Rattle.language.specs.Types.{Sig}
 use Rattle.language.specs.Faults as Faults
 use Rattle.language.proofs.Executable.Checks.{Res, ok, bad}
 use Rattle.language.proofs.Executable.Checker.{infer, infers}
-use Rattle.layout.specs.Table.{OWN, token-value, row-word, variable-name, variable-kind, without-variables}
+use Rattle.layout.specs.Table.{OWN, token-value, row-word, variable-name, variable-type, without-variables}
 use Rattle.layout.specs.Rows.{below, under}
 use Rattle.layout.specs.Decode.{tree-at, args-at, Right, RightArgs}
 use Rattle.numbers.specs.Meanings.{reason-meant}
-use Rattle.rules.specs.Sight.{Variables, find-variable, Sheet, Rowed}
+use Rattle.rules.specs.Sight.{Variables, find-variable, InSight, Rowed}
 use Rattle.rules.specs.Asked.{Tells, suits}
 use Rattle.numbers.specs.declared.Reason.{Reason}
 use Rattle.numbers.specs.declared.Reason.the-variants.{NoBinding}
@@ -32,14 +32,14 @@ pub record Kept (w w′ : List ℕ) (binds : ℕ) : Type 0 where
   pub long : length w′ ≡ length w
   pub rest : without-variables w′ ≡ without-variables w
   pub names : (i : ℕ) → i < binds → variable-name w′ i ≡ variable-name w i
-  pub kinds : (i : ℕ) → i < binds → variable-kind w′ i ≡ variable-kind w i
+  pub types : (i : ℕ) → i < binds → variable-type w′ i ≡ variable-type w i
 
 -- The words w, which without variables are p, stand for something whole at row i, over the tokens ts, with the functions Δ
 -- and the variables Γ in sight.
 pub record Stands (Whole : ℕ → List Token → List ℕ → ℕ
     → Type 0) (p w : List ℕ) (i seen binds : ℕ) (ts : List Token) (f : ℕ) (Δ : Scope Sig) (Γ : Scope Ty) : Type 0 where
   pub depth : ℕ
-  pub sheet : Sheet ts depth p seen Δ
+  pub sight : InSight ts depth p seen Δ
   pub whole : Whole f ts p i
   pub scope : Variables ts w binds Γ
 

@@ -82,7 +82,7 @@ fn over_one(table: &mut [u32], node: usize, seen: usize, binds: usize) -> Typing
     let inside = type_at(table, child, seen, binds);
     match inside {
         Typing::Fault(r, i) => Typing::Fault(r, i),
-        Typing::Type(t) => operators::one(kind, t, at),
+        Typing::Type(t) => operators::after_child(kind, t, at),
     }
 }
 
@@ -102,7 +102,7 @@ fn over_two(table: &mut [u32], node: usize, seen: usize, binds: usize) -> Typing
             let second = type_at(table, right, seen, binds);
             match second {
                 Typing::Fault(r, i) => Typing::Fault(r, i),
-                Typing::Type(u) => operators::two(kind, t, u, at),
+                Typing::Type(u) => operators::after_children(kind, t, u, at),
             }
         }
     }

@@ -14,6 +14,7 @@ use Rattle.language.specs.Meaning.{type-number}
 use Rattle.layout.specs.Table.{KIND, OWN, FIRST, SECOND, THIRD, EXPRESSION, NEXT, TYPE, ARITY, RESULT, BODY, row-word, function-row}
 use Rattle.layout.specs.Names.{Stand}
 use Rattle.layout.specs.Rows.{PREFIX, CALL, below}
+use Rattle.layout.specs.declared.Held.{Held}
 
 -- ---- what kind of node a row is
 
@@ -148,14 +149,15 @@ pub data FunctionsAt (f : ℕ) (ts : List Token) (w : List ℕ) : ℕ → List D
   functions-more : {k : ℕ} {d : Def} {ds : List Def}
       → FunctionAt f ts w (function-row w k) d → FunctionsAt f ts w (k + 1) ds → FunctionsAt f ts w k (d ∷ ds)
 
--- The table holds the program p, a reading of the tokens ts: this is what the reader promises to the checker and the runner.
-pub record Holds (ts : List Token) (w : List ℕ) (count defs root : ℕ) (p : Program) : Type 0 where
+-- The table holds the program p, a reading of the tokens ts, as P says: this is what the reader promises to the checker and
+-- the runner.
+pub record Holds (ts : List Token) (w : List ℕ) (P : Held) (p : Program) : Type 0 where
   pub depth : ℕ
   pub long : TABLE ≤ length w
-  pub stand : Stand w count ts
-  pub defined : defs ≡ length (p .defs)
-  pub few : defs ≤ count
+  pub stand : Stand w (P .count) ts
+  pub defined : P .functions ≡ length (p .defs)
+  pub few : P .functions ≤ P .count
   pub functions : FunctionsAt depth ts w 0 (p .defs)
-  pub main : tree-at depth ts w root ≡ p .main
-  pub right : Right depth ts w root
+  pub main : tree-at depth ts w (P .root) ≡ p .main
+  pub right : Right depth ts w (P .root)
   pub room : below (p .main) < NODES

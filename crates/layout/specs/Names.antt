@@ -26,15 +26,15 @@ pub record Named (ts : List Token) (n : ℕ) (s : Spelling) : Type 0 where
   pub spelled : spelling-at ts at ≡ s
   pub number : n ≡ name-number ts s
 
--- the fourth word of the token t, one of ts
-unfoldable pub payload : List Token → Token → ℕ
-payload ts t = cond (eqb (t .kind) NUMBER) (t .value) (cond (eqb (t .kind) NAME) (name-number ts (t .spelling)) 0)
+-- the value of the token t, one of ts, as a word: a number's value, or a name's number
+unfoldable pub value-word : List Token → Token → ℕ
+value-word ts t = cond (eqb (t .kind) NUMBER) (t .value) (cond (eqb (t .kind) NAME) (name-number ts (t .spelling)) 0)
 
 -- the table with the tokens us of the list ts written from token n on
 unfoldable pub lay-tokens : List Token → List ℕ → ℕ → List Token → List ℕ
 lay-tokens ts w n [] = w
 lay-tokens ts w n (u ∷ us) =
-    lay-tokens ts (put-token w n (u .kind) (u .place) (u .place + length (u .spelling)) (payload ts u)) (n + 1) us
+    lay-tokens ts (put-token w n (u .kind) (u .place) (u .place + length (u .spelling)) (value-word ts u)) (n + 1) us
 
 -- The first `count` tokens of the table stand for ts. All that the layers above know of a text is this.
 pub record Stand (w : List ℕ) (count : ℕ) (ts : List Token) : Type 0 where
@@ -43,6 +43,6 @@ pub record Stand (w : List ℕ) (count : ℕ) (ts : List Token) : Type 0 where
   pub kinds : (i : ℕ) → kind-at ts i ≡ kind-of w count i
   pub places : (i : ℕ) → i < count → token-place w i ≡ place-at ts i
   pub ends : (i : ℕ) → i < count → token-end w i ≡ place-at ts i + length (spelling-at ts i)
-  pub values : (i : ℕ) → i < count → token-value w i ≡ payload ts (getD ts i past)
+  pub values : (i : ℕ) → i < count → token-value w i ≡ value-word ts (getD ts i past)
   -- a number is one that can be written
   pub written : (i : ℕ) → At ts i NUMBER → value-at ts i ≤ LARGEST

@@ -3,10 +3,11 @@ use mathlib.Core.Bool.{true, false}
 use mathlib.Core.List.{List, [], _∷_}
 use Prim.Native.Nat.{ℕ, _+_}
 use lib.ListN.{length}
-use Rattle.language.specs.Tokens.{NAME, NUMBER, DEF, LET, WHILE, IF, REF, NOT, TRUE, FALSE, TT, PLUS, MINUS, STAR, SLASH, AND, OR, LESS, EQUAL, BECOMES, BANG, SEMI, LPAR, LBRACE}
+use Rattle.language.specs.Tokens.{Token, NAME, NUMBER, DEF, LET, WHILE, IF, REF, NOT, TRUE, FALSE, TT, PLUS, MINUS, STAR, SLASH, AND, OR, LESS, EQUAL, BECOMES, BANG, SEMI, LPAR, LBRACE}
 use Rattle.language.specs.Trees.{Literal, whole, truth, trivial, Unary, minus, not, fetch, new, Binary, add, sub, mul, div, less, equal, and, or, assign, Exp, name, literal, unary, binary, follow, group, block, call, bind, branch, loop, Exps, last, more, Param, Def, Program}
 use Rattle.language.specs.Meaning.{type-number}
 use Rattle.layout.specs.Table.{put-row, put-function}
+use Rattle.layout.specs.declared.Held.{Held}
 
 -- ---- the kinds of rows: a node's is its own token's, PREFIX more before an operand
 
@@ -133,3 +134,7 @@ lay-program w p = lay (lay-defs w 0 0 (p .defs)) (defs-rows (p .defs)) (p .main)
 -- the row of the last expression
 unfoldable pub main-row : Program → ℕ
 main-row p = defs-rows (p .defs) + below (p .main)
+
+-- how a table holds the program p of the tokens ts, once it is laid down
+abbrev pub held-as : List Token → Program → Held
+held-as ts p = record { count = length ts; functions = length (p .defs); root = main-row p }

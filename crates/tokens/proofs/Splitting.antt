@@ -13,7 +13,7 @@ use Rattle.language.specs.Text.Content.{space, token}
 use Rattle.language.specs.Text.Reaches.{start, skip, next}
 use Rattle.language.specs.Tokens.{EDITION-1, Token}
 use Rattle.layout.proofs.TokenLaws.{lay-length, lay-more}
-use Rattle.layout.specs.Names.{lay-tokens, payload}
+use Rattle.layout.specs.Names.{lay-tokens, value-word}
 use Rattle.layout.specs.Table.{put-token}
 use Rattle.tokens.proofs.Written.{table-spans, payload-found, token-end}
 use Rattle.tokens.specs.Answer.{Laid, Whole, Broken}
@@ -83,7 +83,7 @@ module _ {t w₀ w : List ℕ} {p n : ℕ} (r : Reached t w₀ w p n) where
         let d = r .laid in
         let e : p + length (slice p q t) ≡ q = token-end t p q (omega (arith, b .0)) (b .1) in
         let y′ = subst₂ (λ a i. Payload t a i k (slice p q t) v m) d c y in
-        let f : payload (ts ++ (u ∷ [])) u ≡ m = payload-found t w₀ ts (r .reaches) fits p q k v m (x .form) y′ in
+        let f : value-word (ts ++ (u ∷ [])) u ≡ m = payload-found t w₀ ts (r .reaches) fits p q k v m (x .form) y′ in
         record {
           tokens = ts ++ (u ∷ []);
           reaches = next (r .reaches) x h refl;

@@ -20,7 +20,7 @@ use Rattle.language.specs.Text.Reaches.{start, skip, next}
 use Rattle.language.specs.Tokens.{same, Vocabulary, Token, NAME, NUMBER, past}
 use Rattle.language.specs.Trees.{PUTCHAR}
 use Rattle.layout.proofs.TokenLaws.{same-self, first-is, lay-holds}
-use Rattle.layout.specs.Names.{first-from, name-number, payload, lay-tokens}
+use Rattle.layout.specs.Names.{first-from, name-number, value-word, lay-tokens}
 use Rattle.tokens.specs.Found.{Spans, bytes-of, First, Numbered, Payload}
 
 -- ---- tokens and their bytes
@@ -100,8 +100,8 @@ module _ {voc : Vocabulary} (t w₀ : List ℕ) (ts : List Token) {p : ℕ} (r :
   -- the fourth word of the next token
   pub payload-found : (q e k v n : ℕ) → Form voc t q e (token k v)
       → Payload t (lay-tokens ts w₀ 0 ts) (length ts) k (slice q e t) v n
-      → payload (ts ++ (token-of t q e k v ∷ [])) (token-of t q e k v) ≡ n
-  unfolding payload
+      → value-word (ts ++ (token-of t q e k v ∷ [])) (token-of t q e k v) ≡ n
+  unfolding value-word
   payload-found q e k v n f m =
       ⊎-elim
       (λ x. let y : k ≡ NAME = eqb-true k NAME x in

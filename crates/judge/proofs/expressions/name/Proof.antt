@@ -22,10 +22,19 @@ enum-told : tie.Need-enum-told
 enum-told c = search needs
 
 returns : tie.Need-returns
-returns c = name-found _ _ _ _ (c .before .before .before .before .before .link .ensures) (c .before .before .before .before .value .ensures) (c .before .before .before .variable .ensures) (c .before .nearest .given .1)
+returns c =
+    let at-variable = c .before .before .before in
+    let at-value = at-variable .before in
+    let at-link = at-value .before in
+    name-found _ _ _ _ (at-link .link .ensures) (at-value .value .ensures) (at-variable .variable .ensures) (c .before .nearest .given .1)
 
 returns-2 : tie.Need-returns-2
-returns-2 c = name-nowhere _ _ _ _ (c .before .before .before .before .link .ensures) (c .before .before .before .value .ensures) (c .before .before .variable .ensures) (c .before .before .before .before .before .word .ensures) (c .enum-told .given .1)
+returns-2 c =
+    let at-value = c .before .before .before in
+    let at-link = at-value .before in
+    let at-word = at-link .before in
+    name-nowhere _ _ _ _ (at-link .link .ensures) (at-value .value .ensures) (c .before .before .variable .ensures) (at-word .word .ensures)
+    (c .enum-told .given .1)
 
 pub name-spec : {M : Type 1} → statement M
 name-spec =

@@ -18,15 +18,25 @@ link-requires t c κs = (c .before .before .before .pre .1 .long, args-inside (c
 
 pub link-requires-2 :
     (t : ℕ) → lts.Need-link-requires-2 (arguments-claims t) (arguments-at t) arguments.Post
-link-requires-2 t c κs = (c .before .before .before .before .before .pre .1 .long, args-inside (c .before .before .before .before .before .pre .1) (c .before .before .before .if1 .left), omega arith)
+link-requires-2 t c κs =
+    let at-if1 = c .before .before .before in
+    let start = at-if1 .before .before in
+    (start .pre .1 .long, args-inside (start .pre .1) (at-if1 .if1 .left), omega arith)
 
 pub wanted-requires :
     (t : ℕ) → lts.Need-wanted-requires (arguments-claims t) (arguments-at t) arguments.Post
-wanted-requires t c κs = (c .before .before .before .before .before .before .before .pre .1 .long, args-rowed (c .before .before .before .before .before .before .before .pre .1) (c .before .before .before .before .before .if1 .left))
+wanted-requires t c κs =
+    let at-if1 = c .before .before .before .before .before in
+    let start = at-if1 .before .before in
+    (start .pre .1 .long, args-rowed (start .pre .1) (at-if1 .if1 .left))
 
 pub type-at-requires :
     (t : ℕ) → lts.Need-type-at-requires (arguments-claims t) (arguments-at t) arguments.Post
-type-at-requires t c κs = let q = args-first (c .before .before .before .before .before .before .before .before .before .pre .1) (c .before .before .before .before .before .before .before .if1 .left) (c .before .before .before .before .before .link .ensures) in (omega (arith, q .0, c .before .before .before .before .before .before .before .before .before .pre .0), q .1)
+type-at-requires t c κs =
+    let at-link = c .before .before .before .before .before in
+    let at-if1 = at-link .before .before in
+    let start = at-if1 .before .before in
+    let q = args-first (start .pre .1) (at-if1 .if1 .left) (at-link .link .ensures) in (omega (arith, q .0, start .pre .0), q .1)
 
 pub enum-known-first :
     (t : ℕ) → lts.Need-enum-known-first (arguments-claims t) (arguments-at t) arguments.Post
@@ -42,22 +52,50 @@ still-requires t c κs = tt
 
 pub add-arguments :
     (t : ℕ) → lts.Need-add-arguments (arguments-claims t) (arguments-at t) arguments.Post
-add-arguments t c = omega (arith, c .before .before .before .before .before .before .before .before .before .before .before .before .before .before .before .before .before .pre .1 .few)
+add-arguments t c =
+    let earlier = c .before .before .before .before .before .before .before in
+    let earlier-2 = earlier .before .before .before .before .before .before .before in
+    let start = earlier-2 .before .before .before in
+    omega (arith, start .pre .1 .few)
 
 pub arguments-requires :
     (t : ℕ) → lts.Need-arguments-requires (arguments-claims t) (arguments-at t) arguments.Post
-arguments-requires t c κs = let q = args-next (c .before .before .before .before .before .before .before .before .before .before .before .before .before .before .before .before .before .pre .1) (c .before .before .before .before .before .before .before .before .before .before .before .before .before .before .before .if1 .left) (c .before .before .before .before .before .before .before .type-at .ensures .kept) (c .before .before .before .before .before .before .before .before .before .before .before .link2 .ensures) in (omega (arith, q .0, c .before .before .before .before .before .before .before .before .before .before .before .before .before .before .before .before .before .pre .0), q .1)
+arguments-requires t c κs =
+    let at-type-at = c .before .before .before .before .before .before .before in
+    let at-link2 = at-type-at .before .before .before .before in
+    let at-if1 = at-link2 .before .before .before .before in
+    let start = at-if1 .before .before in
+    let q = args-next (start .pre .1) (at-if1 .if1 .left) (at-type-at .type-at .ensures .kept) (at-link2 .link2 .ensures) in
+    (omega (arith, q .0, start .pre .0), q .1)
 
 pub same-length :
     (t : ℕ) → lts.Need-same-length (arguments-claims t) (arguments-at t) arguments.Post
 same-length t c = c .before .before .before .before .before .type-at .ensures .kept .long
 
 pub returns-2 : (t : ℕ) → lts.Need-returns-2 (arguments-claims t) (arguments-at t) arguments.Post
-returns-2 t c = stop-judged (c .before .before .before .before .before .before .before .before .before .before .before .before .before .before .before .pre .1) (c .before .before .before .before .before .before .before .before .before .before .before .before .before .if1 .left) (c .before .before .before .before .before .before .before .before .before .before .before .link .ensures) (c .before .before .before .before .before .type-at .ensures) (c .before .first .given .1)
+returns-2 t c =
+    let at-type-at = c .before .before .before .before .before in
+    let at-link = at-type-at .before .before .before .before .before .before in
+    let at-if1 = at-link .before .before in
+    let start = at-if1 .before .before in
+    stop-judged (start .pre .1) (at-if1 .if1 .left) (at-link .link .ensures) (at-type-at .type-at .ensures) (c .before .first .given .1)
 
 pub same-length-2 :
     (t : ℕ) → lts.Need-same-length-2 (arguments-claims t) (arguments-at t) arguments.Post
-same-length-2 t c = c .before .before .arguments .ensures .kept .long ∙ c .before .before .before .before .before .before .before .before .before .before .type-at .ensures .kept .long
+same-length-2 t c =
+    let earlier = c .before .before .before .before .before .before .before in
+    let at-type-at = earlier .before .before .before in
+    c .before .before .arguments .ensures .kept .long ∙ at-type-at .type-at .ensures .kept .long
 
 pub returns-3 : (t : ℕ) → lts.Need-returns-3 (arguments-claims t) (arguments-at t) arguments.Post
-returns-3 t c = more-judged (c .before .before .before .before .before .before .before .before .before .before .before .before .before .before .before .before .before .before .before .before .pre .1) (c .before .before .before .before .before .before .before .before .before .before .before .before .before .before .before .before .before .before .if1 .left) (c .before .before .before .before .before .before .before .before .before .before .before .before .before .before .before .before .link .ensures) (c .before .before .before .before .before .before .before .before .before .before .type-at .ensures) (c .before .before .before .before .before .before .first2 .given .1) (c .before .before .before .before .before .before .before .before .before .before .before .before .wanted .ensures) (c .before .before .before .before .before .before .before .before .before .before .before .before .before .before .link2 .ensures) (c .before .before .before .before .still .ensures) (c .before .before .arguments .ensures)
+returns-3 t c =
+    let at-still = c .before .before .before .before in
+    let at-first2 = at-still .before .before in
+    let at-type-at = at-first2 .before .before .before .before in
+    let at-wanted = at-type-at .before .before in
+    let at-link2 = at-wanted .before .before in
+    let at-link = at-link2 .before .before in
+    let at-if1 = at-link .before .before in
+    let start = at-if1 .before .before in
+    more-judged (start .pre .1) (at-if1 .if1 .left) (at-link .link .ensures) (at-type-at .type-at .ensures) (at-first2 .first2 .given .1)
+    (at-wanted .wanted .ensures) (at-link2 .link2 .ensures) (at-still .still .ensures) (c .before .before .arguments .ensures)

@@ -30,8 +30,8 @@ use Rattle.rules.proofs.operators.branches.Reads as branches-reads
 use Rattle.rules.proofs.operators.call.Reads as call-reads
 use Rattle.rules.proofs.operators.children.Reads as children-reads
 use Rattle.rules.proofs.operators.constant.Reads as constant-reads
-use Rattle.rules.proofs.operators.one.Reads as one-reads
-use Rattle.rules.proofs.operators.two.Reads as two-reads
+use Rattle.rules.proofs.operators.after_child.Reads as after-child-reads
+use Rattle.rules.proofs.operators.after_children.Reads as after-children-reads
 use Rattle.rules.proofs.sight.called.Reads as called-reads
 use Rattle.rules.proofs.sight.wanted.Reads as wanted-reads
 use Rattle.layout.proofs.rows.link.Reads as link-reads
@@ -106,22 +106,92 @@ abbrev pub type-at-below : ℕ → In 1 type-at-kinds.ps
 type-at-below t = and 1 type-at-kinds.ps (falls 1 type-at-kinds.ps _<_ μ-type-at t) type-at.Pre
 
 abbrev pub arguments-claims : ℕ → arguments-lts.Claims
-arguments-claims t = (link-reads.Asked, link-reads.Learnt, wanted-reads.Asked, wanted-reads.Learnt, type-at-below t, type-at.Post, still-reads.Asked, still-reads.Learnt, arguments-below t, arguments.Post)
+arguments-claims t = (
+  link-reads.Asked,
+  link-reads.Learnt,
+  wanted-reads.Asked,
+  wanted-reads.Learnt,
+  type-at-below t,
+  type-at.Post,
+  still-reads.Asked,
+  still-reads.Learnt,
+  arguments-below t,
+  arguments.Post,
+)
 
 abbrev pub bind-claims : ℕ → bind-lts.Claims
 bind-claims t = (link-reads.Asked, link-reads.Learnt, value-reads.Asked, value-reads.Learnt, type-at-below t, type-at.Post, put-reads.Asked, put-reads.Learnt)
 
 abbrev pub branch-claims : ℕ → branch-lts.Claims
-branch-claims t = (word-reads.Asked, word-reads.Learnt, link-reads.Asked, link-reads.Learnt, type-at-below t, type-at.Post, branches-reads.Asked, branches-reads.Learnt)
+branch-claims t = (
+  word-reads.Asked,
+  word-reads.Learnt,
+  link-reads.Asked,
+  link-reads.Learnt,
+  type-at-below t,
+  type-at.Post,
+  branches-reads.Asked,
+  branches-reads.Learnt,
+)
 
 abbrev pub call-claims : ℕ → call-lts.Claims
-call-claims t = (word-reads.Asked, word-reads.Learnt, link-reads.Asked, link-reads.Learnt, value-reads.Asked, value-reads.Learnt, called-reads.Asked, called-reads.Learnt, arguments-below t, arguments.Post, call-reads.Asked, call-reads.Learnt)
+call-claims t = (
+  word-reads.Asked,
+  word-reads.Learnt,
+  link-reads.Asked,
+  link-reads.Learnt,
+  value-reads.Asked,
+  value-reads.Learnt,
+  called-reads.Asked,
+  called-reads.Learnt,
+  arguments-below t,
+  arguments.Post,
+  call-reads.Asked,
+  call-reads.Learnt,
+)
 
 abbrev pub over-one-claims : ℕ → over-one-lts.Claims
-over-one-claims t = (word-reads.Asked, word-reads.Learnt, link-reads.Asked, link-reads.Learnt, type-at-below t, type-at.Post, one-reads.Asked, one-reads.Learnt)
+over-one-claims t = (
+  word-reads.Asked,
+  word-reads.Learnt,
+  link-reads.Asked,
+  link-reads.Learnt,
+  type-at-below t,
+  type-at.Post,
+  after-child-reads.Asked,
+  after-child-reads.Learnt,
+)
 
 abbrev pub over-two-claims : ℕ → over-two-lts.Claims
-over-two-claims t = (word-reads.Asked, word-reads.Learnt, link-reads.Asked, link-reads.Learnt, type-at-below t, type-at.Post, two-reads.Asked, two-reads.Learnt)
+over-two-claims t = (
+  word-reads.Asked,
+  word-reads.Learnt,
+  link-reads.Asked,
+  link-reads.Learnt,
+  type-at-below t,
+  type-at.Post,
+  after-children-reads.Asked,
+  after-children-reads.Learnt,
+)
 
 abbrev pub type-at-claims : ℕ → type-at-lts.Claims
-type-at-claims t = (word-reads.Asked, word-reads.Learnt, name-reads.Asked, name-reads.Learnt, call-below t, call.Post, bind-below t, bind.Post, children-reads.Asked, children-reads.Learnt, constant-reads.Asked, constant-reads.Learnt, over-one-below t, over-one.Post, over-two-below t, over-two.Post, branch-below t, branch.Post)
+type-at-claims t = (
+  word-reads.Asked,
+  word-reads.Learnt,
+  name-reads.Asked,
+  name-reads.Learnt,
+  call-below t,
+  call.Post,
+  bind-below t,
+  bind.Post,
+  children-reads.Asked,
+  children-reads.Learnt,
+  constant-reads.Asked,
+  constant-reads.Learnt,
+  over-one-below t,
+  over-one.Post,
+  over-two-below t,
+  over-two.Post,
+  branch-below t,
+  branch.Post,
+)

@@ -14,13 +14,13 @@ use Rattle.language.specs.Types.{Sig, sig}
 use Rattle.language.specs.Faults.{no-binding}
 use Rattle.language.specs.Meaning.{type-number}
 use Rattle.language.proofs.Executable.Checks.{told}
-use Rattle.layout.specs.Table.{function-row, variable-kind}
+use Rattle.layout.specs.Table.{function-row, variable-type}
 use Rattle.layout.specs.Names.{Stand, Named}
 use Rattle.layout.specs.Functions.{Headed, find-function}
 use Rattle.layout.specs.Decode.{FunctionAt}
 use Rattle.layout.proofs.NameLaws.{named-same, putchar-number}
 use Rattle.layout.proofs.FunctionLaws.{function-named, function-headed}
-use Rattle.rules.specs.Sight.{Variables, variables-none, variables-more, find-variable, Functions, functions-given, functions-more, Sheet, callee-by, callee-in, Means, Rowed}
+use Rattle.rules.specs.Sight.{Variables, variables-none, variables-more, find-variable, Functions, functions-given, functions-more, InSight, callee-by, callee-in, Means, Rowed}
 use Rattle.rules.specs.Asked.{Tells, tells-type, tells-fault}
 use Rattle.judge.specs.Judged.{looked}
 use Rattle.rules.specs.declared.sight.Callee.{Callee}
@@ -42,7 +42,7 @@ module _ {ts : List Token} (few : length ts ≤ TOKENS) {w : List ℕ} {x : ℕ}
   unfolding find-variable nearest told
   look-tells variables-none = tells-fault refl
   look-tells (variables-more {n = n} {x = z} {t = t} e a k r) =
-      rw (e, named-same few called a) (look-step (same y z) (variable-kind w n) t i _ _ k (look-tells r))
+      rw (e, named-same few called a) (look-step (same y z) (variable-type w n) t i _ _ k (look-tells r))
 
 -- ---- functions
 
@@ -86,18 +86,18 @@ means-rowed f ts w (Callee.Function r) o (d, a, e) = omega (arith, a .count, a .
 means-rowed f ts w Callee.Putchar o h = tt
 means-rowed f ts w Callee.Nobody o h = tt
 
-module _ {ts : List Token} {f : ℕ} {w : List ℕ} {seen : ℕ} {Δ : Scope Sig} (sheet : Sheet ts f w seen Δ) where
+module _ {ts : List Token} {f : ℕ} {w : List ℕ} {seen : ℕ} {Δ : Scope Sig} (sight : InSight ts f w seen Δ) where
   -- the heads of all functions in sight
-  pub sheet-headed : (k : ℕ) → k < seen → Headed w k
-  sheet-headed = headed (sheet .stand) (omega (arith, sheet .few, sheet .stand .few)) (sheet .functions)
+  pub sight-headed : (k : ℕ) → k < seen → Headed w k
+  sight-headed = headed (sight .stand) (omega (arith, sight .few, sight .stand .few)) (sight .functions)
 
-  -- the tokens of a sheet
-  pub sheet-few : length ts ≤ TOKENS
-  sheet-few = stand-few (sheet .stand)
+  -- the tokens are few enough
+  pub sight-few : length ts ≤ TOKENS
+  sight-few = stand-few (sight .stand)
 
   -- a call's callee is what is nearest under its name
   pub callee-means : {x : ℕ} {y : Name} → Named ts x y → Means f ts w (callee-in w x seen) (nearest y Δ)
-  callee-means h = callee-functions (sheet .stand) h (sheet .functions)
+  callee-means h = callee-functions (sight .stand) h (sight .functions)
 
   -- and has rows for its parameters
   pub callee-rowed : {x : ℕ} {y : Name} → Named ts x y → Rowed w (callee-in w x seen)

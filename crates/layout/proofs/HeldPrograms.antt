@@ -1,6 +1,6 @@
 -- A program that was laid down is held by its table: the promise of the reader, as the checker and the runner take it.
 use mathlib.Core.List.{List, [], _∷_}
-use mathlib.Core.Path.{_≡_, refl, sym, ap, _∙_}
+use mathlib.Core.Path.{_≡_, refl, sym, ap, subst, _∙_}
 use Prim.Native.Nat.{ℕ, suc, _+_, _*_, _≤_, _<_}
 use native.Mathlib.Omega.{arith}
 use lib.ListN.{length, getD}
@@ -11,7 +11,7 @@ use Rattle.language.specs.Grammar.{Reading}
 use Rattle.language.specs.Meaning.{type-number}
 use Rattle.layout.specs.Table.{ROWS-AT, FUNCTIONS-AT, row-word, function-row, put-row, put-function}
 use Rattle.layout.specs.Names.{Stand}
-use Rattle.layout.specs.Rows.{PARAMETER, below, lay, lay-params, lay-def, def-rows, defs-rows, lay-defs, lay-program, main-row}
+use Rattle.layout.specs.Rows.{PARAMETER, below, lay, lay-params, lay-def, def-rows, defs-rows, lay-defs, lay-program, main-row, held-as}
 use Rattle.layout.specs.Decode.{ParamsAt, params-none, params-more, FunctionAt, FunctionsAt, functions-none, functions-more, Holds}
 use Rattle.layout.proofs.TokenLaws.{stand-same}
 use Rattle.layout.proofs.TableLaws.{put-row-five, put-row-other, length-put-row, put-function-same, put-function-other, length-put-function}
@@ -92,7 +92,8 @@ module _ (ts : List Token) (ls : List ℕ) where
       let r : TABLE ≤ length w₁ = rw (length-lay-def d w f) l in
       let e : function-row ls k ≡ f =
       q k (omega arith) (omega arith)
-      ∙ lay-defs-other ds w₂ (f + def-rows d) NODES (k + 1) (k + 1 + length ds) (FUNCTIONS-AT + k) (omega arith) (omega arith) (λ α β. omega arith) (λ α β. omega arith)
+      ∙ lay-defs-other ds w₂ (f + def-rows d) NODES (k + 1) (k + 1 + length ds) (FUNCTIONS-AT + k) (omega arith) (omega arith) (λ α β. omega arith)
+      (λ α β. omega arith)
       ∙ put-function-same w₁ k f (omega arith) in
       let own : Agree ls w₁ f (f + def-rows d) = λ j α β.
       g j α (omega arith)
@@ -103,10 +104,10 @@ module _ (ts : List Token) (ls : List ℕ) where
       (λ j α β. g j (omega arith) (omega arith)) (λ j α β. q j (omega arith) (omega arith)))
 
 -- A reading of the tokens that a table stands for, laid down in it, is held.
-pub held : (ts : List Token) (p : Program) (w : List ℕ) (count : ℕ) → TABLE ≤ length w → Stand w count ts → Reading ts p
-    → Holds ts (lay-program w p) count (length (p .defs)) (main-row p) p
+pub held : (ts : List Token) (p : Program) (w : List ℕ) {count : ℕ} → TABLE ≤ length w → Stand w count ts → Reading ts p
+    → Holds ts (lay-program w p) (held-as ts p) p
 unfolding lay-program main-row
-held ts p w count l s r =
+held ts p w {count} l s r =
     let o = reading-owned ts p r in
     let n = few-rows ts p r in
     let m = defs-rows (p .defs) + below (p .main) in
@@ -118,10 +119,13 @@ held ts p w count l s r =
     record {
       depth = suc m;
       long = rw (length-lay-program p w) l;
-      stand = stand-same ls w count ts
-          (λ j h. lay-program-other p w NODES TOKENS j (omega (arith, s .few, s .long)) (omega (arith, s .few, s .long)) (λ α β. omega arith) (λ α β. omega arith)) s;
+      stand = subst (λ (n : ℕ). Stand ls n ts) (sym (s .long))
+          (stand-same ls w count ts
+          (λ j h.
+          lay-program-other p w NODES TOKENS j (omega (arith, s .few, s .long)) (omega (arith, s .few, s .long)) (λ α β. omega arith)
+          (λ α β. omega arith)) s);
       defined = refl;
-      few = omega (arith, s .long);
+      few = omega arith;
       functions = functions-back ts ls (p .defs) w 0 0 m (omega arith) (omega (arith, s .few, s .long)) (omega (arith, s .few, s .long)) l (o .defs)
           (λ j α β. lay-before (p .main) w₁ (defs-rows (p .defs)) j (omega arith))
           (λ j α β. lay-other (p .main) w₁ (defs-rows (p .defs)) NODES (FUNCTIONS-AT + j) (omega (arith, s .few, s .long)) (λ γ δ. omega arith));

@@ -1,7 +1,7 @@
 use Rattle.rules.proofs.ShapeLaws.{two-follow, two-while, two-between}
 use borrow.Author.Needs.{needs}
-use Rattle.rules.proofs.operators.two.Statement.{statement}
-use Rattle.rules.proofs.operators.two.Tie as tie
+use Rattle.rules.proofs.operators.after_children.Statement.{statement}
+use Rattle.rules.proofs.operators.after_children.Tie as tie
 
 follow-requires : tie.Need-follow-requires
 follow-requires c κs = search needs
@@ -21,7 +21,7 @@ binary-requires c κs = search needs
 returns-3 : tie.Need-returns-3
 returns-3 c = two-between _ _ (c .before .before .if1 .left) (c .before .if2 .left) (c .binary .ensures)
 
-pub two-spec : {M : Type 1} → statement M
-two-spec =
+pub after-children-spec : {M : Type 1} → statement M
+after-children-spec =
     tie.close
     (tie.spec follow-requires returns repeat-requires returns-2 binary-requires returns-3)
