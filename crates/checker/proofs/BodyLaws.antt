@@ -23,7 +23,7 @@ use Rattle.layout.proofs.VariablesWords.{row-without, function-without}
 use Rattle.numbers.specs.Meanings.{reason-meant}
 use Rattle.rules.specs.Sight.{Variables, InSight}
 use Rattle.rules.specs.Asked.{Tells}
-use Rattle.judge.specs.Judged.{Kept, Ready, Judged}
+use Rattle.phrase_types.specs.Inferred.{Kept, Ready, Inferred}
 use Rattle.checker.specs.Ruled.{Rules, check-head, check-body, Headings, Taken, Next, Headlines, Fresh, Bodied, Fitting, Listed, Ruled}
 use Rattle.numbers.specs.declared.Reason.{Reason}
 use Rattle.numbers.specs.declared.Reason.the-variants.{TooManyRefs, WrongBody}
@@ -33,7 +33,7 @@ use Rattle.checker.specs.declared.programs.Verdict.{Verdict}
 use Rattle.checker.specs.declared.programs.Verdict.the-variants as Verdict
 use Rattle.rules.proofs.TellLaws.{type-told, fault-told, tells-as}
 use Rattle.rules.proofs.OperatorLaws.{is-type, isnt-type}
-use Rattle.judge.proofs.KeptLaws.{kept-self, kept-then, kept-fewer, kept-row}
+use Rattle.phrase_types.proofs.KeptLaws.{kept-self, kept-then, kept-fewer, kept-row}
 use Rattle.rules.proofs.PlainLaws.{headed-plain}
 use Rattle.checker.proofs.FunctionLaws.{sight-with, next-few, next-headed}
 
@@ -71,7 +71,7 @@ module _ {w : List ℕ} {k row : ℕ} (b : Bodied w k row) {at result : ℕ} (ea
   }
 
   module _ (few : result < OVER) {root count : ℕ} (eo : root ≡ row-word w row 4) (ec : count ≡ row-word w row 2) {w′ : List ℕ} {q : Typing}
-      (j : Judged w w′ root (k + 1) count q) where
+      (j : Inferred w w′ root (k + 1) count q) where
     -- what is told of the body
     body-told : {ts : List Token} {f : ℕ} {Δ : Scope Sig} {Γ : Scope Ty} {d : Def} → Next ts f (without-variables w) k Δ d
         → row ≡ function-row (without-variables w) k → Variables ts w (length (d .params)) Γ → Tells q (infer (with-def Δ d) (d .body) Γ)

@@ -23,7 +23,7 @@ use Rattle.rules.specs.declared.sight.Callee.{Callee}
 use Rattle.rules.specs.declared.sight.Callee.the-variants as Callee
 use Rattle.checker.specs.declared.programs.Verdict.{Verdict}
 use Rattle.checker.specs.declared.programs.Verdict.the-variants as Verdict
-use Rattle.judge.proofs.ScopeLaws.{sight-headed, callee-means}
+use Rattle.phrase_types.proofs.ScopeLaws.{sight-headed, callee-means}
 use Rattle.rules.proofs.PlainLaws.{name-plain, callee-plain}
 use Rattle.checker.proofs.ParameterLaws.{unbound-none, unbound-some}
 

@@ -22,7 +22,7 @@ use Rattle.layout.proofs.NameLaws.{named-at}
 use Rattle.layout.proofs.VariablesWords.{row-without, token-without}
 use Rattle.numbers.specs.Meanings.{reason-meant}
 use Rattle.rules.specs.Sight.{Variables, variables-none, variables-more, find-variable, found}
-use Rattle.judge.specs.Judged.{looked}
+use Rattle.phrase_types.specs.Inferred.{looked}
 use Rattle.checker.specs.Ruled.{ParameterAt, Bound}
 use Rattle.numbers.specs.declared.Reason.the-variants.{TooManyParameters, ParameterTwice, TooManyRefs}
 use Rattle.numbers.specs.declared.Reason.{Reason}
@@ -31,8 +31,8 @@ use Rattle.rules.specs.declared.sight.Found.the-variants as Found
 use Rattle.checker.specs.declared.programs.Verdict.{Verdict}
 use Rattle.checker.specs.declared.programs.Verdict.the-variants as Verdict
 use Rattle.rules.proofs.TellLaws.{type-told, fault-told, tells-as}
-use Rattle.judge.proofs.KeptLaws.{kept-self, kept-put, variables-put}
-use Rattle.judge.proofs.ScopeLaws.{look-tells, stand-few}
+use Rattle.phrase_types.proofs.KeptLaws.{kept-self, kept-put, variables-put}
+use Rattle.phrase_types.proofs.ScopeLaws.{look-tells, stand-few}
 
 -- ---- what is bound under a name
 

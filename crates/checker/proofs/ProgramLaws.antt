@@ -23,7 +23,7 @@ use Rattle.checker.specs.Checked.{Checkable, Answers}
 use Rattle.rules.specs.Sight.{variables-none, Functions, functions-given, InSight}
 use Rattle.rules.specs.Sight as Sight
 use Rattle.rules.specs.Asked.{Tells, tells-type, tells-fault}
-use Rattle.judge.specs.Judged.{Kept, Ready, Judged}
+use Rattle.phrase_types.specs.Inferred.{Kept, Ready, Inferred}
 use Rattle.checker.specs.Ruled.{Rules, Next, Listed, Ruled, Concluded}
 use Rattle.numbers.specs.declared.Reason.{Reason}
 use Rattle.rules.specs.declared.Typing.{Typing}
@@ -31,7 +31,7 @@ use Rattle.rules.specs.declared.Typing.the-variants as Typing
 use Rattle.checker.specs.declared.programs.Verdict.{Verdict}
 use Rattle.checker.specs.declared.programs.Verdict.the-variants as Verdict
 use Rattle.rules.proofs.TellLaws.{fault-is, tells-from}
-use Rattle.judge.proofs.KeptLaws.{kept-self, kept-then}
+use Rattle.phrase_types.proofs.KeptLaws.{kept-self, kept-then}
 
 -- ---- halfway
 
@@ -190,7 +190,7 @@ module _ {w₀ w : List ℕ} {P : Held} {k : ℕ} (u : Underway w₀ w P k) wher
         }
 
     -- and its answer is the program's
-    pub underway-ends : {w₁ : List ℕ} {q : Typing} → Judged w w₁ (P .root) (P .functions) 0 q → Concluded w₀ w₁ P q
+    pub underway-ends : {w₁ : List ℕ} {q : Typing} → Inferred w w₁ (P .root) (P .functions) 0 q → Concluded w₀ w₁ P q
     underway-ends {q = q} j = record {
       kept = kept-then (u .kept) (j .kept);
       right = λ ts program h.

@@ -13,12 +13,12 @@ use Rattle.layout.specs.Names.{Stand}
 use Rattle.layout.specs.Decode.{ParamsAt, params-more, FunctionAt}
 use Rattle.layout.proofs.VariablesWords.{row-without}
 use Rattle.rules.specs.Sight.{Variables, variables-none}
-use Rattle.judge.specs.Judged.{Kept}
+use Rattle.phrase_types.specs.Inferred.{Kept}
 use Rattle.checker.specs.Ruled.{ParameterAt, BoundIs, Bound, Headings, Taken}
 use Rattle.numbers.specs.declared.Reason.{Reason}
 use Rattle.checker.specs.declared.programs.Verdict.{Verdict}
 use Rattle.checker.specs.declared.programs.Verdict.the-variants as Verdict
-use Rattle.judge.proofs.KeptLaws.{kept-self, kept-then, kept-fewer, kept-row}
+use Rattle.phrase_types.proofs.KeptLaws.{kept-self, kept-then, kept-fewer, kept-row}
 
 -- k of d's parameters are the variables, and the rest are still to be taken
 pub record Halfway (p w : List ℕ) (row k : ℕ) (ts : List Token) (d : Def) : Type 0 where

@@ -19,7 +19,7 @@ use Rattle.layout.specs.declared.Held.{Held}
 use Rattle.numbers.specs.Meanings.{reason-meant}
 use Rattle.rules.specs.Sight.{Variables, Functions}
 use Rattle.rules.specs.Asked.{Tells}
-use Rattle.judge.specs.Judged.{Kept, Ready}
+use Rattle.phrase_types.specs.Inferred.{Kept, Ready}
 use Rattle.rules.specs.declared.Typing.{Typing}
 use Rattle.checker.specs.declared.programs.Verdict.{Verdict}
 use Rattle.checker.specs.declared.programs.Verdict.the-variants as Verdict

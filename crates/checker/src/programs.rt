@@ -3,7 +3,6 @@
 ghost use Prim.Native.Nat.{_+_, _<_};
 ghost use Rattle.checker.specs.Checked.{Checkable};
 ghost use Rattle.checker.specs.Ruled.{ParameterAt, Bound, Headings, Taken, Headlines, Fresh, Bodied, Fitting, Listed, Ruled, Concluded};
-use judge::expressions;
 use language::FUNCTIONS;
 use language::PARAMETERS;
 use layout::Held;
@@ -13,6 +12,7 @@ use layout::token;
 use layout::types;
 use layout::variables;
 use numbers::Reason;
+use phrase_types::expressions;
 use rules::Typing;
 use rules::sight;
 use rules::sight::Callee;

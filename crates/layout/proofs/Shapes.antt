@@ -7,14 +7,14 @@ use mathlib.Core.Path.{_≡_, refl, sym, subst}
 use Prim.Native.Nat.{ℕ, _≤_}
 use native.Mathlib.Omega.{arith}
 use lib.Dec.{T, eqb, leb, eqb→eq, leb→le}
-use Rattle.language.specs.Tokens.{Row, entry, NAME, NUMBER, LET, WHILE, IF, PLUS, BECOMES, SEMI, LPAR, LBRACE}
+use Rattle.language.specs.Tokens.{Entry, entry, NAME, NUMBER, LET, WHILE, IF, PLUS, BECOMES, SEMI, LPAR, LBRACE}
 use Rattle.language.specs.Trees.{Literal, Unary, minus, not, fetch, new, Binary, add, sub, mul, div, less, equal, and, or, assign}
 use Rattle.language.proofs.Grammar.Entries.{every, entry-passes}
 use Rattle.layout.specs.Rows.{PREFIX, CALL, literal-kind, unary-kind, binary-kind}
 use Rattle.layout.specs.Decode.{Shape, a-name, a-number, a-follow, a-group, a-block, a-call, a-let, an-if, a-while, a-constant, a-unary, a-binary, shapes, shape-of, children}
 
 -- what each row of a table gives by one number and by another, what is found does
-pub by-rows : {A : Type 0} (kind : A → ℕ) (of : ℕ → ℕ) (rows : List (Row ℕ A)) (k : ℕ) {a : A} → T (every (λ c x. eqb (kind x) (of c)) rows)
+pub by-rows : {A : Type 0} (kind : A → ℕ) (of : ℕ → ℕ) (rows : List (Entry ℕ A)) (k : ℕ) {a : A} → T (every (λ c x. eqb (kind x) (of c)) rows)
     → entry rows k ≡ some a → kind a ≡ of k
 by-rows kind of rows k {a} t e = eqb→eq (kind a) (of k) (entry-passes (λ c x. eqb (kind x) (of c)) rows k t e)
 

@@ -8,10 +8,11 @@ use Prim.Native.Nat.{ℕ, zero, suc, _+_, _≤_, _<_}
 use lib.Dec.{eqb}
 use lib.ListN.{length}
 use Rattle.language.specs.Sizes.{NODES, TABLE}
-use Rattle.language.specs.Tokens.{Token, Row, _is_, entry, At, value-at, spelling-at, NAME, NUMBER, LET, WHILE, IF, REF, NOT, TRUE, FALSE, TT, PLUS, MINUS, STAR, SLASH, AND, OR, LESS, EQUAL, BECOMES, BANG, SEMI, LPAR, LBRACE}
+use Rattle.language.specs.Tokens.{Token, Entry, _is_, entry, At, value-at, spelling-at, NAME, NUMBER, LET, WHILE, IF, REF, NOT, TRUE, FALSE, TT, PLUS, MINUS, STAR, SLASH, AND, OR, LESS, EQUAL, BECOMES, BANG, SEMI, LPAR, LBRACE}
 use Rattle.language.specs.Trees.{Literal, whole, truth, trivial, Unary, minus, not, fetch, new, Binary, add, sub, mul, div, less, equal, Exp, name, literal, unary, binary, follow, group, block, call, bind, branch, loop, Exps, last, more, Param, Def, Program}
 use Rattle.language.specs.Meaning.{type-number}
-use Rattle.layout.specs.Table.{KIND, OWN, FIRST, SECOND, THIRD, EXPRESSION, NEXT, TYPE, ARITY, RESULT, BODY, row-word, function-row}
+use Rattle.layout.specs.Table.{KIND, OWN, FIRST, SECOND, THIRD, EXPRESSION, NEXT, TYPE, ARITY, RESULT, BODY}
+use Rattle.layout.specs.Table.{row-word, function-row}
 use Rattle.layout.specs.Names.{Stand}
 use Rattle.layout.specs.Rows.{PREFIX, CALL, below}
 use Rattle.layout.specs.declared.Held.{Held}
@@ -24,7 +25,7 @@ pub data Shape : Type 0 where
   a-unary : Unary → Shape
   a-binary : Binary → Shape
 
-abbrev pub shapes : List (Row ℕ Shape)
+abbrev pub shapes : List (Entry ℕ Shape)
 shapes =
     NAME is a-name ∷ NUMBER is a-number ∷ TRUE is a-constant (truth true) ∷ FALSE is a-constant (truth false) ∷ TT is a-constant trivial
     ∷ SEMI is a-follow ∷ LPAR is a-group ∷ LBRACE is a-block ∷ CALL is a-call ∷ LET is a-let ∷ IF is an-if ∷ WHILE is a-while

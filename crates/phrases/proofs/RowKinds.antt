@@ -6,7 +6,7 @@ use mathlib.Core.Path.{_≡_, refl}
 use Prim.Native.Nat.{ℕ, zero, suc, _+_, _≤_, _<_}
 use native.Mathlib.Omega.{arith}
 use lib.Dec.{T, eqb, leb, eqb→eq, leb→le}
-use Rattle.language.specs.Tokens.{Row, entry, PAST, RBRACE}
+use Rattle.language.specs.Tokens.{Entry, entry, PAST, RBRACE}
 use Rattle.language.specs.Trees.{Literal, Unary, Binary}
 use Rattle.language.specs.Grammar.{or, and, sum, prod, operators, comparisons, prefixes, constants}
 use Rattle.language.proofs.Grammar.Entries.{every, entry-passes}
@@ -18,7 +18,7 @@ use Rattle.phrases.specs.Parts.{has, in-table}
 
 -- ---- a look into a table
 
-module _ {A : Type 0} (rows : List (Row ℕ A)) (k : ℕ) where
+module _ {A : Type 0} (rows : List (Entry ℕ A)) (k : ℕ) where
   -- what is in the table stands for something
   pub stands-for : in-table rows k ≡ true → (a : A) × (entry rows k ≡ some a)
   stands-for h = go (entry rows k) refl h
@@ -37,7 +37,7 @@ module _ {A : Type 0} (rows : List (Row ℕ A)) (k : ℕ) where
 
 -- a token that is in a table stands before the end, past which there is none
 module _ (w : List ℕ) (count i k : ℕ) (h : k ≡ kind-of w count i) where
-  listed : {A : Type 0} (rows : List (Row ℕ A)) → in-table rows PAST ≡ false → in-table rows k ≡ true → i < count
+  listed : {A : Type 0} (rows : List (Entry ℕ A)) → in-table rows PAST ≡ false → in-table rows k ≡ true → i < count
   listed rows p l = kind-within w count i (omega (arith, positive k refl))
     where
       positive : (c : ℕ) → k ≡ c → 0 < c
@@ -56,7 +56,7 @@ module _ (w : List ℕ) (count i k : ℕ) (h : k ≡ kind-of w count i) where
 
 -- ---- the kinds of rows
 
-by-rows : {A : Type 0} (kind : A → ℕ) (of : ℕ → ℕ) (rows : List (Row ℕ A)) (k : ℕ) {a : A} → T (every (λ c x. eqb (kind x) (of c)) rows)
+by-rows : {A : Type 0} (kind : A → ℕ) (of : ℕ → ℕ) (rows : List (Entry ℕ A)) (k : ℕ) {a : A} → T (every (λ c x. eqb (kind x) (of c)) rows)
     → entry rows k ≡ some a → kind a ≡ of k
 by-rows kind of rows k {a} t e = eqb→eq (kind a) (of k) (entry-passes (λ c x. eqb (kind x) (of c)) rows k t e)
 

@@ -6,15 +6,15 @@ use mathlib.Core.Option.{Option, none, some, Option·none-ne-some}
 use Prim.Native.Nat.{ℕ}
 use lib.Dec.{T, eqb}
 use borrow.Author.Tests.{eqb-true}
-use Rattle.language.specs.Tokens.{Row, _is_, entry}
+use Rattle.language.specs.Tokens.{Entry, _is_, entry}
 
 -- each row passes
-unfoldable pub every : {A : Type 0} → (ℕ → A → Bool) → List (Row ℕ A) → Bool
+unfoldable pub every : {A : Type 0} → (ℕ → A → Bool) → List (Entry ℕ A) → Bool
 every p [] = true
 every p ((c is a) ∷ rows) = p c a && every p rows
 
 -- what is found passes what each row passes
-pub entry-passes : {A : Type 0} (p : ℕ → A → Bool) (rows : List (Row ℕ A)) (k : ℕ) {a : A}
+pub entry-passes : {A : Type 0} (p : ℕ → A → Bool) (rows : List (Entry ℕ A)) (k : ℕ) {a : A}
     → T (every p rows) → entry rows k ≡ some a → T (p k a)
 unfolding every entry
 entry-passes p [] k {a} t e = absurd (Option·none-ne-some a e)
