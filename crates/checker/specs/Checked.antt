@@ -20,7 +20,8 @@ pub record Checkable (w : List ℕ) (P : Held) : Type 0 where
   pub program : Program
   pub holds : Holds tokens w P program
 
--- what the answer says of the program p: its type, by the type's number, or its first fault and the token that this is told at
+-- what the answer says of the program p: its type, by the type's number, or its first fault and the token that this is
+-- told at
 abbrev pub Answers : Typing → Program → Type 0
 Answers (Typing.«Type» n) p = (t : Ty) × HasType p t × (n ≡ type-number t)
 Answers (Typing.Fault r i) p = HasFault p (reason-meant r) i

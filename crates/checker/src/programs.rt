@@ -2,7 +2,8 @@
 // many there are, its name, its parameters one by one, its result's type, its body.
 ghost use Prim.Native.Nat.{_+_, _<_};
 ghost use Rattle.checker.specs.Checked.{Checkable};
-ghost use Rattle.checker.specs.Ruled.{ParameterAt, Bound, Headings, Taken, Headlines, Fresh, Bodied, Fitting, Listed, Ruled, Concluded};
+ghost use Rattle.checker.specs.Ruled.{ParameterAt, Bound, Headings, Taken, Headlines};
+ghost use Rattle.checker.specs.Ruled.{Fresh, Bodied, Fitting, Listed, Ruled, Concluded};
 use language::FUNCTIONS;
 use language::PARAMETERS;
 use layout::Held;

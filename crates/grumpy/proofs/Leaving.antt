@@ -7,7 +7,8 @@ use native.Mathlib.Omega.{arith}
 use Rattle.language.specs.Sizes.{TABLE}
 use Rattle.language.specs.Meaning.{run}
 use Rattle.language.specs.Numbers.{Refusal, Told, passed, refused, stopped}
-use Rattle.language.specs.Answers.{Origin, Refused, cleared, left, CheckReport, Checked, check-short, check-refused, check-passed, RunReport, Lent, Enough, Ran, run-short, run-large, run-refused, run-ended}
+use Rattle.language.specs.Answers.{Origin, Refused, cleared, left, CheckReport, Checked, check-short, check-refused}
+use Rattle.language.specs.Answers.{check-passed, RunReport, Lent, Enough, Ran, run-short, run-large, run-refused, run-ended}
 use Rattle.language.proofs.Answers.Endings.{IsRun, is-run}
 use Rattle.language.proofs.Answers.Origins.{Lawful, refused-clears}
 

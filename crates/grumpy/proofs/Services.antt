@@ -11,7 +11,8 @@ use Rattle.language.specs.Trees.{Ty, Program}
 use Rattle.language.specs.Meaning.{run, type-number}
 use Rattle.language.specs.Numbers.{passed, refused, short-memory, large-allowance}
 use Rattle.language.specs.Answers as Answers
-use Rattle.language.specs.Answers.{from-text, Passes, ending, left, cleared, check-report, CheckReport, Checked, check-short, check-refused, check-passed, Check, Lent, Enough, refusal, run-short, run-large, run-refused, run-ended, Run}
+use Rattle.language.specs.Answers.{from-text, Passes, ending, left, cleared, check-report, CheckReport, Checked, check-short, check-refused}
+use Rattle.language.specs.Answers.{check-passed, Check, Lent, Enough, refusal, run-short, run-large, run-refused, run-ended, Run}
 use Rattle.language.proofs.Answers.Origins.{text-lawful}
 use Rattle.numbers.specs.declared.Refusal.{Refusal}
 use Rattle.numbers.specs.declared.Stop.{Stop}

@@ -30,7 +30,8 @@ use Rattle.grumpy.specs.declared.outcomes.Ending.{Ending}
 -- the end of a program that the code's is, with the bytes printed
 abbrev pub ending-meant : Ending → List ℕ → Answers.Ending
 ending-meant (Ending.Value v u n) bs = record { told = passed; spot = nowhere; value = v; units = u; printed = bs }
-ending-meant (Ending.Stopped y i u n) bs = record { told = stopped (stop-meant y); spot = at i; value = pos 0; units = u; printed = bs }
+ending-meant (Ending.Stopped y i u n) bs =
+    record { told = stopped (stop-meant y); spot = at i; value = pos 0; units = u; printed = bs }
 
 abbrev pub printed-in : Ending → ℕ
 printed-in (Ending.Value v u n) = n
@@ -67,6 +68,7 @@ pub record Reported (source : List ℕ) (l : Lent) (out out′ : List ℕ) (r : 
 
 -- with memory and allowance in order
 pub record Answered (source table work out work′ out′ : List ℕ) (allowance : ℕ) (s : Seen) (r : Ran) : Type 0 where
-  pub told : (l : Lent) → OfSource source table s → Enough l → l .output ≡ length out → l .allowance ≡ allowance → allowance ≤ ALLOWANCE
+  pub told : (l : Lent) → OfSource source table s → Enough l → l .output ≡ length out → l .allowance ≡ allowance
+      → allowance ≤ ALLOWANCE
       → Reported source l out out′ r
   pub cleared : work′ ≡ zeros work 0 WORK

@@ -49,7 +49,8 @@ fn reported(v: Value) -> i64
 // Runs the program that the table holds.
 fn execute(table: &[u32], work: &mut [u32], out: &mut [u8], program: Held, allowance: u32) -> Ending
     requires { ⌜ Loaded (now table) (now work) program allowance ⌝ }
-    ensures { λ r. ⌜ Executed (now (table .entry)) (now (work .entry)) (now (out .entry)) (now (work .exit)) (now (out .exit)) program allowance r ⌝ }
+    ensures { λ r. ⌜ Executed (now (table .entry)) (now (work .entry)) (now (out .entry)) (now (work .exit))
+        (now (out .exit)) program allowance r ⌝ }
 {
     match runner::run(table, work, out, program, allowance) {
         Done::Value(v, spent) => {
@@ -133,7 +134,8 @@ pub fn run_or_refuse(
     allowance: u32,
 ) -> Ran
     requires { ⌜ Runnable (now table) (now work) allowance seen ⌝ }
-    ensures { λ r. ⌜ Answered (now (source .entry)) (now (table .entry)) (now (work .entry)) (now (out .entry)) (now (work .exit)) (now (out .exit)) allowance seen r ⌝ }
+    ensures { λ r. ⌜ Answered (now (source .entry)) (now (table .entry)) (now (work .entry)) (now (out .entry))
+        (now (work .exit)) (now (out .exit)) allowance seen r ⌝ }
 {
     match seen {
         Seen::Passes {

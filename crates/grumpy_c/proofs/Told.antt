@@ -17,7 +17,8 @@ use Rattle.numbers.specs.declared.Stop.{Stop}
 use Rattle.grumpy.specs.Reports.{checked-report, ran-report}
 use Rattle.grumpy.specs.declared.answers.Checked.{Checked}
 use Rattle.grumpy.specs.declared.answers.Ran.{Ran}
-use Rattle.grumpy_c.specs.Reports.{three, six, check-words, run-words, ToldChecked, ToldRan, CheckedC, check-no-report, check-reported, RanC, run-no-report, run-reported}
+use Rattle.grumpy_c.specs.Reports.{three, six, check-words, run-words, ToldChecked, ToldRan, CheckedC}
+use Rattle.grumpy_c.specs.Reports.{check-no-report, check-reported, RanC, run-no-report, run-reported}
 
 -- ---- lengths
 

@@ -15,7 +15,8 @@ use Rattle.layout.specs.Rows.{PARAMETER, below, lay, lay-params, lay-def
 use Rattle.layout.specs.Decode.{ParamsAt, params-none, params-more, FunctionAt, FunctionsAt, functions-none, functions-more, Holds}
 use Rattle.layout.proofs.TokenLaws.{stand-same}
 use Rattle.layout.proofs.TableLaws.{put-row-five, put-row-other, length-put-row, put-function-same, put-function-other, length-put-function}
-use Rattle.layout.proofs.LayLaws.{length-lay, lay-before, length-lay-params, lay-params-other, length-lay-def, length-lay-defs, lay-defs-other, length-lay-program, lay-program-other, lay-other}
+use Rattle.layout.proofs.LayLaws.{length-lay, lay-before, length-lay-params, lay-params-other, length-lay-def}
+use Rattle.layout.proofs.LayLaws.{length-lay-defs, lay-defs-other, length-lay-program, lay-program-other, lay-other}
 use Rattle.layout.proofs.Owned.{OwnedParams, owned-none, owned-param, IsBlock, is-block, OwnedDef, OwnedDefs, owned-def, reading-owned}
 use Rattle.layout.proofs.Laid.{Agree, last-row, laid-back}
 use Rattle.layout.proofs.FewRows.{few-rows, few-defs}

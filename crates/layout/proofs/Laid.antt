@@ -9,14 +9,17 @@ use lib.Dec.{eqb}
 use lib.ListN.{length, getD}
 use Rattle.language.specs.Sizes.{NODES}
 use Rattle.language.specs.Tokens.{Token, entry, NAME, NUMBER, TRUE, FALSE, TT, LET, SEMI, LPAR, LBRACE, IF, WHILE}
-use Rattle.language.specs.Trees.{Literal, whole, truth, trivial, Unary, minus, not, fetch, new, Binary, add, sub, mul, div, less, equal, and, or, assign, Exp, name, literal, unary, binary, follow, group, block, call, bind, branch, loop, Exps, last, more}
+use Rattle.language.specs.Trees.{Literal, whole, truth, trivial, Unary, minus, not, fetch, new, Binary, add, sub, mul, div, less, equal, and, or}
+use Rattle.language.specs.Trees.{assign, Exp, name, literal, unary, binary, follow, group, block, call, bind, branch, loop, Exps, last, more}
 use Rattle.layout.specs.Table.{ROWS-AT, put-row}
 use Rattle.layout.specs.Rows.{CALL, ARGUMENT, literal-kind, unary-kind, binary-kind, below, under, head, lay, lay-all}
-use Rattle.layout.specs.Decode.{Shape, a-name, a-number, a-follow, a-group, a-block, a-let, an-if, a-while, a-constant, a-unary, a-binary, shape-of, children, build}
+use Rattle.layout.specs.Decode.{Shape, a-name, a-number, a-follow, a-group, a-block, a-let, an-if}
+use Rattle.layout.specs.Decode.{a-while, a-constant, a-unary, a-binary, shape-of, children, build}
 use Rattle.layout.proofs.Shapes.{unary-high, binary-between}
 use Rattle.layout.proofs.TableLaws.{Five, put-row-five, put-row-before}
 use Rattle.layout.proofs.LayLaws.{length-lay, length-lay-all, lay-before, lay-all-before}
-use Rattle.layout.proofs.Owned.{Owned, OwnedLiteral, owned-whole, owned-name, owned-literal, owned-unary, owned-binary, owned-follow, owned-group, owned-block, owned-call, owned-bind, owned-branch, owned-loop, OwnedAll, owned-last, owned-more}
+use Rattle.layout.proofs.Owned.{Owned, OwnedLiteral, owned-whole, owned-name, owned-literal, owned-unary, owned-binary, owned-follow}
+use Rattle.layout.proofs.Owned.{owned-group, owned-block, owned-call, owned-bind, owned-branch, owned-loop, OwnedAll, owned-last, owned-more}
 use Rattle.layout.proofs.Holding.{Back, BackAll, Tokens, no-tokens, leaf-back, one-back, two-back, three-back, call-back, none-back, argument-back}
 
 -- ---- the kinds of operators

@@ -11,7 +11,8 @@ use Rattle.language.specs.Tokens.{Entry, entry, NAME, NUMBER, LET, WHILE, IF, P
 use Rattle.language.specs.Trees.{Literal, Unary, minus, not, fetch, new, Binary, add, sub, mul, div, less, equal, and, or, assign}
 use Rattle.language.proofs.Grammar.Entries.{every, entry-passes}
 use Rattle.layout.specs.Rows.{PREFIX, CALL, literal-kind, unary-kind, binary-kind}
-use Rattle.layout.specs.Decode.{Shape, a-name, a-number, a-follow, a-group, a-block, a-call, a-let, an-if, a-while, a-constant, a-unary, a-binary, shapes, shape-of, children}
+use Rattle.layout.specs.Decode.{Shape, a-name, a-number, a-follow, a-group, a-block, a-call, a-let, an-if}
+use Rattle.layout.specs.Decode.{a-while, a-constant, a-unary, a-binary, shapes, shape-of, children}
 
 -- what each row of a table gives by one number and by another, what is found does
 pub by-rows : {A : Type 0} (kind : A → ℕ) (of : ℕ → ℕ) (rows : List (Entry ℕ A)) (k : ℕ) {a : A} → T (every (λ c x. eqb (kind x) (of c)) rows)

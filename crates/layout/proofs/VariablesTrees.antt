@@ -13,7 +13,9 @@ use Rattle.layout.specs.Table.{ROWS-AT, FUNCTIONS-AT, VARIABLES-AT, row-
 use Rattle.layout.proofs.TokenLaws.{stand-same}
 use Rattle.layout.proofs.Shapes.{shape-kind, kind-of-shape}
 use Rattle.layout.proofs.VariablesWords.{length-without, without-before}
-use Rattle.layout.specs.Decode.{Shape, a-name, a-number, a-follow, a-group, a-block, a-call, a-let, an-if, a-while, a-constant, a-unary, a-binary, children, build, build-if, tree-at, args-at, Right, RightArgs, ParamsAt, params-none, params-more, FunctionAt, FunctionsAt, functions-none, functions-more, Holds}
+use Rattle.layout.specs.Decode.{Shape, a-name, a-number, a-follow, a-group, a-block, a-call, a-let, an-if, a-while, a-constant}
+use Rattle.layout.specs.Decode.{a-unary, a-binary, children, build, build-if, tree-at, args-at, Right, RightArgs, ParamsAt}
+use Rattle.layout.specs.Decode.{params-none, params-more, FunctionAt, FunctionsAt, functions-none, functions-more, Holds}
 use Rattle.layout.specs.declared.Held.{Held}
 
 -- ---- nodes over equal parts are equal

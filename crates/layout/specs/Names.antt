@@ -6,11 +6,13 @@ use Prim.Native.Nat.{ℕ, suc, _+_, _≤_, _<_}
 use lib.Dec.{eqb}
 use lib.ListN.{length, getD}
 use Rattle.language.specs.Sizes.{TOKENS, LARGEST}
-use Rattle.language.specs.Tokens.{Spelling, same, Token, NAME, NUMBER, past, kind-at, value-at, spelling-at, place-at, At}
+use Rattle.language.specs.Tokens.{Spelling, same, Token, NAME, NUMBER, past}
+use Rattle.language.specs.Tokens.{kind-at, value-at, spelling-at, place-at, At}
 use Rattle.language.specs.Trees.{PUTCHAR}
 use Rattle.layout.specs.Table.{token-place, token-end, token-value, kind-of, put-token}
 
--- the ordinal of the first token that is spelled s, the list's first token being the nth; where there is none, that of its end
+-- the ordinal of the first token that is spelled s, the list's first token being the nth; where there is none, that of
+-- its end
 unfoldable pub first-from : ℕ → List Token → Spelling → ℕ
 first-from n [] s = n
 first-from n (t ∷ ts) s = cond (same (t .spelling) s) n (first-from (suc n) ts s)

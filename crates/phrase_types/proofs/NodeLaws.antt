@@ -13,7 +13,8 @@ use Rattle.language.proofs.Executable.Checks.{ok, after-ok, after-bad}
 use Rattle.language.proofs.Executable.Checker.{infer}
 use Rattle.layout.specs.Table.{token-value, row-word}
 use Rattle.layout.specs.Rows.{CALL}
-use Rattle.layout.specs.Decode.{Shape, a-name, a-follow, a-group, a-block, a-call, a-let, an-if, a-while, a-unary, a-binary, shape-of, children, build, build-if, tree-at, args-at, Node, Right, RightArgs}
+use Rattle.layout.specs.Decode.{Shape, a-name, a-follow, a-group, a-block, a-call, a-let, an-if, a-while, a-unary}
+use Rattle.layout.specs.Decode.{a-binary, shape-of, children, build, build-if, tree-at, args-at, Node, Right, RightArgs}
 use Rattle.layout.specs.Names.{Named}
 use Rattle.layout.proofs.NameLaws.{named-at}
 use Rattle.layout.proofs.Shapes.{shape-kind, kind-of-shape, Parted, is-follow, is-while, is-let, is-binary, is-if, parted}

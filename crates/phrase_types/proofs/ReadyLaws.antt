@@ -9,7 +9,8 @@ use Rattle.language.specs.Tokens.{Token, entry, NAME, LET, At, spelling-at}
 use Rattle.language.specs.Trees.{Exp, Exps, push}
 use Rattle.layout.specs.Table.{token-value, row-word, put-variable, without-variables}
 use Rattle.layout.specs.Rows.{CALL, below, under}
-use Rattle.layout.specs.Decode.{Shape, a-name, a-number, a-follow, a-group, a-block, a-call, a-let, an-if, a-while, a-constant, a-unary, a-binary, shape-of, children, build, tree-at, args-at, Node, Right, RightArgs}
+use Rattle.layout.specs.Decode.{Shape, a-name, a-number, a-follow, a-group, a-block, a-call, a-let, an-if, a-while, a-constant}
+use Rattle.layout.specs.Decode.{a-unary, a-binary, shape-of, children, build, tree-at, args-at, Node, Right, RightArgs}
 use Rattle.layout.specs.Names.{Named}
 use Rattle.layout.proofs.NameLaws.{named-at, name-inside}
 use Rattle.layout.proofs.VariablesWords.{row-without, token-without, length-put-variable, without-put-variable}

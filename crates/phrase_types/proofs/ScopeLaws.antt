@@ -20,7 +20,8 @@ use Rattle.layout.specs.Functions.{Headed, find-function}
 use Rattle.layout.specs.Decode.{FunctionAt}
 use Rattle.layout.proofs.NameLaws.{named-same, putchar-number}
 use Rattle.layout.proofs.FunctionLaws.{function-named, function-headed}
-use Rattle.rules.specs.Sight.{Variables, variables-none, variables-more, find-variable, Functions, functions-given, functions-more, InSight, callee-by, callee-in, Means, Rowed}
+use Rattle.rules.specs.Sight.{Variables, variables-none, variables-more, find-variable, Functions}
+use Rattle.rules.specs.Sight.{functions-given, functions-more, InSight, callee-by, callee-in, Means, Rowed}
 use Rattle.rules.specs.Asked.{Tells, tells-type, tells-fault}
 use Rattle.phrase_types.specs.Inferred.{looked}
 use Rattle.rules.specs.declared.sight.Callee.{Callee}

@@ -1,5 +1,5 @@
--- What the functions that call each other ask and promise: the answer of a node, and of a list of arguments, is what the
--- executable checker of the language answers, whatever the words stand for.
+-- What the functions that call each other ask and promise: the answer of a node, and of a list of arguments, is what
+-- the executable checker of the language answers, whatever the words stand for.
 use mathlib.Core.Bool.{Bool, _&&_}
 use mathlib.Core.List.{List}
 use mathlib.Core.Option.{Option, none, some}
@@ -34,8 +34,8 @@ pub record Kept (w w′ : List ℕ) (binds : ℕ) : Type 0 where
   pub names : (i : ℕ) → i < binds → variable-name w′ i ≡ variable-name w i
   pub types : (i : ℕ) → i < binds → variable-type w′ i ≡ variable-type w i
 
--- The words w, which without variables are p, stand for something whole at row i, over the tokens ts, with the functions Δ
--- and the variables Γ in sight.
+-- The words w, which without variables are p, stand for something whole at row i, over the tokens ts, with the
+-- functions Δ and the variables Γ in sight.
 pub record Stands (Whole : ℕ → List Token → List ℕ → ℕ
     → Type 0) (p w : List ℕ) (i seen binds : ℕ) (ts : List Token) (f : ℕ) (Δ : Scope Sig) (Γ : Scope Ty) : Type 0 where
   pub depth : ℕ
@@ -77,12 +77,13 @@ name-answer w node binds = looked (find-variable w (token-value w (row-word w no
 
 -- ---- arguments
 
--- Of arguments of the callee c, k of which come before: how many there are with those, and whether they suit, as those did
--- or did not (b).
+-- Of arguments of the callee c, k of which come before: how many there are with those, and whether they suit, as those
+-- did or did not (b).
 pub data TellsAll (w : List ℕ) (c : Callee) (k : ℕ) (b : Bool) : Passed → Res (List Ty) → Type 0 where
   tells-types : {n : ℕ} {s : Bool} {ts : List Ty} → n ≡ k + length ts → s ≡ (b && suits w c k ts)
       → TellsAll w c k b (Passed.Typed n s) (ok ts)
-  tells-wrong : {r : Reason} {q : Faults.Reason} {i : ℕ} → reason-meant r ≡ q → TellsAll w c k b (Passed.Wrong r i) (bad q i)
+  tells-wrong : {r : Reason} {q : Faults.Reason} {i : ℕ} → reason-meant r ≡ q
+      → TellsAll w c k b (Passed.Wrong r i) (bad q i)
 
 -- arguments can be checked, k of the callee's before them
 pub record ReadyAll (w : List ℕ) (row seen binds : ℕ) (c : Callee) (k : ℕ) : Type 0 where

@@ -89,7 +89,8 @@ fn over_one(table: &mut [u32], node: usize, seen: usize, binds: usize) -> Typing
 
 // A node with two children, both of which see what the node sees.
 fn over_two(table: &mut [u32], node: usize, seen: usize, binds: usize) -> Typing
-    requires { ⌜ Ready (now table) node seen binds × Children (row-word (now table) node KIND) 2 × (row-word (now table) node KIND ≡ LET → ⊥) ⌝ }
+    requires { ⌜ Ready (now table) node seen binds × Children (row-word (now table) node KIND) 2
+        × (row-word (now table) node KIND ≡ LET → ⊥) ⌝ }
     ensures { λ r. ⌜ Inferred (now (table .entry)) (now (table .exit)) node seen binds r ⌝ }
 {
     let kind = rows::word(table, node, rows::KIND);

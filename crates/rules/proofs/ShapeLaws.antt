@@ -12,7 +12,8 @@ use Rattle.language.proofs.Executable.Checks.{ok, after-ok}
 use Rattle.language.proofs.Executable.Checker.{literal-type, infer}
 use Rattle.layout.specs.Rows.{PREFIX, CALL, literal-kind, unary-kind, binary-kind}
 use Rattle.layout.specs.Decode.{Shape, shape-of, build}
-use Rattle.layout.proofs.Shapes.{shape-kind, kind-of-shape, unary-high, binary-between, children-by-rows, children-most, Parted, is-name, is-number, is-constant, is-call, is-unary, is-group, is-block, is-binary, is-follow, is-let, is-while, parted}
+use Rattle.layout.proofs.Shapes.{shape-kind, kind-of-shape, unary-high, binary-between, children-by-rows, children-most, Parted, is-name}
+use Rattle.layout.proofs.Shapes.{is-number, is-constant, is-call, is-unary, is-group, is-block, is-binary, is-follow, is-let, is-while, parted}
 use Rattle.rules.specs.Asked.{Tells, Children, Constant, AsksOne, AsksTwo, Prefixed, Between, Follows, Repeats, Operand, Result}
 use Rattle.rules.specs.declared.Typing.{Typing}
 use Rattle.rules.specs.declared.Typing.the-variants as Typing

@@ -14,7 +14,8 @@ execute-requires c κs =
 
 answer-requires : tie.Need-answer-requires
 answer-requires c κs =
-    let seen = c .before .before .before .before .before .before .before .before in
+    let execute = c .before .before .before .before .before in
+    let seen = execute .before .before .before in
     let start = seen .before .before .before .before .before .before in
     runnable-long _ _ _ _ _ _ (start .pre) (seen .seen .given .1)
 

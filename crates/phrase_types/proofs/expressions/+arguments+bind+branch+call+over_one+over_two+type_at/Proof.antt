@@ -24,7 +24,8 @@ use Rattle.phrase_types.proofs.expressions.type_at.Reads as type-at
 use Rattle.phrase_types.proofs.expressions.+arguments+bind+branch+call+over_one+over_two+type_at.Lts-type_at as type-at-lts
 use Rattle.phrase_types.proofs.expressions.+arguments+bind+branch+call+over_one+over_two+type_at.{statement}
 use Rattle.phrase_types.proofs.expressions.+arguments+bind+branch+call+over_one+over_two+type_at.Tie.{close}
-use Setup.{μ-arguments, arguments-at, arguments-claims, μ-bind, bind-at, bind-claims, μ-branch, branch-at, branch-claims, μ-call, call-at, call-claims, μ-over-one, over-one-at, over-one-claims, μ-over-two, over-two-at, over-two-claims, μ-type-at, type-at-at, type-at-claims}
+use Setup.{μ-arguments, arguments-at, arguments-claims, μ-bind, bind-at, bind-claims, μ-branch, branch-at, branch-claims, μ-call, call-at}
+use Setup.{call-claims, μ-over-one, over-one-at, over-one-claims, μ-over-two, over-two-at, over-two-claims, μ-type-at, type-at-at, type-at-claims}
 
 pub +arguments+bind+branch+call+over-one+over-two+type-at-spec : {M : Type 1} → statement M
 +arguments+bind+branch+call+over-one+over-two+type-at-spec =
