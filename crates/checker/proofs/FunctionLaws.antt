@@ -11,7 +11,7 @@ use Rattle.language.specs.Trees.{Def, Scope, nearest, size}
 use Rattle.language.specs.Types.{Sig, with-def}
 use Rattle.language.specs.Faults as Faults
 use Rattle.language.proofs.Executable.Checks.{bad, need-yes, need-no}
-use Rattle.layout.specs.Table.{row-word, without-variables}
+use Rattle.layout.specs.Table.{OWN, row-word, without-variables}
 use Rattle.layout.proofs.VariablesWords.{row-without, function-without}
 use Rattle.numbers.specs.Meanings.{reason-meant}
 use Rattle.layout.specs.Functions.{Headed, function-name}
@@ -64,16 +64,16 @@ module _ {ts : List Token} {f : ℕ} {p : List ℕ} {k : ℕ} {Δ : Scope Sig} {
 pub heads-inside : {w : List ℕ} {k row : ℕ} → Headlines w k row → row < NODES
 heads-inside {k = k} h = omega (arith, h .at, h .heads k (omega arith) .row)
 
-module _ {w : List ℕ} {k row : ℕ} (h : Headlines w k row) {at : ℕ} (ea : at ≡ row-word w row 1) where
+module _ {w : List ℕ} {k row : ℕ} (h : Headlines w k row) {at : ℕ} (ea : at ≡ row-word w row OWN) where
   -- the token of its `def`
   def-at : {ts : List Token} {f : ℕ} {Δ : Scope Sig} {d : Def} → Next ts f (without-variables w) k Δ d → at ≡ d .at
   def-at n =
       let e = function-without w k (next-few n) in
-      ea ∙ ap (λ (i : ℕ). row-word w i 1) (h .at ∙ sym e) ∙ sym (row-without w _ 1 (n .here .inside) (omega arith)) ∙ n .here .at
+      ea ∙ ap (λ (i : ℕ). row-word w i OWN) (h .at ∙ sym e) ∙ sym (row-without w _ 1 (n .here .inside) (omega arith)) ∙ n .here .at
 
   -- and its name one of the tokens
   pub def-inside : at + 1 < TOKENS
-  def-inside = let e = ea ∙ ap (λ (i : ℕ). row-word w i 1) (h .at) in omega (arith, h .heads k (omega arith) .name)
+  def-inside = let e = ea ∙ ap (λ (i : ℕ). row-word w i OWN) (h .at) in omega (arith, h .heads k (omega arith) .name)
 
   -- too many functions before it
   pub many-fresh : FUNCTIONS ≤ k → Fresh w k (Verdict.Wrong TooManyFunctions at)

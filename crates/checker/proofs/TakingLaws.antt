@@ -8,7 +8,7 @@ use Rattle.language.specs.Tokens.{Token}
 use Rattle.language.specs.Trees.{Ty, Param, Def, Scope, empty, push}
 use Rattle.language.proofs.Executable.Checks.{ok}
 use Rattle.language.proofs.Executable.Checker.{take-params}
-use Rattle.layout.specs.Table.{row-word, without-variables}
+use Rattle.layout.specs.Table.{ARITY, row-word, without-variables}
 use Rattle.layout.specs.Names.{Stand}
 use Rattle.layout.specs.Decode.{ParamsAt, params-more, FunctionAt}
 use Rattle.layout.proofs.VariablesWords.{row-without}
@@ -55,7 +55,7 @@ taking-starts {w} {row} {count} {k} e = subst (λ (k : ℕ). Taking w w row coun
 tail-params : {ts : List Token} {p : List ℕ} {r : ℕ} {q : Param} {qs : List Param} → ParamsAt ts p r (q ∷ qs) → ParamsAt ts p (r + 1) qs
 tail-params (params-more a b c d h) = h
 
-module _ {w₀ w : List ℕ} {row count k : ℕ} (h : Headings w₀ row) (ec : count ≡ row-word w₀ row 2) (t : Taking w₀ w row count k) where
+module _ {w₀ w : List ℕ} {row count k : ℕ} (h : Headings w₀ row) (ec : count ≡ row-word w₀ row ARITY) (t : Taking w₀ w row count k) where
   -- as many as the function has parameters
   counted : {ts : List Token} {f : ℕ} {d : Def} → FunctionAt f ts (without-variables w₀) row d → count ≡ length (d .params)
   counted a = let l = h .last in ec ∙ sym (row-without w₀ row 2 (omega arith) (omega arith)) ∙ a .count

@@ -1,23 +1,16 @@
--- The tables of kinds by their rows: the kind of a row that has a shape, operators' kinds, and shapes by how many children
+-- The table of shapes by its entries: the kind of a row that has a shape, operators' kinds, and shapes by how many children
 -- they have.
-use mathlib.Core.Bool.{true, false}
-use mathlib.Core.List.{List}
 use mathlib.Core.Option.{some}
 use mathlib.Core.Path.{_≡_, refl, sym, subst}
 use Prim.Native.Nat.{ℕ, _≤_}
 use native.Mathlib.Omega.{arith}
-use lib.Dec.{T, eqb, leb, eqb→eq, leb→le}
-use Rattle.language.specs.Tokens.{Entry, entry, NAME, NUMBER, LET, WHILE, IF, PLUS, BECOMES, SEMI, LPAR, LBRACE}
+use lib.Dec.{T, eqb, leb, leb→le}
+use Rattle.language.specs.Tokens.{entry, NAME, NUMBER, LET, WHILE, IF, PLUS, BECOMES, SEMI, LPAR, LBRACE}
 use Rattle.language.specs.Trees.{Literal, Unary, minus, not, fetch, new, Binary, add, sub, mul, div, less, equal, and, or, assign}
-use Rattle.language.proofs.Grammar.Entries.{every, entry-passes}
+use Rattle.language.proofs.Grammar.Entries.{every, entry-passes, by-entries}
 use Rattle.layout.specs.Rows.{PREFIX, CALL, literal-kind, unary-kind, binary-kind}
 use Rattle.layout.specs.Decode.{Shape, a-name, a-number, a-follow, a-group, a-block, a-call, a-let, an-if}
 use Rattle.layout.specs.Decode.{a-while, a-constant, a-unary, a-binary, shapes, shape-of, children}
-
--- what each row of a table gives by one number and by another, what is found does
-pub by-rows : {A : Type 0} (kind : A → ℕ) (of : ℕ → ℕ) (rows : List (Entry ℕ A)) (k : ℕ) {a : A} → T (every (λ c x. eqb (kind x) (of c)) rows)
-    → entry rows k ≡ some a → kind a ≡ of k
-by-rows kind of rows k {a} t e = eqb→eq (kind a) (of k) (entry-passes (λ c x. eqb (kind x) (of c)) rows k t e)
 
 -- ---- kinds
 
@@ -39,7 +32,7 @@ shape-kind (a-binary o) = binary-kind o
 -- a row that has a shape is of the shape's kind
 pub kind-of-shape : (k : ℕ) (s : Shape) → shape-of k ≡ some s → k ≡ shape-kind s
 unfolding shape-of shape-kind literal-kind unary-kind binary-kind every
-kind-of-shape k s e = sym (by-rows shape-kind (λ c. c) shapes k tt e)
+kind-of-shape k s e = sym (by-entries shape-kind (λ c. c) shapes k tt e)
 
 -- operators before an operand lie above all others
 pub unary-high : (o : Unary) → PREFIX ≤ unary-kind o
@@ -64,11 +57,11 @@ binary-between assign = (omega arith, omega arith)
 
 -- ---- children
 
--- tests on a kind that give each row's number of children give that of a kind's shape
-pub children-by-rows : (of : ℕ → ℕ) → T (every (λ c s. eqb (children s) (of c)) shapes) → (k : ℕ) {s : Shape} → shape-of k ≡ some s
+-- tests on a kind that give each entry's number of children give that of a kind's shape
+pub children-by-entries : (of : ℕ → ℕ) → T (every (λ c s. eqb (children s) (of c)) shapes) → (k : ℕ) {s : Shape} → shape-of k ≡ some s
     → children s ≡ of k
 unfolding shape-of
-children-by-rows of t k e = by-rows children of shapes k t e
+children-by-entries of t k e = by-entries children of shapes k t e
 
 -- no shape has more than three
 pub children-most : (k : ℕ) {s : Shape} → shape-of k ≡ some s → children s ≤ 3

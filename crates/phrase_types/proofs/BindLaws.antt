@@ -16,7 +16,7 @@ use Rattle.language.specs.Faults as Faults
 use Rattle.language.specs.Meaning.{type-number}
 use Rattle.language.proofs.Executable.Checks.{Res, ok, bad, after-ok, after-bad}
 use Rattle.language.proofs.Executable.Checker.{infer, infers}
-use Rattle.layout.specs.Table.{token-value, row-word, put-variable, without-variables}
+use Rattle.layout.specs.Table.{KIND, OWN, FIRST, SECOND, EXPRESSION, NEXT, token-value, row-word, put-variable, without-variables}
 use Rattle.layout.specs.Rows.{CALL}
 use Rattle.layout.specs.Decode.{a-call, a-let, shape-of, children, build, tree-at, args-at, RightArgs}
 use Rattle.layout.specs.Names.{Named}
@@ -47,19 +47,19 @@ let-children k e s h = let d : some a-let ≡ some s = ap shape-of (sym e) ∙ h
 module _ {p w w′ : List ℕ} {node seen binds : ℕ} (same : p ≡ without-variables w′) (kept : Kept w w′ binds) (long : TABLE ≤ length w′)
     (room : binds < TOKENS) where
   -- its body's answer is its own, where the body sees what is bound
-  pub let-goes : {x n : ℕ} {r : Typing} → row-word p node 0 ≡ LET → x ≡ token-value p (row-word p node 1 + 1)
-      → Told p w (row-word p node 2) seen binds (Typing.«Type» n)
-      → Told (without-variables (put-variable w′ binds x n)) (put-variable w′ binds x n) (row-word p node 3) seen (binds + 1) r
+  pub let-goes : {x n : ℕ} {r : Typing} → row-word p node KIND ≡ LET → x ≡ token-value p (row-word p node OWN + 1)
+      → Told p w (row-word p node FIRST) seen binds (Typing.«Type» n)
+      → Told (without-variables (put-variable w′ binds x n)) (put-variable w′ binds x n) (row-word p node SECOND) seen (binds + 1) r
       → Told p w node seen binds r
   unfolding infer build shape-of entry
   let-goes {x} {n} {r} k ex h g =
       told-shape a-let (ap shape-of k) λ ts f Δ Γ st nd.
-      let y = spelling-at ts (row-word p node 1 + 1) in
+      let y = spelling-at ts (row-word p node OWN + 1) in
       let a = let-children _ k (nd .shape) (nd .known) in
       let q = type-told (h ts f Δ Γ (stands-child st (nd .first (omega arith) .1))) in
-      let nm = subst (λ (z : ℕ). Named ts z y) (sym ex) (named-at (st .sight .stand) (row-word p node 1 + 1) (nd .bound k)) in
+      let nm = subst (λ (z : ℕ). Named ts z y) (sym ex) (named-at (st .sight .stand) (row-word p node OWN + 1) (nd .bound k)) in
       let e : without-variables (put-variable w′ binds x n) ≡ p = without-put-variable w′ binds x n room ∙ sym same in
-      let g′ = subst (λ (v : List ℕ). Told v (put-variable w′ binds x n) (row-word p node 3) seen (binds + 1) r) e g in
+      let g′ = subst (λ (v : List ℕ). Told v (put-variable w′ binds x n) (row-word p node SECOND) seen (binds + 1) r) e g in
       tells-from (after-ok _ (q .1) refl)
       (g′ ts f Δ (push y (q .0) Γ) (record {
         depth = st .depth;
@@ -103,7 +103,7 @@ no-argument (suc f) ts p i e = rw (eq-eqb i 0 e) refl
 
 -- a row that is not 0 is an argument and those behind it
 pub an-argument : (f : ℕ) (ts : List Token) (p : List ℕ) (i : ℕ) → (i ≡ 0 → ⊥)
-    → args-at (suc f) ts p i ≡ more (tree-at f ts p (row-word p i 2)) (args-at f ts p (row-word p i 3))
+    → args-at (suc f) ts p i ≡ more (tree-at f ts p (row-word p i EXPRESSION)) (args-at f ts p (row-word p i NEXT))
 unfolding args-at
 an-argument f ts p i h = rw (ne-eqb i 0 h) refl
 
@@ -128,7 +128,7 @@ module _ {p w : List ℕ} {row seen binds : ℕ} {c : Callee} {k : ℕ} {b : Boo
 
   module _ (some-row : row ≡ 0 → ⊥) where
     -- a fault of the first
-    pub args-stop : {r : Reason} {i : ℕ} → Told p w (row-word p row 2) seen binds (Typing.Fault r i)
+    pub args-stop : {r : Reason} {i : ℕ} → Told p w (row-word p row EXPRESSION) seen binds (Typing.Fault r i)
         → ToldAll p w row seen binds c k b (Passed.Wrong r i)
     unfolding infers RightArgs
     args-stop h ts zero Δ Γ st = absurd (some-row (st .whole))
@@ -138,8 +138,8 @@ module _ {p w : List ℕ} {row seen binds : ℕ} {c : Callee} {k : ℕ} {b : Boo
         ∙ after-bad _ (fault-told (h ts f Δ Γ record { depth = st .depth; sight = st .sight; whole = a .exp .1; scope = st .scope })))
 
     -- the later ones' answer, with the first
-    pub args-go : {n v : ℕ} {q : Passed} → v ≡ wanted-in p c k → Told p w (row-word p row 2) seen binds (Typing.«Type» n)
-        → ToldAll p w (row-word p row 3) seen binds c (k + 1) (b && eqb n v) q → ToldAll p w row seen binds c k b q
+    pub args-go : {n v : ℕ} {q : Passed} → v ≡ wanted-in p c k → Told p w (row-word p row EXPRESSION) seen binds (Typing.«Type» n)
+        → ToldAll p w (row-word p row NEXT) seen binds c (k + 1) (b && eqb n v) q → ToldAll p w row seen binds c k b q
     unfolding infers RightArgs
     args-go o h g ts zero Δ Γ st = absurd (some-row (st .whole))
     args-go o h g ts (suc f) Δ Γ st =
@@ -151,9 +151,9 @@ module _ {p w : List ℕ} {row seen binds : ℕ} {c : Callee} {k : ℕ} {b : Boo
 
 -- ---- a call
 
-module _ {p w : List ℕ} {node seen binds : ℕ} (kind : row-word p node 0 ≡ CALL) {c : Callee} where
+module _ {p w : List ℕ} {node seen binds : ℕ} (kind : row-word p node KIND ≡ CALL) {c : Callee} where
   -- a fault of its arguments is the call's
-  pub call-stops : {r : Reason} {i : ℕ} → ToldAll p w (row-word p node 2) seen binds c 0 true (Passed.Wrong r i)
+  pub call-stops : {r : Reason} {i : ℕ} → ToldAll p w (row-word p node FIRST) seen binds c 0 true (Passed.Wrong r i)
       → Told p w node seen binds (Typing.Fault r i)
   unfolding infer build shape-of entry
   call-stops h =
@@ -162,15 +162,15 @@ module _ {p w : List ℕ} {node seen binds : ℕ} (kind : row-word p node 0 ≡ 
       { depth = st .depth; sight = st .sight; whole = nd .args kind .1; scope = st .scope })))
 
   -- and when all have types the call asks
-  pub call-goes : {x n i : ℕ} {s : Bool} {r : Typing} → x ≡ token-value p (row-word p node 1) → c ≡ callee-in p x seen
-      → i ≡ row-word p node 1
-      → ToldAll p w (row-word p node 2) seen binds c 0 true (Passed.Typed n s) → AsksCall p c n s i r → Told p w node seen binds r
+  pub call-goes : {x n i : ℕ} {s : Bool} {r : Typing} → x ≡ token-value p (row-word p node OWN) → c ≡ callee-in p x seen
+      → i ≡ row-word p node OWN
+      → ToldAll p w (row-word p node FIRST) seen binds c 0 true (Passed.Typed n s) → AsksCall p c n s i r → Told p w node seen binds r
   unfolding build shape-of entry
   call-goes {x} {n} {s = s} {r = r} ex ec ei h asks =
       told-shape a-call (ap shape-of kind) λ ts f Δ Γ st nd.
-      let y = spelling-at ts (row-word p node 1) in
-      let nm = subst (λ (z : ℕ). Named ts z y) (sym ex) (named-at (st .sight .stand) (row-word p node 1) (nd .called kind)) in
+      let y = spelling-at ts (row-word p node OWN) in
+      let nm = subst (λ (z : ℕ). Named ts z y) (sym ex) (named-at (st .sight .stand) (row-word p node OWN) (nd .called kind)) in
       let u = types-told (h ts f Δ Γ record { depth = st .depth; sight = st .sight; whole = nd .args kind .1; scope = st .scope }) in
       let m = subst (λ (c : Callee). Means (st .depth) ts p c (nearest y Δ)) (sym ec) (callee-means (st .sight) nm) in
-      subst (λ (i : ℕ). AsksCall p c n s i r) ei asks ts (st .depth) Δ Γ y (args-at f ts p (row-word p node 2)) (u .0) m (u .1) (u .2
+      subst (λ (i : ℕ). AsksCall p c n s i r) ei asks ts (st .depth) Δ Γ y (args-at f ts p (row-word p node FIRST)) (u .0) m (u .1) (u .2
       ∙ omega arith) (u .3)

@@ -11,7 +11,7 @@ use Rattle.language.specs.Types.{Sig}
 use Rattle.language.specs.Meaning.{type-number}
 use Rattle.language.proofs.Executable.Checks.{ok, after-ok, after-bad}
 use Rattle.language.proofs.Executable.Checker.{infer}
-use Rattle.layout.specs.Table.{token-value, row-word}
+use Rattle.layout.specs.Table.{KIND, OWN, FIRST, SECOND, THIRD, token-value, row-word}
 use Rattle.layout.specs.Rows.{CALL}
 use Rattle.layout.specs.Decode.{Shape, a-name, a-follow, a-group, a-block, a-call, a-let, an-if, a-while, a-unary}
 use Rattle.layout.specs.Decode.{a-binary, shape-of, children, build, build-if, tree-at, args-at, Node, Right, RightArgs}
@@ -30,11 +30,11 @@ use Rattle.phrase_types.proofs.ScopeLaws.{look-tells, sight-few}
 -- ---- a row as a node
 
 -- what a whole row is: its parts, by its shape
-module _ (f : ℕ) (ts : List Token) (p : List ℕ) (i : ℕ) (s : Shape) (known : shape-of (row-word p i 0) ≡ some s) where
+module _ (f : ℕ) (ts : List Token) (p : List ℕ) (i : ℕ) (s : Shape) (known : shape-of (row-word p i KIND) ≡ some s) where
   -- a row's tree is its shape's node over the trees of its parts
   pub tree-is : tree-at (suc f) ts p i
-      ≡ build ts s (row-word p i 1) (tree-at f ts p (row-word p i 2)) (tree-at f ts p (row-word p i 3)) (tree-at f ts p
-      (row-word p i 4)) (args-at f ts p (row-word p i 2))
+      ≡ build ts s (row-word p i OWN) (tree-at f ts p (row-word p i FIRST)) (tree-at f ts p (row-word p i SECOND)) (tree-at f ts p
+      (row-word p i THIRD)) (args-at f ts p (row-word p i FIRST))
   unfolding tree-at build-if
   tree-is = rw known refl
 
@@ -90,8 +90,8 @@ stands-child st h = record { depth = st .depth; sight = st .sight; whole = h; sc
 -- a node over its parts, as the words have them
 abbrev pub over : ℕ → List Token → List ℕ → ℕ → Shape → Exp
 over f ts p i s =
-    build ts s (row-word p i 1) (tree-at f ts p (row-word p i 2)) (tree-at f ts p (row-word p i 3)) (tree-at f ts p (row-word p i 4))
-    (args-at f ts p (row-word p i 2))
+    build ts s (row-word p i OWN) (tree-at f ts p (row-word p i FIRST)) (tree-at f ts p (row-word p i SECOND)) (tree-at f ts p (row-word p i THIRD))
+    (args-at f ts p (row-word p i FIRST))
 
 module _ {p w : List ℕ} {node seen binds : ℕ} where
   -- it is enough to tell of a row with its parts
@@ -104,18 +104,18 @@ module _ {p w : List ℕ} {node seen binds : ℕ} where
   told-node h ts (suc f) Δ Γ st = rw (st .whole .known) (h ts f Δ Γ st (st .whole))
 
   -- of a known shape
-  pub told-shape : {r : Typing} (s : Shape) → shape-of (row-word p node 0) ≡ some s
+  pub told-shape : {r : Typing} (s : Shape) → shape-of (row-word p node KIND) ≡ some s
       → ((ts : List Token) (f : ℕ) (Δ : Scope Sig) (Γ : Scope Ty) → Stands Right p w node seen binds ts (suc f) Δ Γ
       → Node (λ j. Right f ts p j) (λ j. RightArgs f ts p j) ts p node → Tells r (infer Δ (over f ts p node s) Γ))
       → Told p w node seen binds r
   told-shape {r} s e h =
       told-node λ ts f Δ Γ st n.
-      subst (λ (q : Shape). Tells r (infer Δ (over f ts p node q) Γ)) (shape-one (row-word p node 0) s (n .shape) e (n .known))
+      subst (λ (q : Shape). Tells r (infer Δ (over f ts p node q) Γ)) (shape-one (row-word p node KIND) s (n .shape) e (n .known))
       (h ts f Δ Γ st n)
 
-  module _ {m : ℕ} (has : Children (row-word p node 0) m) where
+  module _ {m : ℕ} (has : Children (row-word p node KIND) m) where
     -- a fault of the first child
-    pub first-stops : {r : Reason} {j : ℕ} → 1 ≤ m → Told p w (row-word p node 2) seen binds (Typing.Fault r j)
+    pub first-stops : {r : Reason} {j : ℕ} → 1 ≤ m → Told p w (row-word p node FIRST) seen binds (Typing.Fault r j)
         → Told p w node seen binds (Typing.Fault r j)
     first-stops l h =
         told-node λ ts f Δ Γ st n.
@@ -125,8 +125,8 @@ module _ {p w : List ℕ} {node seen binds : ℕ} where
   -- ---- one child
 
   -- a node with one child asks
-  pub one-goes : {k i n : ℕ} {r : Typing} → Children (row-word p node 0) 1 → k ≡ row-word p node 0 → i ≡ row-word p node 1
-      → Told p w (row-word p node 2) seen binds (Typing.«Type» n) → AsksOne k n i r → Told p w node seen binds r
+  pub one-goes : {k i n : ℕ} {r : Typing} → Children (row-word p node KIND) 1 → k ≡ row-word p node KIND → i ≡ row-word p node OWN
+      → Told p w (row-word p node FIRST) seen binds (Typing.«Type» n) → AsksOne k n i r → Told p w node seen binds r
   one-goes {n = n} {r = r} has ek ei h asks =
       told-node λ ts f Δ Γ st nd.
       let a = has (nd .shape) (nd .known) in
@@ -135,10 +135,10 @@ module _ {p w : List ℕ} {node seen binds : ℕ} where
 
   -- ---- two children
 
-  module _ (has : Children (row-word p node 0) 2) (other : row-word p node 0 ≡ LET
-      → ⊥) {m : ℕ} (h : Told p w (row-word p node 2) seen binds (Typing.«Type» m)) where
+  module _ (has : Children (row-word p node KIND) 2) (other : row-word p node KIND ≡ LET
+      → ⊥) {m : ℕ} (h : Told p w (row-word p node FIRST) seen binds (Typing.«Type» m)) where
     -- a fault of the second
-    pub second-stops : {r : Reason} {j : ℕ} → Told p w (row-word p node 3) seen binds (Typing.Fault r j)
+    pub second-stops : {r : Reason} {j : ℕ} → Told p w (row-word p node SECOND) seen binds (Typing.Fault r j)
         → Told p w node seen binds (Typing.Fault r j)
     second-stops g =
         told-node λ ts f Δ Γ st nd.
@@ -148,8 +148,8 @@ module _ {p w : List ℕ} {node seen binds : ℕ} where
         (g ts f Δ Γ (stands-child st (nd .second (omega arith) .1)))
 
     -- both have types: the node asks
-    pub two-goes : {k i n : ℕ} {r : Typing} → k ≡ row-word p node 0 → i ≡ row-word p node 1
-        → Told p w (row-word p node 3) seen binds (Typing.«Type» n) → AsksTwo k m n i r → Told p w node seen binds r
+    pub two-goes : {k i n : ℕ} {r : Typing} → k ≡ row-word p node KIND → i ≡ row-word p node OWN
+        → Told p w (row-word p node SECOND) seen binds (Typing.«Type» n) → AsksTwo k m n i r → Told p w node seen binds r
     two-goes {n = n} {r = r} ek ei g asks =
         told-node λ ts f Δ Γ st nd.
         let a = has (nd .shape) (nd .known) in
@@ -160,11 +160,11 @@ module _ {p w : List ℕ} {node seen binds : ℕ} where
 
   -- ---- three children
 
-  module _ (has : Children (row-word p node 0) 3) {m : ℕ} (h : Told p w (row-word p node 2) seen binds (Typing.«Type» m)) where
+  module _ (has : Children (row-word p node KIND) 3) {m : ℕ} (h : Told p w (row-word p node FIRST) seen binds (Typing.«Type» m)) where
     if-shape : {r : Typing}
         → ((ts : List Token) (f : ℕ) (Δ : Scope Sig) (Γ : Scope Ty) → Stands Right p w node seen binds ts (suc f) Δ Γ
-        → (b : Ty) → infer Δ (tree-at f ts p (row-word p node 2)) Γ ≡ ok b → m ≡ type-number b
-        → Right f ts p (row-word p node 3) → Right f ts p (row-word p node 4) → Tells r (infer Δ (over f ts p node an-if) Γ))
+        → (b : Ty) → infer Δ (tree-at f ts p (row-word p node FIRST)) Γ ≡ ok b → m ≡ type-number b
+        → Right f ts p (row-word p node SECOND) → Right f ts p (row-word p node THIRD) → Tells r (infer Δ (over f ts p node an-if) Γ))
         → Told p w node seen binds r
     if-shape {r} g =
         told-node λ ts f Δ Γ st nd.
@@ -174,14 +174,14 @@ module _ {p w : List ℕ} {node seen binds : ℕ} where
         (g ts f Δ Γ st (q .0) (q .1) (q .2) (nd .second (omega arith) .1) (nd .third (omega arith) .1))
 
     -- a fault of the first branch
-    pub then-stops : {r : Reason} {j : ℕ} → Told p w (row-word p node 3) seen binds (Typing.Fault r j)
+    pub then-stops : {r : Reason} {j : ℕ} → Told p w (row-word p node SECOND) seen binds (Typing.Fault r j)
         → Told p w node seen binds (Typing.Fault r j)
     unfolding infer build
     then-stops g = if-shape λ ts f Δ Γ st b e k x y. fault-is (after-ok _ e (after-bad _ (fault-told (g ts f Δ Γ (stands-child st x)))))
 
-    module _ {n : ℕ} (g : Told p w (row-word p node 3) seen binds (Typing.«Type» n)) where
+    module _ {n : ℕ} (g : Told p w (row-word p node SECOND) seen binds (Typing.«Type» n)) where
       -- of the second
-      pub else-stops : {r : Reason} {j : ℕ} → Told p w (row-word p node 4) seen binds (Typing.Fault r j)
+      pub else-stops : {r : Reason} {j : ℕ} → Told p w (row-word p node THIRD) seen binds (Typing.Fault r j)
           → Told p w node seen binds (Typing.Fault r j)
       unfolding infer build
       else-stops d =
@@ -190,7 +190,7 @@ module _ {p w : List ℕ} {node seen binds : ℕ} where
           fault-is (after-ok _ e (after-ok _ (q .1) (after-bad _ (fault-told (d ts f Δ Γ (stands-child st y))))))
 
       -- all three have types: the `if` asks
-      pub if-goes : {l i : ℕ} {r : Typing} → i ≡ row-word p node 1 → Told p w (row-word p node 4) seen binds (Typing.«Type» l)
+      pub if-goes : {l i : ℕ} {r : Typing} → i ≡ row-word p node OWN → Told p w (row-word p node THIRD) seen binds (Typing.«Type» l)
           → AsksIf m n l i r
           → Told p w node seen binds r
       unfolding build
@@ -198,27 +198,27 @@ module _ {p w : List ℕ} {node seen binds : ℕ} where
           if-shape λ ts f Δ Γ st b e k x y.
           let q = type-told (g ts f Δ Γ (stands-child st x)) in
           let u = type-told (d ts f Δ Γ (stands-child st y)) in
-          subst (λ (i : ℕ). AsksIf m n l i r) ei asks Δ Γ (tree-at f ts p (row-word p node 2)) (tree-at f ts p (row-word p node 3))
-          (tree-at f ts p (row-word p node 4)) b (q .0) (u .0) e k (q .1) (q .2) (u .1) (u .2)
+          subst (λ (i : ℕ). AsksIf m n l i r) ei asks Δ Γ (tree-at f ts p (row-word p node FIRST)) (tree-at f ts p (row-word p node SECOND))
+          (tree-at f ts p (row-word p node THIRD)) b (q .0) (u .0) e k (q .1) (q .2) (u .1) (u .2)
 
   -- ---- a name, a constant
 
   -- a name is looked up
-  pub name-goes : {x i : ℕ} → row-word p node 0 ≡ NAME → i ≡ row-word p node 1 → x ≡ token-value p (row-word p node 1)
+  pub name-goes : {x i : ℕ} → row-word p node KIND ≡ NAME → i ≡ row-word p node OWN → x ≡ token-value p (row-word p node OWN)
       → Told p w node seen binds (looked (find-variable w x binds) i)
   unfolding infer build shape-of entry
   name-goes k ei ex =
       told-shape a-name (ap shape-of k) λ ts f Δ Γ st nd.
-      let h = named-at (st .sight .stand) (row-word p node 1) (nd .named k) in
-      rw ei (look-tells (sight-few (st .sight)) (subst (λ (z : ℕ). Named ts z (spelling-at ts (row-word p node 1))) (sym ex) h)
-      (row-word p node 1) (st .scope))
+      let h = named-at (st .sight .stand) (row-word p node OWN) (nd .named k) in
+      rw ei (look-tells (sight-few (st .sight)) (subst (λ (z : ℕ). Named ts z (spelling-at ts (row-word p node OWN))) (sym ex) h)
+      (row-word p node OWN) (st .scope))
 
   -- a constant has its type
-  pub constant-goes : {k n : ℕ} → k ≡ row-word p node 0 → Children (row-word p node 0) 0 → (row-word p node 0 ≡ NAME → ⊥)
-      → (row-word p node 0 ≡ CALL → ⊥)
+  pub constant-goes : {k n : ℕ} → k ≡ row-word p node KIND → Children (row-word p node KIND) 0 → (row-word p node KIND ≡ NAME → ⊥)
+      → (row-word p node KIND ≡ CALL → ⊥)
       → Constant k n → Told p w node seen binds (Typing.«Type» n)
   constant-goes {n = n} ek has nn nc c =
       told-node λ ts f Δ Γ st nd.
-      let q = subst (λ (k : ℕ). Constant k n) ek c ts (nd .shape) Δ Γ (row-word p node 1) _ _ _ _ (nd .known) (sym (has (nd .shape)
+      let q = subst (λ (k : ℕ). Constant k n) ek c ts (nd .shape) Δ Γ (row-word p node OWN) _ _ _ _ (nd .known) (sym (has (nd .shape)
       (nd .known))) nn nc in
       type-is (q .0) (q .1) (q .2)

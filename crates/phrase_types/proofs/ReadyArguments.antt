@@ -6,7 +6,7 @@ use native.Mathlib.Omega.{arith}
 use lib.ListN.{length}
 use Rattle.language.specs.Sizes.{NODES, TABLE}
 use Rattle.language.specs.Tokens.{Token}
-use Rattle.layout.specs.Table.{row-word, without-variables}
+use Rattle.layout.specs.Table.{EXPRESSION, NEXT, row-word, without-variables}
 use Rattle.layout.specs.Rows.{below, under}
 use Rattle.layout.specs.Decode.{tree-at, args-at, Argument, Right, RightArgs}
 use Rattle.layout.proofs.VariablesWords.{row-without}
@@ -21,8 +21,8 @@ use Rattle.phrase_types.proofs.BindLaws.{an-argument}
 record Argued (ts : List Token) (p : List ℕ) (row binds : ℕ) : Type 0 where
   f : ℕ
   here : Argument (λ j. Right f ts p j) (λ j. RightArgs f ts p j) p row
-  first : binds + below (tree-at f ts p (row-word p row 2)) < NODES
-  later : binds + under (args-at f ts p (row-word p row 3)) < NODES
+  first : binds + below (tree-at f ts p (row-word p row EXPRESSION)) < NODES
+  later : binds + under (args-at f ts p (row-word p row NEXT)) < NODES
 
 argued : (ts : List Token) (p : List ℕ) (row binds f : ℕ) → (row ≡ 0 → ⊥) → RightArgs f ts p row
     → binds + under (args-at f ts p row) < NODES → Argued ts p row binds
@@ -52,7 +52,7 @@ module _ {w : List ℕ} {row seen binds : ℕ} {c : Callee} {k : ℕ} (r : Ready
   args-row i l = row-without w row i args-inside l
 
   -- its expression can be checked
-  pub args-first : {j : ℕ} → j ≡ row-word w row 2 → (j < row) × Ready w j seen binds
+  pub args-first : {j : ℕ} → j ≡ row-word w row EXPRESSION → (j < row) × Ready w j seen binds
   args-first e =
       subst (λ (j : ℕ). (j < row) × Ready w j seen binds) (args-row 2 (omega arith) ∙ sym e) (
         ready-argued .here .exp .0,
@@ -68,7 +68,7 @@ module _ {w : List ℕ} {row seen binds : ℕ} {c : Callee} {k : ℕ} (r : Ready
       )
 
   -- and then the arguments behind it
-  pub args-next : {j : ℕ} {w′ : List ℕ} → Kept w w′ binds → j ≡ row-word w row 3 → (j < row) × ReadyAll w′ j seen binds c (k + 1)
+  pub args-next : {j : ℕ} {w′ : List ℕ} → Kept w w′ binds → j ≡ row-word w row NEXT → (j < row) × ReadyAll w′ j seen binds c (k + 1)
   args-next {w′ = w′} h e =
       let a = ready-argued .here .next in
       subst (λ (j : ℕ). (j < row) × ReadyAll w′ j seen binds c (k + 1)) (args-row 3 (omega arith) ∙ sym e) (
@@ -80,7 +80,7 @@ module _ {w : List ℕ} {row seen binds : ℕ} {c : Callee} {k : ℕ} (r : Ready
           variables = r .variables;
           long = omega (arith, r .long, h .long);
           stands = stands-kept h record { depth = r .stands .depth; sight = r .stands .sight; whole = a .1; scope = r .stands .scope };
-          room = subst (λ (v : List ℕ). binds + under (args-at (ready-argued .f) (r .tokens) v (row-word pa row 3)) < NODES) (sym
+          room = subst (λ (v : List ℕ). binds + under (args-at (ready-argued .f) (r .tokens) v (row-word pa row NEXT)) < NODES) (sym
               (h .rest)) (ready-argued .later);
           callee = subst (λ (v : List ℕ). Rowed v c) (sym (h .rest)) (r .callee);
           few = omega (arith, r .few, a .0);

@@ -7,7 +7,7 @@ use lib.ListN.{length}
 use Rattle.language.specs.Sizes.{TOKENS, NODES, TABLE}
 use Rattle.language.specs.Tokens.{Token, entry, NAME, LET, At, spelling-at}
 use Rattle.language.specs.Trees.{Exp, Exps, push}
-use Rattle.layout.specs.Table.{token-value, row-word, put-variable, without-variables}
+use Rattle.layout.specs.Table.{KIND, OWN, FIRST, SECOND, THIRD, token-value, row-word, put-variable, without-variables}
 use Rattle.layout.specs.Rows.{CALL, below, under}
 use Rattle.layout.specs.Decode.{Shape, a-name, a-number, a-follow, a-group, a-block, a-call, a-let, an-if, a-while, a-constant}
 use Rattle.layout.specs.Decode.{a-unary, a-binary, shape-of, children, build, tree-at, args-at, Node, Right, RightArgs}
@@ -50,13 +50,13 @@ below-parts ts (a-binary o) i a b c es = ((λ h. omega arith), (λ h. omega arit
 record Parts (ts : List Token) (p : List ℕ) (node binds : ℕ) : Type 0 where
   f : ℕ
   row : Node (λ j. Right f ts p j) (λ j. RightArgs f ts p j) ts p node
-  first : 1 ≤ children (row .shape) → binds + 1 + below (tree-at f ts p (row-word p node 2)) < NODES
-  second : 2 ≤ children (row .shape) → binds + 1 + below (tree-at f ts p (row-word p node 3)) < NODES
-  third : 3 ≤ children (row .shape) → binds + 1 + below (tree-at f ts p (row-word p node 4)) < NODES
-  args : row-word p node 0 ≡ CALL → binds + under (args-at f ts p (row-word p node 2)) < NODES
+  first : 1 ≤ children (row .shape) → binds + 1 + below (tree-at f ts p (row-word p node FIRST)) < NODES
+  second : 2 ≤ children (row .shape) → binds + 1 + below (tree-at f ts p (row-word p node SECOND)) < NODES
+  third : 3 ≤ children (row .shape) → binds + 1 + below (tree-at f ts p (row-word p node THIRD)) < NODES
+  args : row-word p node KIND ≡ CALL → binds + under (args-at f ts p (row-word p node FIRST)) < NODES
 
-call-rows : (f : ℕ) (ts : List Token) (p : List ℕ) (node : ℕ) → row-word p node 0 ≡ CALL
-    → below (tree-at (suc f) ts p node) ≡ under (args-at f ts p (row-word p node 2))
+call-rows : (f : ℕ) (ts : List Token) (p : List ℕ) (node : ℕ) → row-word p node KIND ≡ CALL
+    → below (tree-at (suc f) ts p node) ≡ under (args-at f ts p (row-word p node FIRST))
 unfolding below build shape-of entry
 call-rows f ts p node e = ap below (tree-is f ts p node a-call (ap shape-of e))
 
@@ -65,11 +65,11 @@ parts : (ts : List Token) (p : List ℕ) (node binds f : ℕ) → Right f ts p n
 unfolding Right
 parts ts p node binds zero h l = absurd h
 parts ts p node binds (suc f) h l =
-    let a = tree-at f ts p (row-word p node 2) in
-    let b = tree-at f ts p (row-word p node 3) in
-    let c = tree-at f ts p (row-word p node 4) in
-    let es = args-at f ts p (row-word p node 2) in
-    let i = row-word p node 1 in
+    let a = tree-at f ts p (row-word p node FIRST) in
+    let b = tree-at f ts p (row-word p node SECOND) in
+    let c = tree-at f ts p (row-word p node THIRD) in
+    let es = args-at f ts p (row-word p node FIRST) in
+    let i = row-word p node OWN in
     let e : below (tree-at (suc f) ts p node) ≡ below (build ts (h .shape) i a b c es) = ap below (tree-is f ts p node (h .shape)
     (h .known)) in
     let q = below-parts ts (h .shape) i a b c es in
@@ -105,26 +105,26 @@ module _ {w : List ℕ} {node seen binds : ℕ} (r : Ready w node seen binds) wh
   token-few i h = let a = name-inside (r .tokens) i h in omega (arith, r .stands .sight .stand .long, r .stands .sight .stand .few)
 
   -- the tokens of a name, of a call and of what a `let` binds
-  pub ready-name : row-word w node 0 ≡ NAME → row-word w node 1 < TOKENS
+  pub ready-name : row-word w node KIND ≡ NAME → row-word w node OWN < TOKENS
   ready-name e = let a = token-few _ (ready-parts .row .named (ready-row 0 (omega arith)
       ∙ e)) in let b = ready-row 1 (omega arith) in omega arith
 
   -- of a call
-  pub ready-called : row-word w node 0 ≡ CALL → row-word w node 1 < TOKENS
+  pub ready-called : row-word w node KIND ≡ CALL → row-word w node OWN < TOKENS
   ready-called e = let a = token-few _ (ready-parts .row .called (ready-row 0 (omega arith)
       ∙ e)) in let b = ready-row 1 (omega arith) in omega arith
 
   -- of what a `let` binds
-  pub ready-bound : row-word w node 0 ≡ LET → row-word w node 1 + 1 < TOKENS
+  pub ready-bound : row-word w node KIND ≡ LET → row-word w node OWN + 1 < TOKENS
   ready-bound e = let a = token-few _ (ready-parts .row .bound (ready-row 0 (omega arith)
       ∙ e)) in let b = ready-row 1 (omega arith) in omega arith
 
   -- a name's number, by its token
-  pub called-number : {token x : ℕ} → token ≡ row-word w node 1 → x ≡ token-value w token → x ≡ token-value w (row-word w node 1)
+  pub called-number : {token x : ℕ} → token ≡ row-word w node OWN → x ≡ token-value w token → x ≡ token-value w (row-word w node OWN)
   called-number e d = d ∙ ap (λ (i : ℕ). token-value w i) e
 
   -- and by the token behind it
-  pub bound-number : {token x : ℕ} → token ≡ row-word w node 1 → x ≡ token-value w (token + 1) → x ≡ token-value w (row-word w node 1 + 1)
+  pub bound-number : {token x : ℕ} → token ≡ row-word w node OWN → x ≡ token-value w (token + 1) → x ≡ token-value w (row-word w node OWN + 1)
   bound-number e d = d ∙ ap (λ (i : ℕ). token-value w (i + 1)) e
 
   -- the functions in sight
@@ -144,7 +144,7 @@ module _ {w : List ℕ} {node seen binds : ℕ} (r : Ready w node seen binds) wh
       room = subst (λ (v : List ℕ). binds + below (tree-at f (r .tokens) v j) < NODES) (sym (k .rest)) l;
     }
 
-    module _ {m : ℕ} (has : Children (row-word w node 0) m) where
+    module _ {m : ℕ} (has : Children (row-word w node KIND) m) where
       count : m ≡ children (ready-parts .row .shape)
       count = subst (λ (z : ℕ). Children z m) (sym (ready-row 0 (omega arith))) has _ (ready-parts .row .known)
 
@@ -159,37 +159,37 @@ module _ {w : List ℕ} {node seen binds : ℕ} (r : Ready w node seen binds) wh
           )
 
       -- the first, the second and the third child
-      pub ready-first : {j : ℕ} → 1 ≤ m → j ≡ row-word w node 2 → (j < node) × Ready w′ j seen binds
+      pub ready-first : {j : ℕ} → 1 ≤ m → j ≡ row-word w node FIRST → (j < node) × Ready w′ j seen binds
       ready-first l e =
           let d : 1 ≤ children (ready-parts .row .shape) = let q = count in omega arith in
           child 2 (ready-row 2 (omega arith) ∙ sym e) (ready-parts .row .first d) (ready-parts .first d)
 
       -- the second child
-      pub ready-second : {j : ℕ} → 2 ≤ m → j ≡ row-word w node 3 → (j < node) × Ready w′ j seen binds
+      pub ready-second : {j : ℕ} → 2 ≤ m → j ≡ row-word w node SECOND → (j < node) × Ready w′ j seen binds
       ready-second l e =
           let d : 2 ≤ children (ready-parts .row .shape) = let q = count in omega arith in
           child 3 (ready-row 3 (omega arith) ∙ sym e) (ready-parts .row .second d) (ready-parts .second d)
 
       -- the third child
-      pub ready-third : {j : ℕ} → 3 ≤ m → j ≡ row-word w node 4 → (j < node) × Ready w′ j seen binds
+      pub ready-third : {j : ℕ} → 3 ≤ m → j ≡ row-word w node THIRD → (j < node) × Ready w′ j seen binds
       ready-third l e =
           let d : 3 ≤ children (ready-parts .row .shape) = let q = count in omega arith in
           child 4 (ready-row 4 (omega arith) ∙ sym e) (ready-parts .row .third d) (ready-parts .third d)
 
     -- what a `let` binds, by its name's number
-    bound-named : {x : ℕ} → row-word w node 0 ≡ LET → x ≡ token-value w (row-word w node 1 + 1)
-        → Named (r .tokens) x (spelling-at (r .tokens) (row-word p node 1 + 1))
+    bound-named : {x : ℕ} → row-word w node KIND ≡ LET → x ≡ token-value w (row-word w node OWN + 1)
+        → Named (r .tokens) x (spelling-at (r .tokens) (row-word p node OWN + 1))
     bound-named {x} kind ex =
         let l = ready-bound kind in
-        let e : token-value p (row-word p node 1 + 1) ≡ x =
-        ap (λ (i : ℕ). token-value p (i + 1)) (ready-row 1 (omega arith)) ∙ token-without w (row-word w node 1 + 1) 3 l (omega arith)
+        let e : token-value p (row-word p node OWN + 1) ≡ x =
+        ap (λ (i : ℕ). token-value p (i + 1)) (ready-row 1 (omega arith)) ∙ token-without w (row-word w node OWN + 1) 3 l (omega arith)
         ∙ sym ex in
-        subst (λ (z : ℕ). Named (r .tokens) z (spelling-at (r .tokens) (row-word p node 1 + 1))) e
-        (named-at (r .stands .sight .stand) (row-word p node 1 + 1) (ready-parts .row .bound (ready-row 0 (omega arith) ∙ kind)))
+        subst (λ (z : ℕ). Named (r .tokens) z (spelling-at (r .tokens) (row-word p node OWN + 1))) e
+        (named-at (r .stands .sight .stand) (row-word p node OWN + 1) (ready-parts .row .bound (ready-row 0 (omega arith) ∙ kind)))
 
     -- its body can be checked, with one variable more
-    pub ready-body : {x n j : ℕ} {v : List ℕ} → row-word w node 0 ≡ LET → x ≡ token-value w (row-word w node 1 + 1)
-        → Told p w (row-word p node 2) seen binds (Typing.«Type» n) → v ≡ put-variable w′ binds x n → j ≡ row-word w node 3
+    pub ready-body : {x n j : ℕ} {v : List ℕ} → row-word w node KIND ≡ LET → x ≡ token-value w (row-word w node OWN + 1)
+        → Told p w (row-word p node FIRST) seen binds (Typing.«Type» n) → v ≡ put-variable w′ binds x n → j ≡ row-word w node SECOND
         → (j < node) × Ready v j seen (binds + 1)
     ready-body {x} {n} kind ex h ev ej =
         let c = ready-parts in
@@ -206,31 +206,31 @@ module _ {w : List ℕ} {node seen binds : ℕ} (r : Ready w node seen binds) wh
             tokens = r .tokens;
             depth = c .f;
             functions = r .functions;
-            variables = push (spelling-at (r .tokens) (row-word p node 1 + 1)) (q .0) (r .variables);
+            variables = push (spelling-at (r .tokens) (row-word p node OWN + 1)) (q .0) (r .variables);
             long = omega arith;
             stands = record {
               depth = r .stands .depth;
               sight = subst (λ (v : List ℕ). InSight (r .tokens) (r .stands .depth) v seen (r .functions)) (sym e) (r .stands .sight);
-              whole = subst (λ (v : List ℕ). Right (c .f) (r .tokens) v (row-word p node 3)) (sym e) (c .row .second d .1);
+              whole = subst (λ (v : List ℕ). Right (c .f) (r .tokens) v (row-word p node SECOND)) (sym e) (c .row .second d .1);
               scope = variables-put long ready-binds (bound-named kind ex) (q .2) (variables-kept k (r .stands .scope));
             };
-            room = subst (λ (v : List ℕ). binds + 1 + below (tree-at (c .f) (r .tokens) v (row-word p node 3)) < NODES) (sym e)
+            room = subst (λ (v : List ℕ). binds + 1 + below (tree-at (c .f) (r .tokens) v (row-word p node SECOND)) < NODES) (sym e)
                 (c .second d);
           },
         )
 
   -- the arguments of a call can be checked
-  pub ready-args : {x row : ℕ} {c : Callee} → row-word w node 0 ≡ CALL → x ≡ token-value w (row-word w node 1)
-      → c ≡ callee-in w x seen → row ≡ row-word w node 2
+  pub ready-args : {x row : ℕ} {c : Callee} → row-word w node KIND ≡ CALL → x ≡ token-value w (row-word w node OWN)
+      → c ≡ callee-in w x seen → row ≡ row-word w node FIRST
       → (row ≤ node) × ReadyAll w row seen binds c 0
   ready-args {x} {c = c} kind ex ec er =
       let q = ready-parts in
       let k = ready-row 0 (omega arith) ∙ kind in
       let l = ready-called kind in
-      let e : token-value p (row-word p node 1) ≡ x =
-      ap (λ (i : ℕ). token-value p i) (ready-row 1 (omega arith)) ∙ token-without w (row-word w node 1) 3 l (omega arith) ∙ sym ex in
-      let nm = subst (λ (z : ℕ). Named (r .tokens) z (spelling-at (r .tokens) (row-word p node 1))) e
-      (named-at (r .stands .sight .stand) (row-word p node 1) (q .row .called k)) in
+      let e : token-value p (row-word p node OWN) ≡ x =
+      ap (λ (i : ℕ). token-value p i) (ready-row 1 (omega arith)) ∙ token-without w (row-word w node OWN) 3 l (omega arith) ∙ sym ex in
+      let nm = subst (λ (z : ℕ). Named (r .tokens) z (spelling-at (r .tokens) (row-word p node OWN))) e
+      (named-at (r .stands .sight .stand) (row-word p node OWN) (q .row .called k)) in
       let h = q .row .args k in
       subst (λ (row : ℕ). (row ≤ node) × ReadyAll w row seen binds c 0) (ready-row 2 (omega arith) ∙ sym er) (
         h .0,

@@ -12,7 +12,7 @@ use Rattle.language.proofs.Executable.Checks.{ok, after-ok}
 use Rattle.language.proofs.Executable.Checker.{literal-type, infer}
 use Rattle.layout.specs.Rows.{PREFIX, CALL, literal-kind, unary-kind, binary-kind}
 use Rattle.layout.specs.Decode.{Shape, shape-of, build}
-use Rattle.layout.proofs.Shapes.{shape-kind, kind-of-shape, unary-high, binary-between, children-by-rows, children-most, Parted, is-name}
+use Rattle.layout.proofs.Shapes.{shape-kind, kind-of-shape, unary-high, binary-between, children-by-entries, children-most, Parted, is-name}
 use Rattle.layout.proofs.Shapes.{is-number, is-constant, is-call, is-unary, is-group, is-block, is-binary, is-follow, is-let, is-while, parted}
 use Rattle.rules.specs.Asked.{Tells, Children, Constant, AsksOne, AsksTwo, Prefixed, Between, Follows, Repeats, Operand, Result}
 use Rattle.rules.specs.declared.Typing.{Typing}
@@ -36,7 +36,7 @@ children-by k =
 -- the tests on a kind tell how many children its node has
 pub children-are : (k : ℕ) {n : ℕ} → children-by k ≡ n → Children k n
 unfolding every
-children-are k e s h = sym e ∙ sym (children-by-rows children-by tt k h)
+children-are k e s h = sym e ∙ sym (children-by-entries children-by tt k h)
 
 -- the same, of a row
 pub children-as : {k j m n : ℕ} → k ≡ j → m ≡ n → Children k m → Children j n
