@@ -42,8 +42,8 @@ pub data CheckedC (source table report table′ report′ : List ℕ) (n : ℕ) 
       → CheckedC source table report table′ report′ n
 
 -- The contract of `grumpy_run`.
-pub data RanC (source table work out : List ℕ) (allowance : ℕ) (report : List ℕ)
-    (table′ work′ out′ report′ : List ℕ) (n : ℕ) : Type 0 where
+pub data RanC (source table work out : List ℕ) (allowance : ℕ)
+    (report table′ work′ out′ report′ : List ℕ) (n : ℕ) : Type 0 where
   run-no-report : length report < 6 → n ≡ refusal-number short-memory → table′ ≡ table → work′ ≡ work → out′ ≡ out
       → report′ ≡ report
       → RanC source table work out allowance report table′ work′ out′ report′ n
