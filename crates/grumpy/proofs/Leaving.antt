@@ -1,7 +1,7 @@
 -- What is left in lent memory once a source was looked at: the required words are zero, whatever is told.
 use mathlib.Core.List.{List}
 use mathlib.Core.Path.{_≡_, refl}
-use Prim.Native.Nat.{ℕ, _≤_, _<_}
+use Prim.Native.Nat.{ℕ, _≤_}
 use mathlib.Core.Logic.{inl, inr}
 use native.Mathlib.Omega.{arith}
 use Rattle.language.specs.Sizes.{TABLE}

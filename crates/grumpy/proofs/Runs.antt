@@ -1,6 +1,5 @@
 -- A program that is run: what the runner says of it, as the end that is told of it.
 use mathlib.Core.List.{List, reverse}
-use mathlib.Core.Option.{some}
 use mathlib.Core.Path.{_≡_, refl, sym, ap, subst, _∙_}
 use Prim.Native.Nat.{ℕ, _-_, _≤_}
 use native.Mathlib.Omega.{arith}
@@ -19,7 +18,7 @@ use Rattle.numbers.specs.declared.Stop.{Stop}
 use Rattle.runner.specs.Contract as Runner
 use Rattle.runner.specs.declared.Done.{Done}
 use Rattle.runner.specs.declared.Spent as spent
-use Rattle.grumpy.specs.Outcomes.{ending-meant, Told, Executed}
+use Rattle.grumpy.specs.Outcomes.{Told, Executed}
 use Rattle.grumpy.specs.declared.outcomes.Ending.{Ending}
 
 -- ---- no more units are left than were allowed
