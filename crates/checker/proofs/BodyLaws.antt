@@ -15,15 +15,15 @@ use Rattle.language.proofs.Types.TypeNumbers.{number-refs}
 use Rattle.language.proofs.Executable.Checks.{Res, ok, bad, after, need, after-ok, after-bad, need-yes, need-no}
 use Rattle.language.proofs.Executable.Checker.{unbound, infer, take-params, check-def}
 use Rattle.layout.specs.Types.{OVER}
-use Rattle.layout.specs.Table.{row-word, function-row, without-variables}
+use Rattle.layout.specs.Table.{OWN, ARITY, RESULT, BODY, row-word, function-row, without-variables}
 use Rattle.layout.specs.Rows.{below}
 use Rattle.layout.specs.Decode.{tree-at, Right, ParamsAt, params-none, params-more, FunctionAt}
 use Rattle.layout.proofs.NameLaws.{name-inside}
 use Rattle.layout.proofs.VariablesWords.{row-without, function-without}
 use Rattle.numbers.specs.Meanings.{reason-meant}
-use Rattle.rules.specs.Sight.{Variables, Sheet}
+use Rattle.rules.specs.Sight.{Variables, InSight}
 use Rattle.rules.specs.Asked.{Tells}
-use Rattle.judge.specs.Judged.{Kept, Ready, Judged}
+use Rattle.phrase_types.specs.Inferred.{Kept, Ready, Inferred}
 use Rattle.checker.specs.Ruled.{Rules, check-head, check-body, Headings, Taken, Next, Headlines, Fresh, Bodied, Fitting, Listed, Ruled}
 use Rattle.numbers.specs.declared.Reason.{Reason}
 use Rattle.numbers.specs.declared.Reason.the-variants.{TooManyRefs, WrongBody}
@@ -33,18 +33,18 @@ use Rattle.checker.specs.declared.programs.Verdict.{Verdict}
 use Rattle.checker.specs.declared.programs.Verdict.the-variants as Verdict
 use Rattle.rules.proofs.TellLaws.{type-told, fault-told, tells-as}
 use Rattle.rules.proofs.OperatorLaws.{is-type, isnt-type}
-use Rattle.judge.proofs.KeptLaws.{kept-self, kept-then, kept-fewer, kept-row}
+use Rattle.phrase_types.proofs.KeptLaws.{kept-self, kept-then, kept-fewer, kept-row}
 use Rattle.rules.proofs.PlainLaws.{headed-plain}
-use Rattle.checker.proofs.FunctionLaws.{sheet-with, next-few, next-headed}
+use Rattle.checker.proofs.FunctionLaws.{sight-with, next-few, next-headed}
 
 -- ---- its body
 
 -- its root can be checked
-pub body-ready : {w : List ℕ} {k row root count : ℕ} → Bodied w k row → root ≡ row-word w row 4 → count ≡ row-word w row 2
+pub body-ready : {w : List ℕ} {k row root count : ℕ} → Bodied w k row → root ≡ row-word w row BODY → count ≡ row-word w row ARITY
     → Ready w root (k + 1) count
 body-ready {w} {k} b e d = subst₂ (λ (i n : ℕ). Ready w i (k + 1) n) (sym e) (sym d) (b .ready)
 
-module _ {w : List ℕ} {k row : ℕ} (b : Bodied w k row) {at result : ℕ} (ea : at ≡ row-word w row 1) (er : result ≡ row-word w row 3) where
+module _ {w : List ℕ} {k row : ℕ} (b : Bodied w k row) {at result : ℕ} (ea : at ≡ row-word w row OWN) (er : result ≡ row-word w row RESULT) where
   module _ {ts : List Token} {f : ℕ} {Δ : Scope Sig} {d : Def} (n : Next ts f (without-variables w) k Δ d) (e : row ≡ function-row
       (without-variables w) k) where
     here : FunctionAt f ts (without-variables w) row d
@@ -70,8 +70,8 @@ module _ {w : List ℕ} {k row : ℕ} (b : Bodied w k row) {at result : ℕ} (ea
         need-no _ _ _ _ (λ x. omega (arith, m .1)) ∙ ap (bad (reason-meant TooManyRefs)) (sym (at-is n e));
   }
 
-  module _ (few : result < OVER) {root count : ℕ} (eo : root ≡ row-word w row 4) (ec : count ≡ row-word w row 2) {w′ : List ℕ} {q : Typing}
-      (j : Judged w w′ root (k + 1) count q) where
+  module _ (few : result < OVER) {root count : ℕ} (eo : root ≡ row-word w row BODY) (ec : count ≡ row-word w row ARITY) {w′ : List ℕ} {q : Typing}
+      (j : Inferred w w′ root (k + 1) count q) where
     -- what is told of the body
     body-told : {ts : List Token} {f : ℕ} {Δ : Scope Sig} {Γ : Scope Ty} {d : Def} → Next ts f (without-variables w) k Δ d
         → row ≡ function-row (without-variables w) k → Variables ts w (length (d .params)) Γ → Tells q (infer (with-def Δ d) (d .body) Γ)
@@ -83,7 +83,7 @@ module _ {w : List ℕ} {k row : ℕ} (b : Bodied w k row) {at result : ℕ} (ea
         subst (λ (x : Exp). Tells q (infer (with-def Δ d) x Γ)) (ap (λ (i : ℕ). tree-at f ts p i) r ∙ a .body)
         (j .right ts f (with-def Δ d) Γ record {
           depth = f;
-          sheet = sheet-with n;
+          sight = sight-with n;
           whole = subst (λ (i : ℕ). Right f ts p i) (sym r) (a .right);
           scope = subst (λ (i : ℕ). Variables ts w i Γ) (sym c) vs;
         })
@@ -143,14 +143,14 @@ module _ {A B C : Type 0} (r q : Faults.Reason) (n m : ℕ) (f : Unit {0} → Re
 
 -- the names of parameters are tokens
 params-named : {ts : List Token} {w : List ℕ} {r : ℕ} {ps : List Param} → ParamsAt ts w r ps → length ts ≤ TOKENS → (j : ℕ)
-    → j < length ps → row-word w (r + j) 1 < TOKENS
+    → j < length ps → row-word w (r + j) OWN < TOKENS
 params-named params-none few j l = absurd (omega arith)
 params-named {ts} {w} {r} (params-more {p = p} a n c t h) few zero l =
-    let e : row-word w (r + 0) 1 ≡ p .at = ap (λ (i : ℕ). row-word w i 1) (omega arith) ∙ a in
+    let e : row-word w (r + 0) OWN ≡ p .at = ap (λ (i : ℕ). row-word w i OWN) (omega arith) ∙ a in
     omega (arith, name-inside ts (p .at) n)
 params-named {ts} {w} {r} (params-more a n c t h) few (suc j) l =
     let i = params-named h few j (omega arith) in
-    subst (λ (x : ℕ). row-word w x 1 < TOKENS) (omega arith) i
+    subst (λ (x : ℕ). row-word w x OWN < TOKENS) (omega arith) i
 
 module _ {w : List ℕ} {k row : ℕ} (l : Listed w k) (er : row ≡ function-row w k) where
   row-is : row ≡ function-row (without-variables w) k
@@ -175,7 +175,7 @@ module _ {w : List ℕ} {k row : ℕ} (l : Listed w k) (er : row ≡ function-ro
         names = λ j h.
             let i = params-named (a .params) few j (omega (arith, a .count)) in
             let d = row-without w (row + j + 1) 1 (omega (arith, a .last-param, a .count)) (omega arith) in
-            let x = ap (λ (z : ℕ). row-word (without-variables w) z 1) (params-row row j) in
+            let x = ap (λ (z : ℕ). row-word (without-variables w) z OWN) (params-row row j) in
             omega arith;
       }
     where
@@ -227,9 +227,9 @@ module _ {w : List ℕ} {k row : ℕ} (l : Listed w k) (er : row ≡ function-ro
           let a = at-row in
           let p = without-variables w in
           let c = taken (l .next) in
-          let r₂ : row-word w₁ row 2 ≡ length (l .def .params) = kept-row (t .kept) row 2 (a .inside) (omega arith)
+          let r₂ : row-word w₁ row ARITY ≡ length (l .def .params) = kept-row (t .kept) row 2 (a .inside) (omega arith)
           ∙ sym (row-without w row 2 (a .inside) (omega arith)) ∙ a .count in
-          let r₄ : row-word w₁ row 4 ≡ row-word p row 4 = kept-row (t .kept) row 4 (a .inside) (omega arith)
+          let r₄ : row-word w₁ row BODY ≡ row-word p row BODY = kept-row (t .kept) row 4 (a .inside) (omega arith)
           ∙ sym (row-without w row 4 (a .inside) (omega arith)) in
           let long : TABLE ≤ length w₁ = omega (arith, l .long, t .kept .long) in
           record {
@@ -244,12 +244,12 @@ module _ {w : List ℕ} {k row : ℕ} (l : Listed w k) (er : row ≡ function-ro
               long = long;
               stands = record {
                 depth = l .f;
-                sheet = subst (λ (v : List ℕ). Sheet (l .tokens) (l .f) v (k + 1) (with-def (l .functions) (l .def))) (sym
-                    (t .kept .rest)) (sheet-with (l .next));
-                whole = subst (λ (v : List ℕ). Right (l .f) (l .tokens) v (row-word p row 4)) (sym (t .kept .rest)) (a .right);
+                sight = subst (λ (v : List ℕ). InSight (l .tokens) (l .f) v (k + 1) (with-def (l .functions) (l .def))) (sym
+                    (t .kept .rest)) (sight-with (l .next));
+                whole = subst (λ (v : List ℕ). Right (l .f) (l .tokens) v (row-word p row BODY)) (sym (t .kept .rest)) (a .right);
                 scope = c .2;
               };
-              room = subst (λ (v : List ℕ). length (l .def .params) + below (tree-at (l .f) (l .tokens) v (row-word p row 4)) < NODES)
+              room = subst (λ (v : List ℕ). length (l .def .params) + below (tree-at (l .f) (l .tokens) v (row-word p row BODY)) < NODES)
                   (sym (t .kept .rest))
                   (subst (λ (x : Exp). length (l .def .params) + below x < NODES) (sym (a .body)) (a .room));
             };

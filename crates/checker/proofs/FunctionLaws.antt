@@ -11,19 +11,19 @@ use Rattle.language.specs.Trees.{Def, Scope, nearest, size}
 use Rattle.language.specs.Types.{Sig, with-def}
 use Rattle.language.specs.Faults as Faults
 use Rattle.language.proofs.Executable.Checks.{bad, need-yes, need-no}
-use Rattle.layout.specs.Table.{row-word, without-variables}
+use Rattle.layout.specs.Table.{OWN, row-word, without-variables}
 use Rattle.layout.proofs.VariablesWords.{row-without, function-without}
 use Rattle.numbers.specs.Meanings.{reason-meant}
 use Rattle.layout.specs.Functions.{Headed, function-name}
 use Rattle.layout.proofs.FunctionLaws.{function-named}
-use Rattle.rules.specs.Sight.{Functions, functions-given, functions-more, Sheet, callee-in, Means}
+use Rattle.rules.specs.Sight.{Functions, functions-given, functions-more, InSight, callee-in, Means}
 use Rattle.checker.specs.Ruled.{check-head, Next, Headlines, Fresh}
 use Rattle.numbers.specs.declared.Reason.the-variants.{TooManyFunctions, FunctionTwice}
 use Rattle.rules.specs.declared.sight.Callee.{Callee}
 use Rattle.rules.specs.declared.sight.Callee.the-variants as Callee
 use Rattle.checker.specs.declared.programs.Verdict.{Verdict}
 use Rattle.checker.specs.declared.programs.Verdict.the-variants as Verdict
-use Rattle.judge.proofs.SheetLaws.{sheet-headed, callee-means}
+use Rattle.phrase_types.proofs.ScopeLaws.{sight-headed, callee-means}
 use Rattle.rules.proofs.PlainLaws.{name-plain, callee-plain}
 use Rattle.checker.proofs.ParameterLaws.{unbound-none, unbound-some}
 
@@ -37,12 +37,12 @@ functions-size (functions-more e a r) = ap suc (functions-size r ∙ sym e)
 
 module _ {ts : List Token} {f : ℕ} {p : List ℕ} {k : ℕ} {Δ : Scope Sig} {d : Def} (n : Next ts f p k Δ d) where
   -- those before it
-  pub sheet-before : Sheet ts f p k Δ
-  sheet-before = record { count = n .count; stand = n .stand; few = omega (arith, n .few); functions = n .before }
+  pub sight-before : InSight ts f p k Δ
+  sight-before = record { count = n .count; stand = n .stand; few = omega (arith, n .few); functions = n .before }
 
   -- and those that its body sees
-  pub sheet-with : Sheet ts f p (k + 1) (with-def Δ d)
-  sheet-with = record {
+  pub sight-with : InSight ts f p (k + 1) (with-def Δ d)
+  sight-with = record {
     count = n .count;
     stand = n .stand;
     few = omega (arith, n .few);
@@ -56,7 +56,7 @@ module _ {ts : List Token} {f : ℕ} {p : List ℕ} {k : ℕ} {Δ : Scope Sig} {
 
   -- its head, and those before it
   pub next-headed : (j : ℕ) → j ≤ k → Headed p j
-  next-headed j l = sheet-headed sheet-with j (omega arith)
+  next-headed j l = sight-headed sight-with j (omega arith)
 
 -- ---- its head
 
@@ -64,16 +64,16 @@ module _ {ts : List Token} {f : ℕ} {p : List ℕ} {k : ℕ} {Δ : Scope Sig} {
 pub heads-inside : {w : List ℕ} {k row : ℕ} → Headlines w k row → row < NODES
 heads-inside {k = k} h = omega (arith, h .at, h .heads k (omega arith) .row)
 
-module _ {w : List ℕ} {k row : ℕ} (h : Headlines w k row) {at : ℕ} (ea : at ≡ row-word w row 1) where
+module _ {w : List ℕ} {k row : ℕ} (h : Headlines w k row) {at : ℕ} (ea : at ≡ row-word w row OWN) where
   -- the token of its `def`
   def-at : {ts : List Token} {f : ℕ} {Δ : Scope Sig} {d : Def} → Next ts f (without-variables w) k Δ d → at ≡ d .at
   def-at n =
       let e = function-without w k (next-few n) in
-      ea ∙ ap (λ (i : ℕ). row-word w i 1) (h .at ∙ sym e) ∙ sym (row-without w _ 1 (n .here .inside) (omega arith)) ∙ n .here .at
+      ea ∙ ap (λ (i : ℕ). row-word w i OWN) (h .at ∙ sym e) ∙ sym (row-without w _ 1 (n .here .inside) (omega arith)) ∙ n .here .at
 
   -- and its name one of the tokens
   pub def-inside : at + 1 < TOKENS
-  def-inside = let e = ea ∙ ap (λ (i : ℕ). row-word w i 1) (h .at) in omega (arith, h .heads k (omega arith) .name)
+  def-inside = let e = ea ∙ ap (λ (i : ℕ). row-word w i OWN) (h .at) in omega (arith, h .heads k (omega arith) .name)
 
   -- too many functions before it
   pub many-fresh : FUNCTIONS ≤ k → Fresh w k (Verdict.Wrong TooManyFunctions at)
@@ -89,9 +89,9 @@ module _ {w : List ℕ} {k row : ℕ} (h : Headlines w k row) {at : ℕ} (ea : a
         → Means f ts (without-variables w) c (nearest (d .called) Δ)
     means {ts} {f} {Δ} {d} n =
         let p = without-variables w in
-        let a = callee-means (sheet-before n) (function-named (n .stand) (n .here)) in
+        let a = callee-means (sight-before n) (function-named (n .stand) (n .here)) in
         let e : callee-in p (function-name p k) k ≡ c =
-        callee-plain w (function-name p k) k (sheet-headed (sheet-before n))
+        callee-plain w (function-name p k) k (sight-headed (sight-before n))
         ∙ ap (λ (x : ℕ). callee-in w x k) (name-plain w (next-headed n k (omega arith)) ∙ sym en) ∙ sym ec in
         subst (λ (c : Callee). Means f ts p c (nearest (d .called) Δ)) e a
 

@@ -7,6 +7,7 @@ use Rattle.language.specs.Meaning.{type-number}
 use Rattle.language.proofs.Types.OneType.{program-one-type, one-fault, never-both}
 use Rattle.numbers.specs.Meanings.{reason-meant}
 use Rattle.numbers.proofs.Apart.{same-reason}
+use Rattle.layout.specs.declared.Held.{Held}
 use Rattle.checker.specs.Checked.{Checkable, Answers, Checked}
 use Rattle.rules.specs.declared.Typing.{Typing}
 use Rattle.rules.specs.declared.Typing.the-variants as Typing
@@ -21,8 +22,8 @@ one-answer p (Typing.Fault r i) (Typing.Fault q j) a b =
     ap₂ Typing.Fault (same-reason r q (h .0)) (h .1)
 
 -- no two answers satisfy the contract, nor do two tables
-pub checked-once : {w v u : List ℕ} {count defs root : ℕ} {r q : Typing} → Checkable w count defs root
-    → Checked w v count defs root r → Checked w u count defs root q → (r ≡ q) × (v ≡ u)
+pub checked-once : {w v u : List ℕ} {P : Held} {r q : Typing} → Checkable w P
+    → Checked w v P r → Checked w u P q → (r ≡ q) × (v ≡ u)
 checked-once {r = r} {q = q} c a b = (
   one-answer (c .program) r q (a .right (c .tokens) (c .program) (c .holds)) (b .right (c .tokens) (c .program)
       (c .holds)),

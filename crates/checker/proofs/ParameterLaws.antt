@@ -15,14 +15,14 @@ use Rattle.language.proofs.Types.TypeNumbers.{number-refs}
 use Rattle.language.proofs.Executable.Checks.{Res, ok, bad, told, need-yes, need-no}
 use Rattle.language.proofs.Executable.Checker.{unbound, take-params}
 use Rattle.layout.specs.Types.{OVER}
-use Rattle.layout.specs.Table.{token-value, row-word, put-variable, without-variables}
+use Rattle.layout.specs.Table.{OWN, TYPE, token-value, row-word, put-variable, without-variables}
 use Rattle.layout.specs.Names.{Stand, Named}
 use Rattle.layout.specs.Decode.{ParamsAt, params-more}
 use Rattle.layout.proofs.NameLaws.{named-at}
 use Rattle.layout.proofs.VariablesWords.{row-without, token-without}
 use Rattle.numbers.specs.Meanings.{reason-meant}
 use Rattle.rules.specs.Sight.{Variables, variables-none, variables-more, find-variable, found}
-use Rattle.judge.specs.Judged.{looked}
+use Rattle.phrase_types.specs.Inferred.{looked}
 use Rattle.checker.specs.Ruled.{ParameterAt, Bound}
 use Rattle.numbers.specs.declared.Reason.the-variants.{TooManyParameters, ParameterTwice, TooManyRefs}
 use Rattle.numbers.specs.declared.Reason.{Reason}
@@ -31,8 +31,8 @@ use Rattle.rules.specs.declared.sight.Found.the-variants as Found
 use Rattle.checker.specs.declared.programs.Verdict.{Verdict}
 use Rattle.checker.specs.declared.programs.Verdict.the-variants as Verdict
 use Rattle.rules.proofs.TellLaws.{type-told, fault-told, tells-as}
-use Rattle.judge.proofs.KeptLaws.{kept-self, kept-put, variables-put}
-use Rattle.judge.proofs.SheetLaws.{look-tells, stand-few}
+use Rattle.phrase_types.proofs.KeptLaws.{kept-self, kept-put, variables-put}
+use Rattle.phrase_types.proofs.ScopeLaws.{look-tells, stand-few}
 
 -- ---- what is bound under a name
 
@@ -79,11 +79,11 @@ variables-size (variables-more e a b r) = ap suc (variables-size r) ∙ sym e
 
 -- ---- one parameter
 
-module _ {w : List ℕ} {row : ℕ} (r : ParameterAt w row) {at : ℕ} (ea : at ≡ row-word w row 1) where
+module _ {w : List ℕ} {row : ℕ} (r : ParameterAt w row) {at : ℕ} (ea : at ≡ row-word w row OWN) where
   own : {ts : List Token} {q : Param} {qs : List Param} → ParamsAt ts (without-variables w) row (q ∷ qs) → at ≡ q .at
   own (params-more a n c t h) = ea ∙ sym (row-without w row 1 (r .inside) (omega arith)) ∙ a
 
-  deep : {ts : List Token} {q : Param} {qs : List Param} {number : ℕ} → number ≡ row-word w row 2
+  deep : {ts : List Token} {q : Param} {qs : List Param} {number : ℕ} → number ≡ row-word w row TYPE
       → ParamsAt ts (without-variables w) row (q ∷ qs) → number ≡ type-number (q .type)
   deep e (params-more a n c t h) = e ∙ sym (row-without w row 2 (r .inside) (omega arith)) ∙ t
 
@@ -97,13 +97,13 @@ module _ {w : List ℕ} {row : ℕ} (r : ParameterAt w row) {at : ℕ} (ea : at 
         need-no _ _ _ _ (λ h. omega arith) ∙ ap (bad (reason-meant TooManyParameters)) (sym (own ps));
   }
 
-  module _ {k : ℕ} (few : k < PARAMETERS) {token name : ℕ} (et : token ≡ row-word w row 1) (en : name ≡ token-value w token) where
+  module _ {k : ℕ} (few : k < PARAMETERS) {token name : ℕ} (et : token ≡ row-word w row OWN) (en : name ≡ token-value w token) where
     named : {ts : List Token} {count : ℕ} {q : Param} {qs : List Param} → Stand (without-variables w) count ts
         → ParamsAt ts (without-variables w) row (q ∷ qs) → Named ts name (q .called)
     named {ts} {q = q} st (params-more a n c t h) =
         let e = sym (row-without w row 1 (r .inside) (omega arith)) ∙ a in
         let d : token-value (without-variables w) (q .at) ≡ name =
-        ap (λ (i : ℕ). token-value (without-variables w) i) (sym e) ∙ token-without w (row-word w row 1) 3 (r .name) (omega arith)
+        ap (λ (i : ℕ). token-value (without-variables w) i) (sym e) ∙ token-without w (row-word w row OWN) 3 (r .name) (omega arith)
         ∙ sym (en ∙ ap (λ (i : ℕ). token-value w i) et) in
         subst (λ (s : Name). Named ts name s) (sym c)
         (subst (λ (z : ℕ). Named ts z (spelling-at ts (q .at))) d (named-at st (q .at) n))
@@ -120,7 +120,7 @@ module _ {w : List ℕ} {row : ℕ} (r : ParameterAt w row) {at : ℕ} (ea : at 
             need-yes _ _ _ _ (omega arith) (unbound-some _ _ _ (h .1)) ∙ ap (bad (reason-meant ParameterTwice)) (sym (own ps));
       }
 
-      module _ (new : b ≡ Found.Nowhere) {number : ℕ} (ed : number ≡ row-word w row 2) where
+      module _ (new : b ≡ Found.Nowhere) {number : ℕ} (ed : number ≡ row-word w row TYPE) where
         -- too many `ref`
         pub deep-bound : OVER ≤ number → Bound w w row k (Verdict.Wrong TooManyRefs at)
         unfolding take-params

@@ -17,12 +17,13 @@ use Rattle.language.proofs.Executable.CheckerSound.{check-sound}
 use Rattle.layout.specs.Table.{without-variables}
 use Rattle.layout.specs.Rows.{below}
 use Rattle.layout.specs.Decode.{tree-at, Right, FunctionsAt, functions-more, Holds}
+use Rattle.layout.specs.declared.Held.{Held}
 use Rattle.layout.proofs.VariablesTrees.{holds-without}
 use Rattle.checker.specs.Checked.{Checkable, Answers}
-use Rattle.rules.specs.Sight.{variables-none, Functions, functions-given, Sheet}
+use Rattle.rules.specs.Sight.{variables-none, Functions, functions-given, InSight}
 use Rattle.rules.specs.Sight as Sight
 use Rattle.rules.specs.Asked.{Tells, tells-type, tells-fault}
-use Rattle.judge.specs.Judged.{Kept, Ready, Judged}
+use Rattle.phrase_types.specs.Inferred.{Kept, Ready, Inferred}
 use Rattle.checker.specs.Ruled.{Rules, Next, Listed, Ruled, Concluded}
 use Rattle.numbers.specs.declared.Reason.{Reason}
 use Rattle.rules.specs.declared.Typing.{Typing}
@@ -30,7 +31,7 @@ use Rattle.rules.specs.declared.Typing.the-variants as Typing
 use Rattle.checker.specs.declared.programs.Verdict.{Verdict}
 use Rattle.checker.specs.declared.programs.Verdict.the-variants as Verdict
 use Rattle.rules.proofs.TellLaws.{fault-is, tells-from}
-use Rattle.judge.proofs.KeptLaws.{kept-self, kept-then}
+use Rattle.phrase_types.proofs.KeptLaws.{kept-self, kept-then}
 
 -- ---- halfway
 
@@ -44,16 +45,16 @@ pub record Progress (ts : List Token) (f : ℕ) (p : List ℕ) (defs k : ℕ) (p
   pub same : check program ≡ check-from rest scope (program .main)
 
 -- what the loop keeps: of every program that the table held at first
-pub record Underway (w₀ w : List ℕ) (count defs root k : ℕ) : Type 0 where
+pub record Underway (w₀ w : List ℕ) (P : Held) (k : ℕ) : Type 0 where
   pub kept : Kept w₀ w 0
-  pub few : k ≤ defs
-  pub told : (ts : List Token) (program : Program) (h : Holds ts (without-variables w₀) count defs root program)
-      → Progress ts (h .depth) (without-variables w₀) defs k program
+  pub few : k ≤ P .functions
+  pub told : (ts : List Token) (program : Program) (h : Holds ts (without-variables w₀) P program)
+      → Progress ts (h .depth) (without-variables w₀) (P .functions) k program
 
 -- none is checked yet
-pub underway-starts : {w : List ℕ} {count defs root k : ℕ} → k ≡ 0 → Underway w w count defs root k
+pub underway-starts : {w : List ℕ} {P : Held} {k : ℕ} → k ≡ 0 → Underway w w P k
 unfolding check
-underway-starts {w} {count} {defs} {root} e = subst (λ (k : ℕ). Underway w w count defs root k) (sym e) record {
+underway-starts {w} {P} e = subst (λ (k : ℕ). Underway w w P k) (sym e) record {
   kept = kept-self w 0;
   few = omega arith;
   told = λ ts program h.
@@ -68,25 +69,25 @@ underway-starts {w} {count} {defs} {root} e = subst (λ (k : ℕ). Underway w w 
       };
 }
 
-module _ {w₀ w : List ℕ} {count defs root k : ℕ} (u : Underway w₀ w count defs root k) where
-  module _ (l : k < defs) where
+module _ {w₀ w : List ℕ} {P : Held} {k : ℕ} (u : Underway w₀ w P k) where
+  module _ (l : k < P .functions) where
     -- the next function
-    next-is : {A : Type 0} (ts : List Token) (program : Program) (h : Holds ts (without-variables w₀) count defs root program)
+    next-is : {A : Type 0} (ts : List Token) (program : Program) (h : Holds ts (without-variables w₀) P program)
         → ((d : Def) (ds : List Def) (Δ : Scope Sig) → Next ts (h .depth) (without-variables w₀) k Δ d
         → FunctionsAt (h .depth) ts (without-variables w₀) (k + 1) ds
-        → k + length (d ∷ ds) ≡ defs → check program ≡ check-from (d ∷ ds) Δ (program .main) → A)
+        → k + length (d ∷ ds) ≡ P .functions → check program ≡ check-from (d ∷ ds) Δ (program .main) → A)
         → A
     next-is {A} ts program h use-it = go (s .rest) (s .later) (s .long) (s .same)
       where
-        s : Progress ts (h .depth) (without-variables w₀) defs k program
+        s : Progress ts (h .depth) (without-variables w₀) (P .functions) k program
         s = u .told ts program h
 
-        go : (rest : List Def) → FunctionsAt (h .depth) ts (without-variables w₀) k rest → k + length rest ≡ defs
+        go : (rest : List Def) → FunctionsAt (h .depth) ts (without-variables w₀) k rest → k + length rest ≡ P .functions
             → check program ≡ check-from rest (s .scope) (program .main) → A
         go [] a m e = absurd (omega arith)
         go (d ∷ ds) (functions-more a q) m e =
             use-it d ds (s .scope) record {
-              count = count;
+              count = P .count;
               stand = h .stand;
               few = omega
                   (arith, h .few);
@@ -95,7 +96,7 @@ module _ {w₀ w : List ℕ} {count defs root k : ℕ} (u : Underway w₀ w coun
             } q m e
 
     -- it can be checked
-    pub underway-listed : Checkable w₀ count defs root → Listed w k
+    pub underway-listed : Checkable w₀ P → Listed w k
     underway-listed c =
         let g = holds-without (c .holds) in
         next-is (c .tokens) (c .program) g λ d ds Δ n q m e.
@@ -116,7 +117,7 @@ module _ {w₀ w : List ℕ} {count defs root k : ℕ} (u : Underway w₀ w coun
           (g .right ts f Δ d (subst (λ (p : List ℕ). Next ts f p k Δ d) (sym (u .kept .rest)) n))
 
       -- it is wrong
-      pub underway-stops : {r : Reason} {i : ℕ} → v ≡ Verdict.Wrong r i → Concluded w₀ w₁ count defs root (Typing.Fault r i)
+      pub underway-stops : {r : Reason} {i : ℕ} → v ≡ Verdict.Wrong r i → Concluded w₀ w₁ P (Typing.Fault r i)
       unfolding check-from
       underway-stops e = record {
         kept = kept-then (u .kept) (g .kept);
@@ -126,7 +127,7 @@ module _ {w₀ w : List ℕ} {count defs root k : ℕ} (u : Underway w₀ w coun
       }
 
       -- it is fine
-      pub underway-goes : v ≡ Verdict.Fine → Underway w₀ w₁ count defs root (k + 1)
+      pub underway-goes : v ≡ Verdict.Fine → Underway w₀ w₁ P (k + 1)
       unfolding check-from
       underway-goes e = record {
         kept = kept-then (u .kept) (g .kept);
@@ -143,22 +144,22 @@ module _ {w₀ w : List ℕ} {count defs root k : ℕ} (u : Underway w₀ w coun
             };
       }
 
-  module _ (l : defs ≤ k) where
+  module _ (l : P .functions ≤ k) where
     -- all are checked
-    all-in : (ts : List Token) (program : Program) (h : Holds ts (without-variables w₀) count defs root program)
-        → (Δ : Scope Sig) × Sheet ts (h .depth) (without-variables w₀) defs Δ × (check program ≡ infer Δ (program .main) empty)
+    all-in : (ts : List Token) (program : Program) (h : Holds ts (without-variables w₀) P program)
+        → (Δ : Scope Sig) × InSight ts (h .depth) (without-variables w₀) (P .functions) Δ × (check program ≡ infer Δ (program .main) empty)
     unfolding check-from
     all-in ts program h = go (s .rest) (s .long) (s .same)
       where
-        s : Progress ts (h .depth) (without-variables w₀) defs k program
+        s : Progress ts (h .depth) (without-variables w₀) (P .functions) k program
         s = u .told ts program h
 
-        go : (rest : List Def) → k + length rest ≡ defs → check program ≡ check-from rest (s .scope) (program .main)
-            → (Δ : Scope Sig) × Sheet ts (h .depth) (without-variables w₀) defs Δ × (check program ≡ infer Δ (program .main) empty)
+        go : (rest : List Def) → k + length rest ≡ P .functions → check program ≡ check-from rest (s .scope) (program .main)
+            → (Δ : Scope Sig) × InSight ts (h .depth) (without-variables w₀) (P .functions) Δ × (check program ≡ infer Δ (program .main) empty)
         go [] m e = (
           s .scope,
           record {
-            count = count;
+            count = P .count;
             stand = h .stand;
             few = h .few;
             functions = subst (λ (n : ℕ). Functions (h .depth) ts (without-variables w₀) n (s .scope)) (omega arith) (s .before);
@@ -168,7 +169,7 @@ module _ {w₀ w : List ℕ} {count defs root k : ℕ} (u : Underway w₀ w coun
         go (d ∷ ds) m e = absurd (omega arith)
 
     -- the last expression can be checked, with no variable
-    pub underway-ready : Checkable w₀ count defs root → Ready w root defs 0
+    pub underway-ready : Checkable w₀ P → Ready w (P .root) (P .functions) 0
     underway-ready c =
         let h = holds-without (c .holds) in
         let a = all-in (c .tokens) (c .program) h in
@@ -180,16 +181,16 @@ module _ {w₀ w : List ℕ} {count defs root k : ℕ} (u : Underway w₀ w coun
           long = omega (arith, c .holds .long, u .kept .long);
           stands = record {
             depth = h .depth;
-            sheet = subst (λ (p : List ℕ). Sheet (c .tokens) (h .depth) p defs (a .0)) (sym (u .kept .rest)) (a .1);
-            whole = subst (λ (p : List ℕ). Right (h .depth) (c .tokens) p root) (sym (u .kept .rest)) (h .right);
+            sight = subst (λ (p : List ℕ). InSight (c .tokens) (h .depth) p (P .functions) (a .0)) (sym (u .kept .rest)) (a .1);
+            whole = subst (λ (p : List ℕ). Right (h .depth) (c .tokens) p (P .root)) (sym (u .kept .rest)) (h .right);
             scope = variables-none;
           };
-          room = subst (λ (p : List ℕ). 0 + below (tree-at (h .depth) (c .tokens) p root) < NODES) (sym (u .kept .rest))
+          room = subst (λ (p : List ℕ). 0 + below (tree-at (h .depth) (c .tokens) p (P .root)) < NODES) (sym (u .kept .rest))
               (subst (λ (x : Exp). 0 + below x < NODES) (sym (h .main)) (omega (arith, h .room)));
         }
 
     -- and its answer is the program's
-    pub underway-ends : {w₁ : List ℕ} {q : Typing} → Judged w w₁ root defs 0 q → Concluded w₀ w₁ count defs root q
+    pub underway-ends : {w₁ : List ℕ} {q : Typing} → Inferred w w₁ (P .root) (P .functions) 0 q → Concluded w₀ w₁ P q
     underway-ends {q = q} j = record {
       kept = kept-then (u .kept) (j .kept);
       right = λ ts program h.
@@ -197,11 +198,11 @@ module _ {w₀ w : List ℕ} {count defs root k : ℕ} (u : Underway w₀ w coun
           let a = all-in ts program g in
           tells-from (a .2)
           (subst (λ (x : Exp). Tells q (infer (a .0) x empty)) (g .main)
-          (subst (λ (p : List ℕ). Tells q (infer (a .0) (tree-at (g .depth) ts p root) empty)) (u .kept .rest)
+          (subst (λ (p : List ℕ). Tells q (infer (a .0) (tree-at (g .depth) ts p (P .root)) empty)) (u .kept .rest)
           (j .right ts (g .depth) (a .0) empty record {
             depth = g .depth;
-            sheet = subst (λ (p : List ℕ). Sheet ts (g .depth) p defs (a .0)) (sym (u .kept .rest)) (a .1);
-            whole = subst (λ (p : List ℕ). Right (g .depth) ts p root) (sym (u .kept .rest)) (g .right);
+            sight = subst (λ (p : List ℕ). InSight ts (g .depth) p (P .functions) (a .0)) (sym (u .kept .rest)) (a .1);
+            whole = subst (λ (p : List ℕ). Right (g .depth) ts p (P .root)) (sym (u .kept .rest)) (g .right);
             scope = variables-none;
           })));
     }

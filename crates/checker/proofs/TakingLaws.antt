@@ -8,17 +8,17 @@ use Rattle.language.specs.Tokens.{Token}
 use Rattle.language.specs.Trees.{Ty, Param, Def, Scope, empty, push}
 use Rattle.language.proofs.Executable.Checks.{ok}
 use Rattle.language.proofs.Executable.Checker.{take-params}
-use Rattle.layout.specs.Table.{row-word, without-variables}
+use Rattle.layout.specs.Table.{ARITY, row-word, without-variables}
 use Rattle.layout.specs.Names.{Stand}
 use Rattle.layout.specs.Decode.{ParamsAt, params-more, FunctionAt}
 use Rattle.layout.proofs.VariablesWords.{row-without}
 use Rattle.rules.specs.Sight.{Variables, variables-none}
-use Rattle.judge.specs.Judged.{Kept}
+use Rattle.phrase_types.specs.Inferred.{Kept}
 use Rattle.checker.specs.Ruled.{ParameterAt, BoundIs, Bound, Headings, Taken}
 use Rattle.numbers.specs.declared.Reason.{Reason}
 use Rattle.checker.specs.declared.programs.Verdict.{Verdict}
 use Rattle.checker.specs.declared.programs.Verdict.the-variants as Verdict
-use Rattle.judge.proofs.KeptLaws.{kept-self, kept-then, kept-fewer, kept-row}
+use Rattle.phrase_types.proofs.KeptLaws.{kept-self, kept-then, kept-fewer, kept-row}
 
 -- k of d's parameters are the variables, and the rest are still to be taken
 pub record Halfway (p w : List ℕ) (row k : ℕ) (ts : List Token) (d : Def) : Type 0 where
@@ -55,7 +55,7 @@ taking-starts {w} {row} {count} {k} e = subst (λ (k : ℕ). Taking w w row coun
 tail-params : {ts : List Token} {p : List ℕ} {r : ℕ} {q : Param} {qs : List Param} → ParamsAt ts p r (q ∷ qs) → ParamsAt ts p (r + 1) qs
 tail-params (params-more a b c d h) = h
 
-module _ {w₀ w : List ℕ} {row count k : ℕ} (h : Headings w₀ row) (ec : count ≡ row-word w₀ row 2) (t : Taking w₀ w row count k) where
+module _ {w₀ w : List ℕ} {row count k : ℕ} (h : Headings w₀ row) (ec : count ≡ row-word w₀ row ARITY) (t : Taking w₀ w row count k) where
   -- as many as the function has parameters
   counted : {ts : List Token} {f : ℕ} {d : Def} → FunctionAt f ts (without-variables w₀) row d → count ≡ length (d .params)
   counted a = let l = h .last in ec ∙ sym (row-without w₀ row 2 (omega arith) (omega arith)) ∙ a .count

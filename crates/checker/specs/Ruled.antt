@@ -1,4 +1,5 @@
--- What is asked and promised of functions and programs: the verdict is what the executable checker of the language answers.
+-- What is asked and promised of functions and programs: the verdict is what the executable checker of the language
+-- answers.
 use mathlib.Core.List.{List, _∷_}
 use mathlib.Core.Path.{_≡_}
 use Prim.Native.Nat.{ℕ, _+_, _≤_, _<_}
@@ -15,10 +16,11 @@ use Rattle.layout.specs.Table.{OWN, ARITY, BODY, row-word, function-row, withou
 use Rattle.layout.specs.Names.{Stand}
 use Rattle.layout.specs.Functions.{Headed}
 use Rattle.layout.specs.Decode.{ParamsAt, FunctionAt, Holds}
+use Rattle.layout.specs.declared.Held.{Held}
 use Rattle.numbers.specs.Meanings.{reason-meant}
 use Rattle.rules.specs.Sight.{Variables, Functions}
 use Rattle.rules.specs.Asked.{Tells}
-use Rattle.judge.specs.Judged.{Kept, Ready}
+use Rattle.phrase_types.specs.Inferred.{Kept, Ready}
 use Rattle.rules.specs.declared.Typing.{Typing}
 use Rattle.checker.specs.declared.programs.Verdict.{Verdict}
 use Rattle.checker.specs.declared.programs.Verdict.the-variants as Verdict
@@ -39,13 +41,15 @@ pub record ParameterAt (w : List ℕ) (row : ℕ) : Type 0 where
 -- it is bound as variable k, and the others follow; or that ends them all
 abbrev pub BoundIs : List Token → List ℕ → ℕ → Scope Ty → Param → List Param → Verdict → Type 0
 BoundIs ts w k Γ q qs Verdict.Fine =
-    Variables ts w (k + 1) (push (q .called) (q .type) Γ) × (take-params (q ∷ qs) Γ ≡ take-params qs (push (q .called) (q .type) Γ))
+    Variables ts w (k + 1) (push (q .called) (q .type) Γ)
+    × (take-params (q ∷ qs) Γ ≡ take-params qs (push (q .called) (q .type) Γ))
 BoundIs ts w k Γ q qs (Verdict.Wrong r i) = take-params (q ∷ qs) Γ ≡ bad (reason-meant r) i
 
 -- parameter k, at row `row`, behind the parameters Γ
 pub record Bound (w w′ : List ℕ) (row k : ℕ) (r : Verdict) : Type 0 where
   pub kept : Kept w w′ k
-  pub right : (ts : List Token) (count : ℕ) (Γ : Scope Ty) (q : Param) (qs : List Param) → Stand (without-variables w) count ts
+  pub right : (ts : List Token) (count : ℕ) (Γ : Scope Ty) (q : Param) (qs : List Param)
+      → Stand (without-variables w) count ts
       → ParamsAt ts (without-variables w) row (q ∷ qs) → Variables ts w k Γ
       → BoundIs ts w′ k Γ q qs r
 
@@ -58,7 +62,8 @@ pub record Headings (w : List ℕ) (row : ℕ) : Type 0 where
 -- all are taken, or the first that is wrong is told
 pub record Taken (w w′ : List ℕ) (row : ℕ) (r : Verdict) : Type 0 where
   pub kept : Kept w w′ 0
-  pub right : (ts : List Token) (count f : ℕ) (d : Def) → Stand (without-variables w) count ts → FunctionAt f ts (without-variables w) row d
+  pub right : (ts : List Token) (count f : ℕ) (d : Def) → Stand (without-variables w) count ts
+      → FunctionAt f ts (without-variables w) row d
       → Rules r (take-params (d .params) empty) λ Γ. Variables ts w′ (length (d .params)) Γ
 
 -- ---- functions
@@ -129,6 +134,6 @@ pub record Ruled (w w′ : List ℕ) (k : ℕ) (r : Verdict) : Type 0 where
 -- ---- programs
 
 -- the whole program's answer
-pub record Concluded (w w′ : List ℕ) (count defs root : ℕ) (r : Typing) : Type 0 where
+pub record Concluded (w w′ : List ℕ) (P : Held) (r : Typing) : Type 0 where
   pub kept : Kept w w′ 0
-  pub right : (ts : List Token) (p : Program) → Holds ts w count defs root p → Tells r (check p)
+  pub right : (ts : List Token) (p : Program) → Holds ts w P p → Tells r (check p)

@@ -2,16 +2,18 @@
 // many there are, its name, its parameters one by one, its result's type, its body.
 ghost use Prim.Native.Nat.{_+_, _<_};
 ghost use Rattle.checker.specs.Checked.{Checkable};
-ghost use Rattle.checker.specs.Ruled.{ParameterAt, Bound, Headings, Taken, Headlines, Fresh, Bodied, Fitting, Listed, Ruled, Concluded};
-use judge::expressions;
+ghost use Rattle.checker.specs.Ruled.{ParameterAt, Bound, Headings, Taken, Headlines};
+ghost use Rattle.checker.specs.Ruled.{Fresh, Bodied, Fitting, Listed, Ruled, Concluded};
 use language::FUNCTIONS;
 use language::PARAMETERS;
+use layout::Held;
 use layout::functions;
 use layout::rows;
 use layout::token;
 use layout::types;
 use layout::variables;
 use numbers::Reason;
+use phrase_types::expressions;
 use rules::Typing;
 use rules::sight;
 use rules::sight::Callee;
@@ -131,12 +133,12 @@ fn function(table: &mut [u32], k: usize) -> Verdict
 }
 
 // The whole program.
-pub fn program(table: &mut [u32], count: usize, defs: usize, root: usize) -> Typing
-    requires { ⌜ Checkable (now table) count defs root ⌝ }
-    ensures { λ r. ⌜ Concluded (now (table .entry)) (now (table .exit)) count defs root r ⌝ }
+pub fn program(table: &mut [u32], program: Held) -> Typing
+    requires { ⌜ Checkable (now table) program ⌝ }
+    ensures { λ r. ⌜ Concluded (now (table .entry)) (now (table .exit)) program r ⌝ }
 {
     let mut k = 0;
-    while k < defs {
+    while k < program.functions {
         let checked = function(table, k);
         match checked {
             Verdict::Wrong(r, i) => {
@@ -147,5 +149,5 @@ pub fn program(table: &mut [u32], count: usize, defs: usize, root: usize) -> Typ
             }
         }
     }
-    expressions::type_at(table, root, defs, 0)
+    expressions::type_at(table, program.root, program.functions, 0)
 }

@@ -11,7 +11,7 @@ use Rattle.language.specs.Trees.{Ty, Program}
 use Rattle.language.specs.State.{Stop}
 use Rattle.language.specs.Meaning.{run, type-number}
 use Rattle.language.specs.Numbers.{Refusal, no-reading, passed, refused, stopped}
-use Rattle.language.specs.Answers.{from-text, Passes, left, Ending, ending, CheckReport, Check, Lent, Enough, RunReport, after-run, run-ended, Run}
+use Rattle.language.specs.Answers.{from-text, Passes, left, Ending, ending, CheckReport, Check, Enough, RunReport, after-run, run-ended, Run}
 use Rattle.language.proofs.Answers.Origins.{text-lawful}
 use Rattle.language.proofs.Answers.OneAnswer.{one-ran}
 use Rattle.language.proofs.Answers.Endings.{IsRun}

@@ -1,13 +1,14 @@
 -- What is left in lent memory once a source was looked at: the required words are zero, whatever is told.
 use mathlib.Core.List.{List}
 use mathlib.Core.Path.{_≡_, refl}
-use Prim.Native.Nat.{ℕ, _≤_, _<_}
+use Prim.Native.Nat.{ℕ, _≤_}
 use mathlib.Core.Logic.{inl, inr}
 use native.Mathlib.Omega.{arith}
 use Rattle.language.specs.Sizes.{TABLE}
 use Rattle.language.specs.Meaning.{run}
 use Rattle.language.specs.Numbers.{Refusal, Told, passed, refused, stopped}
-use Rattle.language.specs.Answers.{Origin, Refused, cleared, left, CheckReport, Checked, check-short, check-refused, check-passed, RunReport, Lent, Enough, Ran, run-short, run-large, run-refused, run-ended}
+use Rattle.language.specs.Answers.{Origin, Refused, cleared, left, CheckReport, Checked, check-short, check-refused}
+use Rattle.language.specs.Answers.{check-passed, RunReport, Lent, Enough, Ran, run-short, run-large, run-refused, run-ended}
 use Rattle.language.proofs.Answers.Endings.{IsRun, is-run}
 use Rattle.language.proofs.Answers.Origins.{Lawful, refused-clears}
 

@@ -1,6 +1,5 @@
 -- A program that is run: what the runner says of it, as the end that is told of it.
 use mathlib.Core.List.{List, reverse}
-use mathlib.Core.Option.{some}
 use mathlib.Core.Path.{_≡_, refl, sym, ap, subst, _∙_}
 use Prim.Native.Nat.{ℕ, _-_, _≤_}
 use native.Mathlib.Omega.{arith}
@@ -12,13 +11,14 @@ use Rattle.language.specs.Meaning.{run, value-number}
 use Rattle.language.specs.Answers as Answers
 use Rattle.language.specs.Answers.{ending}
 use Rattle.language.proofs.Meaning.Spending.{Spent, spent-value, spent-stop, spent-stuck, births-few}
+use Rattle.layout.specs.declared.Held.{Held}
 use Rattle.layout.specs.Values.{meant}
 use Rattle.layout.specs.declared.values.Value.{Value}
 use Rattle.numbers.specs.declared.Stop.{Stop}
 use Rattle.runner.specs.Contract as Runner
 use Rattle.runner.specs.declared.Done.{Done}
 use Rattle.runner.specs.declared.Spent as spent
-use Rattle.grumpy.specs.Outcomes.{ending-meant, Told, Executed}
+use Rattle.grumpy.specs.Outcomes.{Told, Executed}
 use Rattle.grumpy.specs.declared.outcomes.Ending.{Ending}
 
 -- ---- no more units are left than were allowed
@@ -37,19 +37,19 @@ units-told : (r : Done) (σ : M.State) → units-of (Runner.outcome-of r σ) ≡
 units-told (Done.Value v e) σ = refl
 units-told (Done.Stop y i e) σ = refl
 
-module _ {table work out work′ out′ : List ℕ} {count defs root allowance : ℕ} {r : Done}
-    (x : Runner.RunsTo table work out work′ out′ count defs root allowance r) where
-  left-few : Runner.Sheet table work count defs root allowance → Runner.spent-of r .left ≤ allowance
+module _ {table work out work′ out′ : List ℕ} {P : Held} {allowance : ℕ} {r : Done}
+    (x : Runner.RunsTo table work out work′ out′ P allowance r) where
+  left-few : Runner.Loaded table work P allowance → Runner.spent-of r .left ≤ allowance
   left-few s =
       let a = x .answer (s .ts) (s .program) (s .type) (s .holds) (s .typed) in
       let e = a .left ∙ sym (units-told r (a .state)) ∙ ap units-of (sym (a .outcome)) in
       let f = few (births-few (s .program) allowance (length out)) in
       omega arith
 
-  pub value-left : Runner.Sheet table work count defs root allowance → (v : Value) (e : spent.Spent) → r ≡ Done.Value v e → e .left ≤ allowance
+  pub value-left : Runner.Loaded table work P allowance → (v : Value) (e : spent.Spent) → r ≡ Done.Value v e → e .left ≤ allowance
   value-left s v e q = subst (λ (r : Done). Runner.spent-of r .left ≤ allowance) q (left-few s)
 
-  pub stop-left : Runner.Sheet table work count defs root allowance → (y : Stop) (i : ℕ) (e : spent.Spent) → r ≡ Done.Stop y i e → e .left ≤ allowance
+  pub stop-left : Runner.Loaded table work P allowance → (y : Stop) (i : ℕ) (e : spent.Spent) → r ≡ Done.Stop y i e → e .left ≤ allowance
   stop-left s y i e q = subst (λ (r : Done). Runner.spent-of r .left ≤ allowance) q (left-few s)
 
 -- ---- the end that is told
@@ -75,17 +75,17 @@ stop-told allowance y i e a = record {
   output = a .output;
 }
 
-module _ {table work out work′ out′ : List ℕ} {count defs root allowance : ℕ} {r : Done}
-    (x : Runner.RunsTo table work out work′ out′ count defs root allowance r) where
+module _ {table work out work′ out′ : List ℕ} {P : Held} {allowance : ℕ} {r : Done}
+    (x : Runner.RunsTo table work out work′ out′ P allowance r) where
   pub executed-value : (v : Value) (e : spent.Spent) (z : ℤ) (u : ℕ) → r ≡ Done.Value v e → z ≡ value-number (meant v) → u ≡ allowance - e .left
-      → Executed table work out work′ out′ count defs root allowance (Ending.Value z u (e .printed))
+      → Executed table work out work′ out′ P allowance (Ending.Value z u (e .printed))
   executed-value v e z u q a b = record {
     told = λ ts p t h y. rw b (value-told allowance v e z (subst (Runner.EndsAs (run p allowance (length out)) out out′) q (x .answer ts p t h y)) a);
     cleared = x .cleared;
   }
 
   pub executed-stop : (y : Stop) (i : ℕ) (e : spent.Spent) (u : ℕ) → r ≡ Done.Stop y i e → u ≡ allowance - e .left
-      → Executed table work out work′ out′ count defs root allowance (Ending.Stopped y i u (e .printed))
+      → Executed table work out work′ out′ P allowance (Ending.Stopped y i u (e .printed))
   executed-stop y i e u q b = record {
     told = λ ts p t h z. rw b (stop-told allowance y i e (subst (Runner.EndsAs (run p allowance (length out)) out out′) q (x .answer ts p t h z)));
     cleared = x .cleared;

@@ -11,10 +11,12 @@ use Rattle.language.specs.Trees.{Ty, Program}
 use Rattle.language.specs.Meaning.{run, type-number}
 use Rattle.language.specs.Numbers.{passed, refused, short-memory, large-allowance}
 use Rattle.language.specs.Answers as Answers
-use Rattle.language.specs.Answers.{from-text, Passes, ending, left, cleared, check-report, CheckReport, Checked, check-short, check-refused, check-passed, Check, Lent, Enough, refusal, run-short, run-large, run-refused, run-ended, Run}
+use Rattle.language.specs.Answers.{from-text, Passes, ending, left, cleared, check-report, CheckReport, Checked, check-short, check-refused}
+use Rattle.language.specs.Answers.{check-passed, Check, Lent, Enough, refusal, run-short, run-large, run-refused, run-ended, Run}
 use Rattle.language.proofs.Answers.Origins.{text-lawful}
 use Rattle.numbers.specs.declared.Refusal.{Refusal}
 use Rattle.numbers.specs.declared.Stop.{Stop}
+use Rattle.layout.specs.declared.Held.{Held}
 use Rattle.layout.specs.Table.{zeros}
 use Rattle.layout.specs.Names.{Stand}
 use Rattle.layout.proofs.Wiped.{zeros-cleared}
@@ -42,8 +44,8 @@ module _ (source w w₁ w₂ : List ℕ) (s : Seen) (x : Examined source w w₁ 
   check-is : (r : CheckReport ℕ) → Checked (from-text source) (length w) r → Check (from-text source) w r w₂
   check-is r a = record { answer = a; table-left = cleared-table ∙ sym (checked-left (text-lawful source) h a TABLE w) }
 
-  pub check-is-passed : (c d r t : ℕ) → s ≡ Seen.Passes c d r t → Check (from-text source) w (checked-report (checked.the-variants.Passed t)) w₂
-  check-is-passed c d r t q =
+  pub check-is-passed : (P : Held) (t : ℕ) → s ≡ Seen.Passes P t → Check (from-text source) w (checked-report (checked.the-variants.Passed t)) w₂
+  check-is-passed P t q =
       let p = subst (OfSource source w₁) q (x .told) in
       check-is _ (subst (λ (n : ℕ). Checked (from-text source) (length w) (check-report passed 0 n)) (sym (p .numbered)) (check-passed h (p .passes)))
 
@@ -52,25 +54,25 @@ module _ (source w w₁ w₂ : List ℕ) (s : Seen) (x : Examined source w w₁ 
 
 -- ---- what comes of a sheet that was examined
 
-pub runnable-sheet : (w work : List ℕ) (allowance c d q t : ℕ) (s : Seen) → Runnable w work allowance s → s ≡ Seen.Passes c d q t
-    → Runner.Sheet w work c d q allowance
-runnable-sheet w work allowance c d q t s x z = subst (Runnable w work allowance) z x
+pub runnable-sheet : (w work : List ℕ) (allowance : ℕ) (P : Held) (t : ℕ) (s : Seen) → Runnable w work allowance s → s ≡ Seen.Passes P t
+    → Runner.Loaded w work P allowance
+runnable-sheet w work allowance P t s x z = subst (Runnable w work allowance) z x
 
 pub runnable-refused : (w work : List ℕ) (allowance : ℕ) (y : Refusal) (i : ℕ) (s : Seen) → Runnable w work allowance s → s ≡ Seen.Refused y i
     → WORK ≤ length work
 runnable-refused w work allowance y i s x z = subst (Runnable w work allowance) z x
 
 -- its place can be looked up
-pub runnable-long : (w work : List ℕ) (allowance c d q t : ℕ) (s : Seen) → Runnable w work allowance s → s ≡ Seen.Passes c d q t
-    → (TABLE ≤ length w) × (c ≤ TOKENS)
-runnable-long w work allowance c d q t s x z =
-    let y = runnable-sheet w work allowance c d q t s x z in
+pub runnable-long : (w work : List ℕ) (allowance : ℕ) (P : Held) (t : ℕ) (s : Seen) → Runnable w work allowance s → s ≡ Seen.Passes P t
+    → (TABLE ≤ length w) × (P .count ≤ TOKENS)
+runnable-long w work allowance P t s x z =
+    let y = runnable-sheet w work allowance P t s x z in
     (y .holds .long, y .holds .stand .few)
 
 -- an examined sheet can be run
 pub examined-runnable : (source w w₁ work : List ℕ) (allowance : ℕ) (s : Seen) → Examined source w w₁ s → WORK ≤ length work → allowance ≤ ALLOWANCE
     → Runnable w₁ work allowance s
-examined-runnable source w w₁ work allowance (Seen.Passes c d q t) x h f =
+examined-runnable source w w₁ work allowance (Seen.Passes P t) x h f =
     let p = x .told in
     record {
       ts = p .tokens;
@@ -95,16 +97,16 @@ ended-ran : (source w : List ℕ) (l : Lent) {ts : List Token} {p : Program} {t 
 ended-ran source w l count n bs (Ending.Value v u k) g f p x s a b = rw (a, b) (run-ended g f p x)
 ended-ran source w l count n bs (Ending.Stopped y i u k) g f p x s a b = rw (a, b, byte-stands source s i) (run-ended g f p x)
 
-pub answered-sheet : (source w work out work′ out′ : List ℕ) (c d q t allowance : ℕ) (s : Seen) (e : Ending) (r : Ran)
-    → Executed w work out work′ out′ c d q allowance e → s ≡ Seen.Passes c d q t → r ≡ ran-of w c (length source) t e
+pub answered-sheet : (source w work out work′ out′ : List ℕ) (P : Held) (t allowance : ℕ) (s : Seen) (e : Ending) (r : Ran)
+    → Executed w work out work′ out′ P allowance e → s ≡ Seen.Passes P t → r ≡ ran-of w (P .count) (length source) t e
     → Answered source w work out work′ out′ allowance s r
-answered-sheet source w work out work′ out′ c d q t allowance s e r x z k = record {
+answered-sheet source w work out work′ out′ P t allowance s e r x z k = record {
   told = λ l y g o m f.
       let p = subst (OfSource source w) z y in
       let b = x .told (p .tokens) (p .program) (p .type) (p .holds) (p .passes .proper .typed) in
       record {
         printed = b .printed;
-        ran = rw k (ended-ran source w l c t (b .printed) e g (rw m f) (p .passes) (rw (m, o) (b .ends)) (p .holds .stand) (p .numbered) (b .counted));
+        ran = rw k (ended-ran source w l (P .count) t (b .printed) e g (rw m f) (p .passes) (rw (m, o) (b .ends)) (p .holds .stand) (p .numbered) (b .counted));
         output = b .output;
       };
   cleared = x .cleared;

@@ -17,6 +17,7 @@ use Rattle.language.specs.Answers.{from-text, nowhere, at, ending, Lent, Enough
 use Rattle.numbers.specs.Meanings.{stop-meant}
 use Rattle.layout.specs.Table.{zeros}
 use Rattle.layout.specs.Decode.{Holds}
+use Rattle.layout.specs.declared.Held.{Held}
 use Rattle.runner.specs.Contract as Runner
 use Rattle.sheets.specs.Sheets.{byte-of, OfSource}
 use Rattle.sheets.specs.declared.Seen.{Seen}
@@ -29,7 +30,8 @@ use Rattle.grumpy.specs.declared.outcomes.Ending.{Ending}
 -- the end of a program that the code's is, with the bytes printed
 abbrev pub ending-meant : Ending → List ℕ → Answers.Ending
 ending-meant (Ending.Value v u n) bs = record { told = passed; spot = nowhere; value = v; units = u; printed = bs }
-ending-meant (Ending.Stopped y i u n) bs = record { told = stopped (stop-meant y); spot = at i; value = pos 0; units = u; printed = bs }
+ending-meant (Ending.Stopped y i u n) bs =
+    record { told = stopped (stop-meant y); spot = at i; value = pos 0; units = u; printed = bs }
 
 abbrev pub printed-in : Ending → ℕ
 printed-in (Ending.Value v u n) = n
@@ -42,8 +44,8 @@ pub record Told (m : Outcome) (allowance : ℕ) (out out′ : List ℕ) (r : End
   pub counted : printed-in r ≡ length printed
   pub output : out′ ≡ printed ++ drop (length printed) out
 
-pub record Executed (table work out work′ out′ : List ℕ) (count defs root allowance : ℕ) (r : Ending) : Type 0 where
-  pub told : (ts : List Token) (p : Program) (t : Ty) → Holds ts table count defs root p → HasType p t
+pub record Executed (table work out work′ out′ : List ℕ) (P : Held) (allowance : ℕ) (r : Ending) : Type 0 where
+  pub told : (ts : List Token) (p : Program) (t : Ty) → Holds ts table P p → HasType p t
       → Told (run p allowance (length out)) allowance out out′ r
   pub cleared : work′ ≡ zeros work 0 WORK
 
@@ -55,7 +57,7 @@ ran-of w count end t (Ending.Stopped y i u n) = Ran.Stopped y (byte-of w count e
 -- ---- a sheet that was examined
 
 abbrev pub Runnable : List ℕ → List ℕ → ℕ → Seen → Type 0
-Runnable table work allowance (Seen.Passes c d r t) = Runner.Sheet table work c d r allowance
+Runnable table work allowance (Seen.Passes P t) = Runner.Loaded table work P allowance
 Runnable table work allowance (Seen.Refused y i) = WORK ≤ length work
 
 -- the report and the output are those of the written run of a source
@@ -66,6 +68,7 @@ pub record Reported (source : List ℕ) (l : Lent) (out out′ : List ℕ) (r : 
 
 -- with memory and allowance in order
 pub record Answered (source table work out work′ out′ : List ℕ) (allowance : ℕ) (s : Seen) (r : Ran) : Type 0 where
-  pub told : (l : Lent) → OfSource source table s → Enough l → l .output ≡ length out → l .allowance ≡ allowance → allowance ≤ ALLOWANCE
+  pub told : (l : Lent) → OfSource source table s → Enough l → l .output ≡ length out → l .allowance ≡ allowance
+      → allowance ≤ ALLOWANCE
       → Reported source l out out′ r
   pub cleared : work′ ≡ zeros work 0 WORK

@@ -17,7 +17,8 @@ use numbers::Refusal;
 use sheets::Seen;
 
 pub fn check(source: &[u8], table: &mut [u32]) -> Checked
-    ensures { λ r. ⌜ Check (from-text (now (source .entry))) (now (table .entry)) (checked-report r) (now (table .exit)) ⌝ }
+    ensures { λ r. ⌜ Check (from-text (now (source .entry))) (now (table .entry)) (checked-report r)
+        (now (table .exit)) ⌝ }
 {
     if table.len() < TABLE {
         return Checked::Refused(Refusal::ShortMemory, 0);
@@ -26,9 +27,7 @@ pub fn check(source: &[u8], table: &mut [u32]) -> Checked
     memory::clear(table, 0, TABLE);
     match seen {
         Seen::Passes {
-            count: _,
-            defs: _,
-            root: _,
+            program: _,
             type_number,
         } => Checked::Passed(type_number),
         Seen::Refused(why, place) => Checked::Refused(why, place),
@@ -43,7 +42,8 @@ pub fn run(
     out: &mut [u8],
     allowance: u64,
 ) -> Ran
-    ensures { λ r. ⌜ Run (from-text (now (source .entry))) (now (table .entry)) (now (work .entry)) (now (out .entry)) allowance (ran-report r) (now (table .exit)) (now (work .exit)) (now (out .exit)) ⌝ }
+    ensures { λ r. ⌜ Run (from-text (now (source .entry))) (now (table .entry)) (now (work .entry)) (now (out .entry))
+        allowance (ran-report r) (now (table .exit)) (now (work .exit)) (now (out .exit)) ⌝ }
 {
     if table.len() < TABLE {
         return Ran::Refused(Refusal::ShortMemory, 0);

@@ -6,10 +6,11 @@ ghost use Rattle.language.specs.Sizes.{TOKENS, TABLE, WORK};
 ghost use Rattle.language.specs.Meaning.{value-number};
 ghost use Rattle.layout.specs.Table.{zeros};
 ghost use Rattle.layout.specs.Values.{meant};
-ghost use Rattle.runner.specs.Contract.{Sheet};
+ghost use Rattle.runner.specs.Contract.{Loaded};
 ghost use Rattle.grumpy.specs.Outcomes.{Executed, ran-of, Runnable, Answered};
 use crate::answers::Ran;
 use language::WORK;
+use layout::Held;
 use layout::memory;
 use layout::values::Value;
 use numbers::Refusal;
@@ -46,19 +47,12 @@ fn reported(v: Value) -> i64
 }
 
 // Runs the program that the table holds.
-fn execute(
-    table: &[u32],
-    work: &mut [u32],
-    out: &mut [u8],
-    count: usize,
-    defs: usize,
-    root: usize,
-    allowance: u32,
-) -> Ending
-    requires { ⌜ Sheet (now table) (now work) count defs root allowance ⌝ }
-    ensures { λ r. ⌜ Executed (now (table .entry)) (now (work .entry)) (now (out .entry)) (now (work .exit)) (now (out .exit)) count defs root allowance r ⌝ }
+fn execute(table: &[u32], work: &mut [u32], out: &mut [u8], program: Held, allowance: u32) -> Ending
+    requires { ⌜ Loaded (now table) (now work) program allowance ⌝ }
+    ensures { λ r. ⌜ Executed (now (table .entry)) (now (work .entry)) (now (out .entry)) (now (work .exit))
+        (now (out .exit)) program allowance r ⌝ }
 {
-    match runner::run(table, work, out, count, defs, root, allowance) {
+    match runner::run(table, work, out, program, allowance) {
         Done::Value(v, spent) => {
             let left = spent.left;
             let used = allowance - left;
@@ -140,17 +134,16 @@ pub fn run_or_refuse(
     allowance: u32,
 ) -> Ran
     requires { ⌜ Runnable (now table) (now work) allowance seen ⌝ }
-    ensures { λ r. ⌜ Answered (now (source .entry)) (now (table .entry)) (now (work .entry)) (now (out .entry)) (now (work .exit)) (now (out .exit)) allowance seen r ⌝ }
+    ensures { λ r. ⌜ Answered (now (source .entry)) (now (table .entry)) (now (work .entry)) (now (out .entry))
+        (now (work .exit)) (now (out .exit)) allowance seen r ⌝ }
 {
     match seen {
         Seen::Passes {
-            count,
-            defs,
-            root,
+            program,
             type_number,
         } => {
-            let ending = execute(table, work, out, count, defs, root, allowance);
-            answer(table, count, source.len(), type_number, ending)
+            let ending = execute(table, work, out, program, allowance);
+            answer(table, program.count, source.len(), type_number, ending)
         }
         Seen::Refused(why, place) => refuse(work, out, why, place),
     }

@@ -3,7 +3,7 @@ use mathlib.Core.List.{List}
 use mathlib.Core.Path.{_≡_, refl, sym, ap, subst, _∙_}
 use Prim.Native.Nat.{ℕ, _≤_, _<_}
 use native.Mathlib.Omega.{arith}
-use lib.IntN.{ℤ, pos}
+use lib.IntN.{ℤ}
 use lib.ListN.{length, set, length-set}
 use mir.Syntax.{w64}
 use mir.Val.{ofZ}
@@ -17,7 +17,8 @@ use Rattle.numbers.specs.declared.Stop.{Stop}
 use Rattle.grumpy.specs.Reports.{checked-report, ran-report}
 use Rattle.grumpy.specs.declared.answers.Checked.{Checked}
 use Rattle.grumpy.specs.declared.answers.Ran.{Ran}
-use Rattle.grumpy_c.specs.Reports.{three, six, check-words, run-words, ToldChecked, ToldRan, CheckedC, check-no-report, check-reported, RanC, run-no-report, run-reported}
+use Rattle.grumpy_c.specs.Reports.{three, six, check-words, run-words, ToldChecked, ToldRan, CheckedC}
+use Rattle.grumpy_c.specs.Reports.{check-no-report, check-reported, RanC, run-no-report, run-reported}
 
 -- ---- lengths
 

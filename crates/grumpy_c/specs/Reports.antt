@@ -2,7 +2,6 @@
 use mathlib.Core.List.{List}
 use mathlib.Core.Path.{_≡_}
 use Prim.Native.Nat.{ℕ, _≤_, _<_}
-use lib.IntN.{ℤ}
 use lib.ListN.{length, set}
 use mir.Syntax.{w64}
 use mir.Val.{ofZ}
@@ -35,13 +34,18 @@ ToldRan a w w′ n = (n ≡ number (ran-report a .told)) × (w′ ≡ run-words 
 
 -- The contract of `grumpy_check`: where the report is long enough, the contract of check, told in words.
 pub data CheckedC (source table report table′ report′ : List ℕ) (n : ℕ) : Type 0 where
-  check-no-report : length report < 3 → n ≡ refusal-number short-memory → table′ ≡ table → report′ ≡ report → CheckedC source table report table′ report′ n
-  check-reported : {r : CheckReport ℕ} → 3 ≤ length report → Check (from-text source) table r table′ → n ≡ number (r .told) → report′ ≡ check-words report r
+  check-no-report : length report < 3 → n ≡ refusal-number short-memory → table′ ≡ table → report′ ≡ report
+      → CheckedC source table report table′ report′ n
+  check-reported : {r : CheckReport ℕ} → 3 ≤ length report → Check (from-text source) table r table′
+      → n ≡ number (r .told) → report′ ≡ check-words report r
       → CheckedC source table report table′ report′ n
 
 -- The contract of `grumpy_run`.
-pub data RanC (source table work out : List ℕ) (allowance : ℕ) (report table′ work′ out′ report′ : List ℕ) (n : ℕ) : Type 0 where
-  run-no-report : length report < 6 → n ≡ refusal-number short-memory → table′ ≡ table → work′ ≡ work → out′ ≡ out → report′ ≡ report
+pub data RanC (source table work out : List ℕ) (allowance : ℕ)
+    (report table′ work′ out′ report′ : List ℕ) (n : ℕ) : Type 0 where
+  run-no-report : length report < 6 → n ≡ refusal-number short-memory → table′ ≡ table → work′ ≡ work → out′ ≡ out
+      → report′ ≡ report
       → RanC source table work out allowance report table′ work′ out′ report′ n
-  run-reported : {r : RunReport ℕ} → 6 ≤ length report → Run (from-text source) table work out allowance r table′ work′ out′ → n ≡ number (r .told)
+  run-reported : {r : RunReport ℕ} → 6 ≤ length report
+      → Run (from-text source) table work out allowance r table′ work′ out′ → n ≡ number (r .told)
       → report′ ≡ run-words report r → RanC source table work out allowance report table′ work′ out′ report′ n

@@ -102,7 +102,8 @@ fn report_ran(report: &mut [u64], answer: Ran) -> u32
 
 #[no_mangle]
 pub extern "C" fn grumpy_check(source: &[u8], table: &mut [u32], report: &mut [u64]) -> u32
-    ensures { λ r. ⌜ CheckedC (now (source .entry)) (now (table .entry)) (now (report .entry)) (now (table .exit)) (now (report .exit)) r ⌝ }
+    ensures { λ r. ⌜ CheckedC (now (source .entry)) (now (table .entry)) (now (report .entry)) (now (table .exit))
+        (now (report .exit)) r ⌝ }
 {
     if report.len() < 3 {
         return 40;
@@ -120,7 +121,8 @@ pub extern "C" fn grumpy_run(
     allowance: u64,
     report: &mut [u64],
 ) -> u32
-    ensures { λ r. ⌜ RanC (now (source .entry)) (now (table .entry)) (now (work .entry)) (now (out .entry)) allowance (now (report .entry)) (now (table .exit)) (now (work .exit)) (now (out .exit)) (now (report .exit)) r ⌝ }
+    ensures { λ r. ⌜ RanC (now (source .entry)) (now (table .entry)) (now (work .entry)) (now (out .entry)) allowance
+        (now (report .entry)) (now (table .exit)) (now (work .exit)) (now (out .exit)) (now (report .exit)) r ⌝ }
 {
     if report.len() < 6 {
         return 40;

@@ -4,7 +4,7 @@ use mathlib.Core.Bool.{true, false}
 use mathlib.Core.List.{List, [], _∷_}
 use Prim.Native.Nat.{ℕ, _+_}
 use lib.ListN.{length}
-use Rattle.language.specs.Tokens.{Token, Row, _is_, At, Means, value-at, spelling-at, NAME, NUMBER, DEF, LET, IN, WHILE, IF, THEN, ELSE, REF, NOT, INT, BOOL, TRUE, FALSE, UNIT, TT, PLUS, MINUS, STAR, SLASH, AND, OR, LESS, EQUAL, BECOMES, IS, BANG, SEMI, COMMA, COLON, LPAR, RPAR, LBRACE, RBRACE}
+use Rattle.language.specs.Tokens.{Token, Entry, _is_, At, Means, value-at, spelling-at, NAME, NUMBER, DEF, LET, IN, WHILE, IF, THEN, ELSE, REF, NOT, INT, BOOL, TRUE, FALSE, UNIT, TT, PLUS, MINUS, STAR, SLASH, AND, OR, LESS, EQUAL, BECOMES, IS, BANG, SEMI, COMMA, COLON, LPAR, RPAR, LBRACE, RBRACE}
 use Rattle.language.specs.Trees.{Ty, int, bool, unit, ref, Literal, whole, truth, trivial, Unary, minus, not, fetch, new, Binary, add, sub, mul, div, less, equal, Exp, name, literal, unary, binary, follow, group, block, call, bind, branch, loop, Exps, last, more, Param, Def, Program}
 
 -- ---- the symbols
@@ -49,22 +49,22 @@ part and = cmp
 part sum = chain prod
 part prod = un
 
-abbrev pub operators : Level → List (Row ℕ Binary)
+abbrev pub operators : Level → List (Entry ℕ Binary)
 operators or = OR is Binary.or ∷ []
 operators and = AND is Binary.and ∷ []
 operators sum = PLUS is add ∷ MINUS is sub ∷ []
 operators prod = STAR is mul ∷ SLASH is div ∷ []
 
-abbrev pub comparisons : List (Row ℕ Binary)
+abbrev pub comparisons : List (Entry ℕ Binary)
 comparisons = LESS is less ∷ EQUAL is equal ∷ []
 
-abbrev pub prefixes : List (Row ℕ Unary)
+abbrev pub prefixes : List (Entry ℕ Unary)
 prefixes = MINUS is minus ∷ NOT is not ∷ BANG is fetch ∷ REF is new ∷ []
 
-abbrev pub constants : List (Row ℕ Literal)
+abbrev pub constants : List (Entry ℕ Literal)
 constants = TRUE is truth true ∷ FALSE is truth false ∷ TT is trivial ∷ []
 
-abbrev pub basics : List (Row ℕ Ty)
+abbrev pub basics : List (Entry ℕ Ty)
 basics = INT is int ∷ BOOL is bool ∷ UNIT is unit ∷ []
 
 -- ---- what Def, its parameters and Program put together

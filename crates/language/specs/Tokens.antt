@@ -150,18 +150,18 @@ RBRACE = 38
 
 -- a row of a table: this stands for that
 infix 70 _is_
-pub data Row (A B : Type 0) : Type 0 where
-  _is_ : A → B → Row A B
+pub data Entry (A B : Type 0) : Type 0 where
+  _is_ : A → B → Entry A B
 
 -- S013, S014: `do` and `end` are reserved and used nowhere
-abbrev pub words : List (Row String ℕ)
+abbrev pub words : List (Entry String ℕ)
 words =
     "def" is DEF ∷ "let" is LET ∷ "in" is IN ∷ "while" is WHILE ∷ "do" is DO ∷ "end" is END ∷ "if" is IF ∷
     "then" is THEN ∷ "else" is ELSE ∷ "ref" is REF ∷ "not" is NOT ∷ "int" is INT ∷ "bool" is BOOL ∷
     "true" is TRUE ∷ "false" is FALSE ∷ "unit" is UNIT ∷ "tt" is TT ∷ "float" is FLOAT ∷ []
 
 -- S017
-abbrev pub marks : List (Row String ℕ)
+abbrev pub marks : List (Entry String ℕ)
 marks =
     "+" is PLUS ∷ "-" is MINUS ∷ "*" is STAR ∷ "/" is SLASH ∷ "&&" is AND ∷ "||" is OR ∷ "<" is LESS ∷
     "==" is EQUAL ∷ ":=" is BECOMES ∷ "=" is IS ∷ "!" is BANG ∷ ";" is SEMI ∷ "," is COMMA ∷ ":" is COLON ∷
@@ -170,19 +170,19 @@ marks =
 -- An edition of the language is a vocabulary: tables of its words and of its marks. All else that is said of texts is the
 -- same in every edition.
 pub record Vocabulary : Type 0 where
-  pub words : List (Row String ℕ)
-  pub marks : List (Row String ℕ)
+  pub words : List (Entry String ℕ)
+  pub marks : List (Entry String ℕ)
 
 abbrev pub EDITION-1 : Vocabulary
 EDITION-1 = record { words = words; marks = marks }
 
 -- the kind that a table of spellings gives
-unfoldable pub spelled : List (Row String ℕ) → Spelling → Option ℕ
+unfoldable pub spelled : List (Entry String ℕ) → Spelling → Option ℕ
 spelled [] s = none
 spelled ((w is k) ∷ rows) s = cond (same (spell w) s) (some k) (spelled rows s)
 
 -- what a table of kinds gives
-unfoldable pub entry : {A : Type 0} → List (Row ℕ A) → ℕ → Option A
+unfoldable pub entry : {A : Type 0} → List (Entry ℕ A) → ℕ → Option A
 entry [] k = none
 entry ((c is a) ∷ rows) k = cond (eqb k c) (some a) (entry rows k)
 
@@ -217,5 +217,5 @@ abbrev pub At : List Token → ℕ → ℕ → Type 0
 At ts i k = kind-at ts i ≡ k
 
 -- token i is of a kind that the table has, and stands for a
-abbrev pub Means : {A : Type 0} → List Token → ℕ → List (Row ℕ A) → A → Type 0
+abbrev pub Means : {A : Type 0} → List Token → ℕ → List (Entry ℕ A) → A → Type 0
 Means ts i rows a = entry rows (kind-at ts i) ≡ some a

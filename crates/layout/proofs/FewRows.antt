@@ -5,7 +5,11 @@ use native.Mathlib.Omega.{arith}
 use lib.ListN.{length}
 use Rattle.language.specs.Tokens.{Token}
 use Rattle.language.specs.Trees.{Def, Program}
-use Rattle.language.specs.Grammar.{Sym, program, def, formals, params, type, seq, bound, item, assign, atom, actuals, args, tier, Of, Reads, Reading, program-seq, program-def, def-is, formals-none, formals-some, params-one, params-more, type-basic, type-ref, seq-let, seq-item, seq-more, let-in, item-if, item-while, item-assign, assign-one, assign-to, chain-one, chain-more, cmp-one, cmp-two, un-prefix, un-atom, atom-name, atom-call, atom-number, atom-constant, atom-group, atom-block, actuals-none, actuals-some, args-one, args-more}
+use Rattle.language.specs.Grammar.{Sym, program, def, formals, params, type, seq, bound, item, assign, atom, actuals, args, tier, Of}
+use Rattle.language.specs.Grammar.{Reads, Reading, program-seq, program-def, def-is, formals-none, formals-some, params-one, params-more}
+use Rattle.language.specs.Grammar.{type-basic, type-ref, seq-let, seq-item, seq-more, let-in, item-if, item-while, item-assign, assign-one}
+use Rattle.language.specs.Grammar.{assign-to, chain-one, chain-more, cmp-one, cmp-two, un-prefix, un-atom, atom-name, atom-call}
+use Rattle.language.specs.Grammar.{atom-number, atom-constant, atom-group, atom-block, actuals-none, actuals-some, args-one, args-more}
 use Rattle.layout.specs.Rows.{below, under, def-rows, defs-rows}
 
 -- the rows of what a symbol is read as; one less for arguments, as the mark before the first is not among their tokens

@@ -94,7 +94,8 @@ module _ (ts : List Token) (ls : List ℕ) where
   }
 
   -- a call, over its arguments
-  pub call-back : (n i k t a b c : ℕ) (es : Exps) → k ≡ CALL → Five ls i k t a b c → i < NODES → shape-of k ≡ some a-call → At ts t NAME → a ≤ i → BackAll n a es
+  pub call-back : (n i k t a b c : ℕ) (es : Exps) → k ≡ CALL → Five ls i k t a b c → i < NODES → shape-of k ≡ some a-call → At ts t NAME → a ≤ i
+      → BackAll n a es
       → Back (suc n) i (build ts a-call t (tree-at n ts ls a) (tree-at n ts ls b) (tree-at n ts ls c) es)
   call-back n i k t a b c es z v h y o l p = record {
     right = row-right n i k t a b c a-call v h y

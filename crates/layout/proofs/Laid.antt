@@ -1,20 +1,25 @@
 -- Every tree that is laid down in rows that a table still has is read back, by induction on the tree.
-use mathlib.Core.Bool.{true, false}
+use mathlib.Core.Bool.{Bool, true, false, _||_}
 use mathlib.Core.List.{List}
 use mathlib.Core.Option.{some}
 use mathlib.Core.Path.{_≡_, refl, sym, ap, subst, _∙_}
 use Prim.Native.Nat.{ℕ, zero, suc, _+_, _*_, _≤_, _<_}
 use native.Mathlib.Omega.{arith}
+use lib.Dec.{eqb}
 use lib.ListN.{length, getD}
 use Rattle.language.specs.Sizes.{NODES}
 use Rattle.language.specs.Tokens.{Token, entry, NAME, NUMBER, TRUE, FALSE, TT, LET, SEMI, LPAR, LBRACE, IF, WHILE}
-use Rattle.language.specs.Trees.{Literal, whole, truth, trivial, Unary, minus, not, fetch, new, Binary, add, sub, mul, div, less, equal, and, or, assign, Exp, name, literal, unary, binary, follow, group, block, call, bind, branch, loop, Exps, last, more}
+use Rattle.language.specs.Trees.{Literal, whole, truth, trivial, Unary, minus, not, fetch, new, Binary, add, sub, mul, div, less, equal, and, or}
+use Rattle.language.specs.Trees.{assign, Exp, name, literal, unary, binary, follow, group, block, call, bind, branch, loop, Exps, last, more}
 use Rattle.layout.specs.Table.{ROWS-AT, put-row}
 use Rattle.layout.specs.Rows.{CALL, ARGUMENT, literal-kind, unary-kind, binary-kind, below, under, head, lay, lay-all}
-use Rattle.layout.specs.Decode.{Shape, a-name, a-number, a-follow, a-group, a-block, a-let, an-if, a-while, a-constant, a-unary, a-binary, shape-of, children, build}
+use Rattle.layout.specs.Decode.{Shape, a-name, a-number, a-follow, a-group, a-block, a-let, an-if}
+use Rattle.layout.specs.Decode.{a-while, a-constant, a-unary, a-binary, shape-of, children, build}
+use Rattle.layout.proofs.Shapes.{unary-high, binary-between}
 use Rattle.layout.proofs.TableLaws.{Five, put-row-five, put-row-before}
 use Rattle.layout.proofs.LayLaws.{length-lay, length-lay-all, lay-before, lay-all-before}
-use Rattle.layout.proofs.Owned.{Owned, OwnedLiteral, owned-whole, owned-name, owned-literal, owned-unary, owned-binary, owned-follow, owned-group, owned-block, owned-call, owned-bind, owned-branch, owned-loop, OwnedAll, owned-last, owned-more}
+use Rattle.layout.proofs.Owned.{Owned, OwnedLiteral, owned-whole, owned-name, owned-literal, owned-unary, owned-binary, owned-follow}
+use Rattle.layout.proofs.Owned.{owned-group, owned-block, owned-call, owned-bind, owned-branch, owned-loop, OwnedAll, owned-last, owned-more}
 use Rattle.layout.proofs.Holding.{Back, BackAll, Tokens, no-tokens, leaf-back, one-back, two-back, three-back, call-back, none-back, argument-back}
 
 -- ---- the kinds of operators
@@ -25,13 +30,6 @@ unary-shape minus = refl
 unary-shape not = refl
 unary-shape fetch = refl
 unary-shape new = refl
-
-unary-range : (o : Unary) → 64 ≤ unary-kind o
-unfolding unary-kind
-unary-range minus = omega arith
-unary-range not = omega arith
-unary-range fetch = omega arith
-unary-range new = omega arith
 
 binary-shape : (o : Binary) → shape-of (binary-kind o) ≡ some (a-binary o)
 unfolding shape-of entry binary-kind
@@ -45,18 +43,6 @@ binary-shape and = refl
 binary-shape or = refl
 binary-shape assign = refl
 
-pub binary-range : (o : Binary) → (21 ≤ binary-kind o) × (binary-kind o ≤ 29)
-unfolding binary-kind
-binary-range add = (omega arith, omega arith)
-binary-range sub = (omega arith, omega arith)
-binary-range mul = (omega arith, omega arith)
-binary-range div = (omega arith, omega arith)
-binary-range less = (omega arith, omega arith)
-binary-range equal = (omega arith, omega arith)
-binary-range and = (omega arith, omega arith)
-binary-range or = (omega arith, omega arith)
-binary-range assign = (omega arith, omega arith)
-
 -- ---- where a list of arguments begins
 
 head-most : (es : Exps) (f : ℕ) → head f es ≤ f + under es
@@ -68,6 +54,14 @@ head-less : (es : Exps) (f : ℕ) → 0 < f → head f es < f + under es
 unfolding head below
 head-less last f h = omega arith
 head-less (more e es) f h = omega arith
+
+-- ---- kinds whose token is asked for
+
+abbrev asks : ℕ → Bool
+asks k = eqb k NAME || eqb k NUMBER || eqb k CALL || eqb k LET
+
+asked : (k c : ℕ) → asks k ≡ false → asks c ≡ true → k ≡ c → ⊥
+asked k c p q e = let z : _≡_ {A = ℕ} 0 1 = cc (ap asks e) in omega arith
 
 -- ---- rows that a table still has
 
@@ -145,9 +139,9 @@ module _ (ts : List Token) (ls : List ℕ) where
         → Agree ls (put-row w f k t 0 0 0) f (f + 1) → Back ts ls (suc m) f z
     none-laid n q h g = leaf-back ts ls m f k t 0 0 0 s z (last-row w f k t 0 0 0 f (omega arith) (omega arith) g) h y n x o (q _ _ _ _)
 
-  -- kinds that ask nothing of the tokens
-  plain : (k t : ℕ) → (k ≡ NAME → ⊥) → (k ≡ NUMBER → ⊥) → (k ≡ CALL → ⊥) → (k ≡ LET → ⊥) → Tokens ts ls k t
-  plain k t a b c d = no-tokens ts ls k t a b c d
+  -- a kind that asks nothing of the tokens
+  plain : (k t : ℕ) → asks k ≡ false → Tokens ts ls k t
+  plain k t q = no-tokens ts ls k t (asked k NAME q refl) (asked k NUMBER q refl) (asked k CALL q refl) (asked k LET q refl)
 
   constant-laid : (i : ℕ) (x : Literal) (w : List ℕ) (f m : ℕ) → OwnedLiteral ts i x → f < NODES → ROWS-AT + 5 * NODES ≤ length w
       → Agree ls (put-row w f (literal-kind x) i 0 0 0) f (f + 1) → Back ts ls (suc m) f (literal i x)
@@ -158,22 +152,25 @@ module _ (ts : List Token) (ls : List ℕ) where
       l refl (λ _ _ _ _. ap (λ (z : ℕ). literal i (whole z)) (sym y)) h g
   constant-laid i (truth true) w f m o h l g =
       none-laid TRUE i (a-constant (truth true)) _ w f m refl (λ e. omega arith)
-      (plain _ _ (λ e. omega arith) (λ e. omega arith) (λ e. omega arith) λ e. omega arith) l refl (λ _ _ _ _. refl) h g
+      (plain _ _ refl) l refl (λ _ _ _ _. refl) h g
   constant-laid i (truth false) w f m o h l g =
       none-laid FALSE i (a-constant (truth false)) _ w f m refl (λ e. omega arith)
-      (plain _ _ (λ e. omega arith) (λ e. omega arith) (λ e. omega arith) λ e. omega arith) l refl (λ _ _ _ _. refl) h g
+      (plain _ _ refl) l refl (λ _ _ _ _. refl) h g
   constant-laid i trivial w f m o h l g =
       none-laid TT i (a-constant trivial) _ w f m refl (λ e. omega arith)
-      (plain _ _ (λ e. omega arith) (λ e. omega arith) (λ e. omega arith) λ e. omega arith) l refl (λ _ _ _ _. refl) h g
+      (plain _ _ refl) l refl (λ _ _ _ _. refl) h g
 
   unary-plain : (o : Unary) (t : ℕ) → Tokens ts ls (unary-kind o) t
-  unary-plain o t =
-      plain _ _ (λ e. omega (arith, unary-range o)) (λ e. omega (arith, unary-range o)) (λ e. omega (arith, unary-range o)) λ e. omega (arith, unary-range o)
+  unfolding unary-kind
+  unary-plain minus t = plain _ t refl
+  unary-plain not t = plain _ t refl
+  unary-plain fetch t = plain _ t refl
+  unary-plain new t = plain _ t refl
 
   binary-plain : (o : Binary) (t : ℕ) → Tokens ts ls (binary-kind o) t
   binary-plain o t =
-      let r = binary-range o in
-      plain _ _ (λ e. omega arith) (λ e. omega arith) (λ e. omega arith) λ e. omega arith
+      let r = binary-between o in
+      no-tokens ts ls _ t (λ e. omega arith) (λ e. omega arith) (λ e. omega arith) λ e. omega arith
 
   -- ---- every tree
 
@@ -192,46 +189,55 @@ module _ (ts : List Token) (ls : List ℕ) where
     laid-back (unary i o e) w f zero d h l (owned-unary x) g = absurd (omega arith)
     laid-back (unary i o e) w f (suc m) d h l (owned-unary x) g =
         to {j = f + below e + 1} (omega arith)
-        (one-laid (unary-kind o) i (a-unary o) _ w f (suc m) (unary-shape o) (λ e. omega (arith, unary-range o)) (unary-plain o i) l e refl (λ _ _ _. refl) (omega arith)
+        (one-laid (unary-kind o) i (a-unary o) _ w f (suc m) (unary-shape o) (λ e. omega (arith, unary-high o)) (unary-plain o i) l e refl
+        (λ _ _ _. refl) (omega arith)
         (laid-back e w f m (omega arith) (omega arith) l x) (λ j p q. g j p (omega arith)))
     laid-back (group i e) w f zero d h l (owned-group x) g = absurd (omega arith)
     laid-back (group i e) w f (suc m) d h l (owned-group x) g =
         to {j = f + below e + 1} (omega arith)
-        (one-laid LPAR i a-group _ w f (suc m) refl (λ e. omega arith) (plain _ _ (λ e. omega arith) (λ e. omega arith) (λ e. omega arith) λ e. omega arith) l e refl (λ _ _ _. refl) (omega arith)
+        (one-laid LPAR i a-group _ w f (suc m) refl (λ e. omega arith) (plain _ _ refl) l e refl (λ _ _ _. refl) (omega arith)
         (laid-back e w f m (omega arith) (omega arith) l x) (λ j p q. g j p (omega arith)))
     laid-back (block i e) w f zero d h l (owned-block x) g = absurd (omega arith)
     laid-back (block i e) w f (suc m) d h l (owned-block x) g =
         to {j = f + below e + 1} (omega arith)
-        (one-laid LBRACE i a-block _ w f (suc m) refl (λ e. omega arith) (plain _ _ (λ e. omega arith) (λ e. omega arith) (λ e. omega arith) λ e. omega arith) l e refl (λ _ _ _. refl) (omega arith)
+        (one-laid LBRACE i a-block _ w f (suc m) refl (λ e. omega arith) (plain _ _ refl) l e refl (λ _ _ _. refl) (omega arith)
         (laid-back e w f m (omega arith) (omega arith) l x) (λ j p q. g j p (omega arith)))
     laid-back (binary i o a b) w f zero d h l (owned-binary x y) g = absurd (omega arith)
     laid-back (binary i o a b) w f (suc m) d h l (owned-binary x y) g =
         to {j = f + below a + 1 + below b + 1} (omega arith)
-        (two-laid (binary-kind o) i (a-binary o) _ w f (suc m) (binary-shape o) (λ e. omega (arith, (binary-range o) .1)) (binary-plain o i) l a b (f + below a + 1) _ refl refl refl (λ _ _. refl) (omega arith)
-        (laid-back a w f m (omega arith) (omega arith) l x) (laid-back b (lay w f a) (f + below a + 1) m (omega arith) (omega arith) (rw (length-lay a w f) l) y)
+        (two-laid (binary-kind o) i (a-binary o) _ w f (suc m) (binary-shape o) (λ e. omega (arith, (binary-between o) .1)) (binary-plain o i)
+        l a b (f + below a + 1) _ refl refl refl (λ _ _. refl) (omega arith)
+        (laid-back a w f m (omega arith) (omega arith) l x)
+        (laid-back b (lay w f a) (f + below a + 1) m (omega arith) (omega arith) (rw (length-lay a w f) l) y)
         (λ j p q. g j p (omega arith)))
     laid-back (follow i a b) w f zero d h l (owned-follow x y) g = absurd (omega arith)
     laid-back (follow i a b) w f (suc m) d h l (owned-follow x y) g =
         to {j = f + below a + 1 + below b + 1} (omega arith)
-        (two-laid SEMI i a-follow _ w f (suc m) refl (λ e. omega arith) (plain _ _ (λ e. omega arith) (λ e. omega arith) (λ e. omega arith) λ e. omega arith) l a b (f + below a + 1) _ refl refl refl (λ _ _. refl) (omega arith)
-        (laid-back a w f m (omega arith) (omega arith) l x) (laid-back b (lay w f a) (f + below a + 1) m (omega arith) (omega arith) (rw (length-lay a w f) l) y)
+        (two-laid SEMI i a-follow _ w f (suc m) refl (λ e. omega arith) (plain _ _ refl) l a b (f + below a + 1) _ refl refl refl (λ _ _. refl) (omega arith)
+        (laid-back a w f m (omega arith) (omega arith) l x)
+        (laid-back b (lay w f a) (f + below a + 1) m (omega arith) (omega arith) (rw (length-lay a w f) l) y)
         (λ j p q. g j p (omega arith)))
     laid-back (loop i a b) w f zero d h l (owned-loop x y) g = absurd (omega arith)
     laid-back (loop i a b) w f (suc m) d h l (owned-loop x y) g =
         to {j = f + below a + 1 + below b + 1} (omega arith)
-        (two-laid WHILE i a-while _ w f (suc m) refl (λ e. omega arith) (plain _ _ (λ e. omega arith) (λ e. omega arith) (λ e. omega arith) λ e. omega arith) l a b (f + below a + 1) _ refl refl refl (λ _ _. refl) (omega arith)
-        (laid-back a w f m (omega arith) (omega arith) l x) (laid-back b (lay w f a) (f + below a + 1) m (omega arith) (omega arith) (rw (length-lay a w f) l) y)
+        (two-laid WHILE i a-while _ w f (suc m) refl (λ e. omega arith) (plain _ _ refl) l a b (f + below a + 1) _ refl refl refl (λ _ _. refl) (omega arith)
+        (laid-back a w f m (omega arith) (omega arith) l x)
+        (laid-back b (lay w f a) (f + below a + 1) m (omega arith) (omega arith) (rw (length-lay a w f) l) y)
         (λ j p q. g j p (omega arith)))
     laid-back (bind i n a b) w f zero d h l (owned-bind k z x y) g = absurd (omega arith)
     laid-back (bind i n a b) w f (suc m) d h l (owned-bind k z x y) g =
         to {j = f + below a + 1 + below b + 1} (omega arith)
-        (two-laid LET i a-let _ w f (suc m) refl (λ e. omega arith) (record { named = λ e. absurd (omega arith); valued = λ e. absurd (omega arith); called = λ e. absurd (omega arith); bound = λ _. k }) l a b (f + below a + 1) _ refl refl refl (λ _ _. ap (λ (u : List ℕ). bind i u a b) (sym z)) (omega arith)
-        (laid-back a w f m (omega arith) (omega arith) l x) (laid-back b (lay w f a) (f + below a + 1) m (omega arith) (omega arith) (rw (length-lay a w f) l) y)
+        (two-laid LET i a-let _ w f (suc m) refl (λ e. omega arith)
+        (record { named = λ e. absurd (omega arith); valued = λ e. absurd (omega arith); called = λ e. absurd (omega arith); bound = λ _. k })
+        l a b (f + below a + 1) _ refl refl refl (λ _ _. ap (λ (u : List ℕ). bind i u a b) (sym z)) (omega arith)
+        (laid-back a w f m (omega arith) (omega arith) l x)
+        (laid-back b (lay w f a) (f + below a + 1) m (omega arith) (omega arith) (rw (length-lay a w f) l) y)
         (λ j p q. g j p (omega arith)))
     laid-back (branch i c a b) w f zero d h l (owned-branch x y z) g = absurd (omega arith)
     laid-back (branch i c a b) w f (suc m) d h l (owned-branch x y z) g =
         to {j = f + below c + 1 + below a + 1 + below b + 1} (omega arith)
-        (three-laid IF i an-if _ w f (suc m) refl (λ e. omega arith) (plain _ _ (λ e. omega arith) (λ e. omega arith) (λ e. omega arith) λ e. omega arith) l c a b (f + below c + 1) (f + below c + 1 + below a + 1) _ refl refl refl (λ _. refl)
+        (three-laid IF i an-if _ w f (suc m) refl (λ e. omega arith) (plain _ _ refl) l c a b (f + below c + 1) (f + below c + 1 + below a + 1) _
+        refl refl refl (λ _. refl)
         (omega arith) (laid-back c w f m (omega arith) (omega arith) l x)
         (laid-back a (lay w f c) (f + below c + 1) m (omega arith) (omega arith) (rw (length-lay c w f) l) y)
         (laid-back b (lay (lay w f c) (f + below c + 1) a) (f + below c + 1 + below a + 1) m (omega arith) (omega arith)
@@ -241,7 +247,8 @@ module _ (ts : List Token) (ls : List ℕ) where
         let r : ROWS-AT + 5 * (f + under es) + 5 ≤ length (lay-all w f i es) = rw (length-lay-all es w f i) (omega arith) in
         let v = last-row (lay-all w f i es) (f + under es) CALL i (head f es) 0 0 f r (omega arith) g in
         let u = rows-before (lay-all w f i es) (f + under es) CALL i (head f es) 0 0 f r (omega arith) g in
-        let p = call-back ts ls m (f + under es) CALL i (head f es) 0 0 es refl v (omega arith) refl k (head-most es f) (all-laid es w f m i (omega arith) (omega arith) l x u) in
+        let p = call-back ts ls m (f + under es) CALL i (head f es) 0 0 es refl v (omega arith) refl k (head-most es f)
+        (all-laid es w f m i (omega arith) (omega arith) l x u) in
         subst (λ (y : List ℕ). Back ts ls (suc m) (f + under es) (call i y es)) (sym z) p
 
     -- and every list of arguments
@@ -255,13 +262,15 @@ module _ (ts : List Token) (ls : List ℕ) where
         let i = f + below e + 1 + under es in
         let r : ROWS-AT + 5 * (f + below e + 1 + under es) + 5 ≤ length (lay-all (lay w f e) (f + below e + 1) t es) =
         rw (length-lay-all es (lay w f e) (f + below e + 1) t, length-lay e w f) (omega arith) in
-        let g′ : Agree ls (put-row (lay-all (lay w f e) (f + below e + 1) t es) (f + below e + 1 + under es) ARGUMENT t (f + below e) (head (f + below e + 1) es) 0)
-        f (f + below e + 1 + under es + 1) = (λ j p q. g j p (omega arith)) in
+        let g′ : Agree ls (put-row (lay-all (lay w f e) b t es) i ARGUMENT t (f + below e) (head b es) 0) f (i + 1) =
+        (λ j p q. g j p (omega arith)) in
         let v = last-row (lay-all (lay w f e) b t es) i ARGUMENT t (f + below e) (head b es) 0 f r (omega arith) g′ in
         let u = rows-before (lay-all (lay w f e) b t es) i ARGUMENT t (f + below e) (head b es) 0 f r (omega arith) g′ in
         argument-back ts ls (suc m) i ARGUMENT t _ _ _ e es v (omega arith) (omega arith)
         (laid-back e w f m (omega arith) (omega arith) l x (λ j p q. u j p (omega arith) ∙ lay-all-before es (lay w f e) b t j (omega arith)))
-        (head-less es b (omega arith)) (all-laid es (lay w f e) b (suc m) t (omega arith) (omega arith) (rw (length-lay e w f) l) y (λ j p q. u j (omega arith) (omega arith)))
+        (head-less es b (omega arith))
+        (all-laid es (lay w f e) b (suc m) t (omega arith) (omega arith) (rw (length-lay e w f) l) y
+        (λ j p q. u j (omega arith) (omega arith)))
 
 -- a tree just laid down is read back
 pub laid : (ts : List Token) (e : Exp) (w : List ℕ) (f m : ℕ) → below e ≤ m → f + below e < NODES → ROWS-AT + 5 * NODES ≤ length w → Owned ts e

@@ -53,9 +53,11 @@ mutual
   lay-other (unary i o e) w f g j l h =
       row-outside _ f g _ _ _ _ _ _ j (omega arith) (omega arith) h ∙ lay-other e w f g j (omega arith) h
   lay-other (binary i o e u) w f g j l h =
-      row-outside _ f g _ _ _ _ _ _ j (omega arith) (omega arith) h ∙ lay-other u _ _ g j (omega arith) (narrower (omega arith) (omega arith) h) ∙ lay-other e w f g j (omega arith) h
+      row-outside _ f g _ _ _ _ _ _ j (omega arith) (omega arith) h ∙ lay-other u _ _ g j (omega arith) (narrower (omega arith) (omega arith) h)
+      ∙ lay-other e w f g j (omega arith) h
   lay-other (follow i e u) w f g j l h =
-      row-outside _ f g _ _ _ _ _ _ j (omega arith) (omega arith) h ∙ lay-other u _ _ g j (omega arith) (narrower (omega arith) (omega arith) h) ∙ lay-other e w f g j (omega arith) h
+      row-outside _ f g _ _ _ _ _ _ j (omega arith) (omega arith) h ∙ lay-other u _ _ g j (omega arith) (narrower (omega arith) (omega arith) h)
+      ∙ lay-other e w f g j (omega arith) h
   lay-other (group i e) w f g j l h =
       row-outside _ f g _ _ _ _ _ _ j (omega arith) (omega arith) h ∙ lay-other e w f g j (omega arith) h
   lay-other (block i e) w f g j l h =
@@ -63,12 +65,14 @@ mutual
   lay-other (call i x es) w f g j l h =
       row-outside _ f g _ _ _ _ _ _ j (omega arith) (omega arith) h ∙ lay-all-other es w f g i j (omega arith) h
   lay-other (bind i x e u) w f g j l h =
-      row-outside _ f g _ _ _ _ _ _ j (omega arith) (omega arith) h ∙ lay-other u _ _ g j (omega arith) (narrower (omega arith) (omega arith) h) ∙ lay-other e w f g j (omega arith) h
+      row-outside _ f g _ _ _ _ _ _ j (omega arith) (omega arith) h ∙ lay-other u _ _ g j (omega arith) (narrower (omega arith) (omega arith) h)
+      ∙ lay-other e w f g j (omega arith) h
   lay-other (branch i c e u) w f g j l h =
       row-outside _ f g _ _ _ _ _ _ j (omega arith) (omega arith) h ∙ lay-other u _ _ g j (omega arith) (narrower (omega arith) (omega arith) h)
       ∙ lay-other e _ _ g j (omega arith) (narrower (omega arith) (omega arith) h) ∙ lay-other c w f g j (omega arith) h
   lay-other (loop i c e) w f g j l h =
-      row-outside _ f g _ _ _ _ _ _ j (omega arith) (omega arith) h ∙ lay-other e _ _ g j (omega arith) (narrower (omega arith) (omega arith) h) ∙ lay-other c w f g j (omega arith) h
+      row-outside _ f g _ _ _ _ _ _ j (omega arith) (omega arith) h ∙ lay-other e _ _ g j (omega arith) (narrower (omega arith) (omega arith) h)
+      ∙ lay-other c w f g j (omega arith) h
 
   pub lay-all-other : (es : Exps) (w : List ℕ) (f g i j : ℕ) → f + under es ≤ g → Outside f g j → getD (lay-all w f i es) j 0 ≡ getD w j 0
   lay-all-other last w f g i j l h = refl

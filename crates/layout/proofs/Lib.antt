@@ -1,13 +1,13 @@
 pub mod Signed
 pub mod Clearing
+pub mod Shapes
 pub mod TableLaws
 pub mod LayLaws
 pub mod Owned
 pub mod Holding
 pub mod Laid
 pub mod FewRows
-pub mod Held
-pub mod NodesInRows
+pub mod HeldPrograms
 pub mod Wiped
 pub mod NameLaws
 pub mod TokenLaws

@@ -12,7 +12,7 @@ use Rattle.language.specs.Sizes.{TOKENS}
 use Rattle.language.specs.Tokens.{Spelling, same, Token, NAME, PAST, past, kind-at, spelling-at, At}
 use Rattle.language.specs.Trees.{PUTCHAR}
 use Rattle.layout.specs.Table.{token-value}
-use Rattle.layout.specs.Names.{first-from, name-number, Named, payload, Stand}
+use Rattle.layout.specs.Names.{first-from, name-number, Named, value-word, Stand}
 use Rattle.layout.proofs.TokenLaws.{same-self}
 
 -- ---- spellings
@@ -126,7 +126,7 @@ name-inside ts i e = go (decLt i (length ts))
 -- the fourth word of a token that is a name is its number
 pub named-at : {w : List ℕ} {count : ℕ} {ts : List Token} → Stand w count ts → (i : ℕ) → At ts i NAME
     → Named ts (token-value w i) (spelling-at ts i)
-unfolding kind-at spelling-at payload
+unfolding kind-at spelling-at value-word
 named-at {w} {count} {ts} st i e =
     let l = name-inside ts i e in
     record { at = i; inside = l; spelled = refl; number = st .values i (omega (arith, st .long)) ∙ rw e refl }

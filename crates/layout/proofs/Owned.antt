@@ -6,8 +6,13 @@ use mathlib.Core.Path.{_≡_, refl, subst}
 use Prim.Native.Nat.{ℕ, _+_}
 use lib.Dec.{eqb}
 use Rattle.language.specs.Tokens.{Token, At, kind-at, entry, value-at, spelling-at, NAME, NUMBER, TRUE, FALSE, TT}
-use Rattle.language.specs.Trees.{Literal, whole, truth, trivial, Exp, name, literal, unary, binary, follow, group, block, call, bind, branch, loop, Exps, last, more, Param, Def, Program}
-use Rattle.language.specs.Grammar.{Sym, program, def, formals, params, type, seq, bound, item, assign, atom, actuals, args, tier, Of, constants, Reads, Reading, program-seq, program-def, def-is, formals-none, formals-some, params-one, params-more, type-basic, type-ref, seq-let, seq-item, seq-more, let-in, item-if, item-while, item-assign, assign-one, assign-to, chain-one, chain-more, cmp-one, cmp-two, un-prefix, un-atom, atom-name, atom-call, atom-number, atom-constant, atom-group, atom-block, actuals-none, actuals-some, args-one, args-more}
+use Rattle.language.specs.Trees.{Literal, whole, truth, trivial, Exp, name, literal, unary, binary, follow}
+use Rattle.language.specs.Trees.{group, block, call, bind, branch, loop, Exps, last, more, Param, Def, Program}
+use Rattle.language.specs.Grammar.{Sym, program, def, formals, params, type, seq, bound, item, assign, atom, actuals, args, tier, Of}
+use Rattle.language.specs.Grammar.{constants, Reads, Reading, program-seq, program-def, def-is, formals-none, formals-some, params-one}
+use Rattle.language.specs.Grammar.{params-more, type-basic, type-ref, seq-let, seq-item, seq-more, let-in, item-if, item-while, item-assign}
+use Rattle.language.specs.Grammar.{assign-one, assign-to, chain-one, chain-more, cmp-one, cmp-two, un-prefix, un-atom, atom-name, atom-call}
+use Rattle.language.specs.Grammar.{atom-number, atom-constant, atom-group, atom-block, actuals-none, actuals-some, args-one, args-more}
 
 -- a literal at token i
 pub data OwnedLiteral (ts : List Token) (i : ℕ) : Literal → Type 0 where

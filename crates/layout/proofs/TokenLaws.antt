@@ -13,7 +13,7 @@ use Prim.Native.Nat.{ℕ, zero, suc, _+_, _*_, _≤_, _<_}
 use Rattle.language.proofs.Text.Choices.{either}
 use Rattle.language.specs.Sizes.{TOKENS, TABLE, LARGEST}
 use Rattle.language.specs.Tokens.{Spelling, same, Token, NUMBER, past, kind-at, value-at, spelling-at, place-at, At}
-use Rattle.layout.specs.Names.{first-from, name-number, payload, lay-tokens, Stand}
+use Rattle.layout.specs.Names.{first-from, name-number, value-word, lay-tokens, Stand}
 use Rattle.layout.specs.Table.{ROWS-AT, token-place, token-end, token-value, kind-of, put-token}
 use Rattle.layout.proofs.TableLaws.{kind-same}
 
@@ -47,17 +47,17 @@ first-append n (t ∷ ts) us s (suc i) h e =
     ap (λ x. cond (same (t .spelling) s) n x) (first-append (suc n) ts us s i (omega arith) e)
 
 -- the fourth word of a token is the same when tokens follow
-pub payload-append : (ts us : List Token) (i : ℕ) → i < length ts
-    → payload (ts ++ us) (getD ts i past) ≡ payload ts (getD ts i past)
-unfolding payload name-number
-payload-append ts us i h =
+pub value-append : (ts us : List Token) (i : ℕ) → i < length ts
+    → value-word (ts ++ us) (getD ts i past) ≡ value-word ts (getD ts i past)
+unfolding value-word name-number
+value-append ts us i h =
     let s = getD ts i past .spelling in
     rw (first-append 0 ts us s i h (same-self s))
 
 -- ---- tokens written one after the other
 
 lay-like : (ts us : List Token) (w : List ℕ) (n : ℕ) (vs : List Token)
-    → ((i : ℕ) → i < length vs → payload ts (getD vs i past) ≡ payload us (getD vs i past))
+    → ((i : ℕ) → i < length vs → value-word ts (getD vs i past) ≡ value-word us (getD vs i past))
     → lay-tokens ts w n vs ≡ lay-tokens us w n vs
 unfolding lay-tokens
 lay-like ts us w n [] f = refl
@@ -74,11 +74,11 @@ lay-append ts w n (u ∷ us) vs =
 -- the table of one token more
 pub lay-more : (ts : List Token) (u : Token) (w : List ℕ)
     → lay-tokens (ts ++ (u ∷ [])) w 0 (ts ++ (u ∷ []))
-    ≡ put-token (lay-tokens ts w 0 ts) (length ts) (u .kind) (u .place) (u .place + length (u .spelling)) (payload (ts ++ (u ∷ [])) u)
+    ≡ put-token (lay-tokens ts w 0 ts) (length ts) (u .kind) (u .place) (u .place + length (u .spelling)) (value-word (ts ++ (u ∷ [])) u)
 unfolding lay-tokens
 lay-more ts u w =
     let us = ts ++ (u ∷ []) in
-    let e : lay-tokens us w 0 ts ≡ lay-tokens ts w 0 ts = lay-like us ts w 0 ts (payload-append ts (u ∷ [])) in
+    let e : lay-tokens us w 0 ts ≡ lay-tokens ts w 0 ts = lay-like us ts w 0 ts (value-append ts (u ∷ [])) in
     lay-append us w 0 ts (u ∷ []) ∙ rw (e, zero-add (length ts))
 
 -- ---- tokens read back
@@ -137,7 +137,7 @@ module _ (ts : List Token) where
 
   -- the four words of the token u, one of ts
   abbrev pub Token-in : List ℕ → ℕ → Token → Type 0
-  Token-in w i u = Holds w i (u .kind) (u .place) (u .place + length (u .spelling)) (payload ts u)
+  Token-in w i u = Holds w i (u .kind) (u .place) (u .place + length (u .spelling)) (value-word ts u)
 
   lay-keeps : (w : List ℕ) (n : ℕ) (us : List Token) (u : Token) → Token-in w n u → Token-in (lay-tokens ts w (n + 1) us) n u
   lay-keeps w n us u h =
@@ -155,7 +155,7 @@ module _ (ts : List Token) where
   lay-from w n (u ∷ us) l zero h = rw (add-zero n) (lay-keeps _ n us u (put-holds w n _ _ _ _ (omega arith)))
   lay-from w n (u ∷ us) l (suc i) h =
       let z : n + suc i ≡ n + 1 + i = omega arith in
-      let x = put-length w n (u .kind) (u .place) (u .place + length (u .spelling)) (payload ts u) in
+      let x = put-length w n (u .kind) (u .place) (u .place + length (u .spelling)) (value-word ts u) in
       rw z (lay-from _ (n + 1) us (omega arith) i (omega arith))
 
 -- each token is read back

@@ -1,116 +1,22 @@
 -- A table reads back the same reading whatever its variables are: trees, functions and tokens lie before them.
-use mathlib.Core.Bool.{Bool, true, false, cond}
 use mathlib.Core.List.{List, [], _∷_}
-use mathlib.Core.Option.{some}
 use mathlib.Core.Path.{_≡_, refl, sym, ap, ap₂, subst, _∙_}
 use Prim.Native.Nat.{ℕ, zero, suc, _+_, _*_, _≤_, _<_}
 use native.Mathlib.Decide.{ℕ-discrete}
 use native.Mathlib.Omega.{arith}
-use lib.Dec.{eqb}
 use lib.ListN.{length, getD}
-use borrow.Author.Tests.{eqb-true, eq-eqb, ne-eqb}
+use borrow.Author.Tests.{eq-eqb, ne-eqb}
 use Rattle.language.specs.Sizes.{TOKENS, NODES}
-use Rattle.language.specs.Tokens.{Token, Row, _is_, entry, NAME, NUMBER, LET, WHILE, IF, SEMI, LPAR, LBRACE}
+use Rattle.language.specs.Tokens.{Token}
 use Rattle.language.specs.Trees.{Exp, Exps, more, Param, Def, Program}
 use Rattle.layout.specs.Table.{ROWS-AT, FUNCTIONS-AT, VARIABLES-AT, row-word, without-variables}
 use Rattle.layout.proofs.TokenLaws.{stand-same}
+use Rattle.layout.proofs.Shapes.{shape-kind, kind-of-shape}
 use Rattle.layout.proofs.VariablesWords.{length-without, without-before}
-use Rattle.layout.specs.Rows.{CALL, literal-kind, unary-kind, binary-kind}
-use Rattle.layout.specs.Decode.{Shape, a-name, a-number, a-follow, a-group, a-block, a-call, a-let, an-if, a-while, a-constant, a-unary, a-binary, shapes, shape-of, children, build, build-if, tree-at, args-at, Right, RightArgs, ParamsAt, params-none, params-more, FunctionAt, FunctionsAt, functions-none, functions-more, Holds}
-
--- ---- the kind of row that a shape has
-
--- the kind of its rows
-unfoldable pub shape-kind : Shape → ℕ
-shape-kind a-name = NAME
-shape-kind a-number = NUMBER
-shape-kind a-follow = SEMI
-shape-kind a-group = LPAR
-shape-kind a-block = LBRACE
-shape-kind a-call = CALL
-shape-kind a-let = LET
-shape-kind an-if = IF
-shape-kind a-while = WHILE
-shape-kind (a-constant l) = literal-kind l
-shape-kind (a-unary o) = unary-kind o
-shape-kind (a-binary o) = binary-kind o
-
--- each row of a table of shapes has its shape's kind
-abbrev Fitting : List (Row ℕ Shape) → Type 0
-Fitting [] = Unit {0}
-Fitting ((c is s) ∷ rows) = (c ≡ shape-kind s) × Fitting rows
-
-entry-kind : (rows : List (Row ℕ Shape)) (k : ℕ) (s : Shape) → Fitting rows → entry rows k ≡ some s → k ≡ shape-kind s
-unfolding entry
-entry-kind [] k s h e = absurd (let z : _≡_ {A = ℕ} 0 1 = cc in omega arith)
-entry-kind ((c is t) ∷ rows) k s h e = go (eqb k c) refl e λ d. entry-kind rows k s (h .1) d
-  where
-    go : (b : Bool) → eqb k c ≡ b → cond b (some t) (entry rows k) ≡ some s → (entry rows k ≡ some s → k ≡ shape-kind s) → k ≡ shape-kind s
-    go true p d ih = let q : t ≡ s = cc in eqb-true k c p ∙ h .0 ∙ ap shape-kind q
-    go false p d ih = ih d
-
-fitting : Fitting shapes
-unfolding shape-kind literal-kind unary-kind binary-kind
-fitting = (
-  refl,
-  (
-    refl,
-    (
-      refl,
-      (
-        refl,
-        (
-          refl,
-          (
-            refl,
-            (
-              refl,
-              (
-                refl,
-                (
-                  refl,
-                  (
-                    refl,
-                    (
-                      refl,
-                      (
-                        refl,
-                        (
-                          refl,
-                          (
-                            refl,
-                            (
-                              refl,
-                              (
-                                refl,
-                                (
-                                  refl,
-                                  (
-                                    refl,
-                                    (refl, (refl, (refl, (refl, (refl, (refl, (refl, tt))))))),
-                                  ),
-                                ),
-                              ),
-                            ),
-                          ),
-                        ),
-                      ),
-                    ),
-                  ),
-                ),
-              ),
-            ),
-          ),
-        ),
-      ),
-    ),
-  ),
-)
-
--- a row that has a shape is of the shape's kind
-pub kind-of-shape : (k : ℕ) (s : Shape) → shape-of k ≡ some s → k ≡ shape-kind s
-unfolding shape-of
-kind-of-shape k s e = entry-kind shapes k s fitting e
+use Rattle.layout.specs.Decode.{Shape, a-name, a-number, a-follow, a-group, a-block, a-call, a-let, an-if, a-while, a-constant}
+use Rattle.layout.specs.Decode.{a-unary, a-binary, children, build, build-if, tree-at, args-at, Right, RightArgs, ParamsAt}
+use Rattle.layout.specs.Decode.{params-none, params-more, FunctionAt, FunctionsAt, functions-none, functions-more, Holds}
+use Rattle.layout.specs.declared.Held.{Held}
 
 -- ---- nodes over equal parts are equal
 
@@ -259,21 +165,19 @@ module _ (v w : List ℕ) (alike : (j : ℕ) → j < VARIABLES-AT → getD v j 0
       functions-more (subst (λ (r : ℕ). FunctionAt f ts v r d) (sym e) (function-alike a)) (functions-alike (omega arith) q)
 
   -- so it holds the same program
-  pub holds-alike : {ts : List Token} {count defs root : ℕ} {p : Program} → length v ≡ length w → Holds ts w count defs root p
-      → Holds ts v count defs root p
-  holds-alike {ts} {root = root} e h = record {
+  pub holds-alike : {ts : List Token} {P : Held} {p : Program} → length v ≡ length w → Holds ts w P p → Holds ts v P p
+  holds-alike {ts} {P} e h = record {
     depth = h .depth;
     long = omega (arith, h .long);
     stand = stand-same v w _ ts (λ j l. alike j (omega arith)) (h .stand);
     defined = h .defined;
     few = h .few;
     functions = functions-alike (omega (arith, h .defined, h .few, h .stand .few)) (h .functions);
-    main = tree-alike (h .depth) ts root (h .right) ∙ h .main;
-    right = right-alike (h .depth) ts root (h .right);
+    main = tree-alike (h .depth) ts (P .root) (h .right) ∙ h .main;
+    right = right-alike (h .depth) ts (P .root) (h .right);
     room = h .room;
   }
 
 -- a table without variables holds the same program
-pub holds-without : {ts : List Token} {w : List ℕ} {count defs root : ℕ} {p : Program} → Holds ts w count defs root p
-    → Holds ts (without-variables w) count defs root p
+pub holds-without : {ts : List Token} {w : List ℕ} {P : Held} {p : Program} → Holds ts w P p → Holds ts (without-variables w) P p
 holds-without {w = w} h = holds-alike (without-variables w) w (without-before w) (length-without w) h

@@ -6,7 +6,7 @@ use native.Mathlib.Omega.{arith}
 use lib.ListN.{length, getD, set, length-set}
 use lib.Seq.{getD-set-same, getD-set-other}
 use Rattle.language.specs.Sizes.{TOKENS, NODES, TABLE}
-use Rattle.layout.specs.Table.{VARIABLES-AT, token-word, row-word, function-row, variable-name, variable-kind, put-variable, zeros, without-variables}
+use Rattle.layout.specs.Table.{VARIABLES-AT, token-word, row-word, function-row, variable-name, variable-type, put-variable, zeros, without-variables}
 use Rattle.layout.proofs.Clearing.{zeros-set}
 
 -- ---- cleared words
@@ -65,9 +65,9 @@ put-variable-name w i x t l h =
     ∙ getD-set-same w (VARIABLES-AT + 2 * i) x 0 (omega arith)
 
 -- and its type's number
-pub put-variable-kind : (w : List ℕ) (i x t : ℕ) → TABLE ≤ length w → i < TOKENS → variable-kind (put-variable w i x t) i ≡ t
+pub put-variable-type : (w : List ℕ) (i x t : ℕ) → TABLE ≤ length w → i < TOKENS → variable-type (put-variable w i x t) i ≡ t
 unfolding put-variable
-put-variable-kind w i x t l h =
+put-variable-type w i x t l h =
     let e : length (set w (VARIABLES-AT + 2 * i) x) ≡ length w = length-set w (VARIABLES-AT + 2 * i) x in
     getD-set-same (set w (VARIABLES-AT + 2 * i) x) (VARIABLES-AT + 2 * i + 1) t 0 (omega arith)
 

@@ -1,5 +1,5 @@
--- The reading that the rows of a table stand for, read back from the words. The written tokens ts give the spellings and
--- numbers, which the words of rows do not hold. `f` bounds how far down the reading back goes.
+-- The reading that the rows of a table stand for, read back from the words. The written tokens ts give the spellings
+-- and numbers, which the words of rows do not hold. `f` bounds how far down the reading back goes.
 use mathlib.Core.Bool.{true, false, cond}
 use mathlib.Core.List.{List, [], _∷_}
 use mathlib.Core.Option.{Option, none, some}
@@ -8,12 +8,18 @@ use Prim.Native.Nat.{ℕ, zero, suc, _+_, _≤_, _<_}
 use lib.Dec.{eqb}
 use lib.ListN.{length}
 use Rattle.language.specs.Sizes.{NODES, TABLE}
-use Rattle.language.specs.Tokens.{Token, Row, _is_, entry, At, value-at, spelling-at, NAME, NUMBER, LET, WHILE, IF, REF, NOT, TRUE, FALSE, TT, PLUS, MINUS, STAR, SLASH, AND, OR, LESS, EQUAL, BECOMES, BANG, SEMI, LPAR, LBRACE}
-use Rattle.language.specs.Trees.{Literal, whole, truth, trivial, Unary, minus, not, fetch, new, Binary, add, sub, mul, div, less, equal, Exp, name, literal, unary, binary, follow, group, block, call, bind, branch, loop, Exps, last, more, Param, Def, Program}
+use Rattle.language.specs.Tokens.{Token, Entry, _is_, entry, At, value-at, spelling-at, NAME, NUMBER}
+use Rattle.language.specs.Tokens.{LET, WHILE, IF, REF, NOT, TRUE, FALSE, TT, PLUS, MINUS, STAR}
+use Rattle.language.specs.Tokens.{SLASH, AND, OR, LESS, EQUAL, BECOMES, BANG, SEMI, LPAR, LBRACE}
+use Rattle.language.specs.Trees.{Literal, whole, truth, trivial, Unary, minus, not, fetch, new, Binary, add}
+use Rattle.language.specs.Trees.{sub, mul, div, less, equal, Exp, name, literal, unary, binary, follow, group}
+use Rattle.language.specs.Trees.{block, call, bind, branch, loop, Exps, last, more, Param, Def, Program}
 use Rattle.language.specs.Meaning.{type-number}
-use Rattle.layout.specs.Table.{KIND, OWN, FIRST, SECOND, THIRD, EXPRESSION, NEXT, TYPE, ARITY, RESULT, BODY, row-word, function-row}
+use Rattle.layout.specs.Table.{KIND, OWN, FIRST, SECOND, THIRD, EXPRESSION, NEXT, TYPE, ARITY, RESULT, BODY}
+use Rattle.layout.specs.Table.{row-word, function-row}
 use Rattle.layout.specs.Names.{Stand}
 use Rattle.layout.specs.Rows.{PREFIX, CALL, below}
+use Rattle.layout.specs.declared.Held.{Held}
 
 -- ---- what kind of node a row is
 
@@ -23,13 +29,17 @@ pub data Shape : Type 0 where
   a-unary : Unary → Shape
   a-binary : Binary → Shape
 
-abbrev pub shapes : List (Row ℕ Shape)
+abbrev pub shapes : List (Entry ℕ Shape)
 shapes =
-    NAME is a-name ∷ NUMBER is a-number ∷ TRUE is a-constant (truth true) ∷ FALSE is a-constant (truth false) ∷ TT is a-constant trivial
-    ∷ SEMI is a-follow ∷ LPAR is a-group ∷ LBRACE is a-block ∷ CALL is a-call ∷ LET is a-let ∷ IF is an-if ∷ WHILE is a-while
-    ∷ (PREFIX + MINUS) is a-unary minus ∷ (PREFIX + NOT) is a-unary not ∷ (PREFIX + BANG) is a-unary fetch ∷ (PREFIX + REF) is a-unary new
-    ∷ PLUS is a-binary add ∷ MINUS is a-binary sub ∷ STAR is a-binary mul ∷ SLASH is a-binary div ∷ AND is a-binary Binary.and
-    ∷ OR is a-binary Binary.or ∷ LESS is a-binary less ∷ EQUAL is a-binary equal ∷ BECOMES is a-binary Binary.assign ∷ []
+    NAME is a-name ∷ NUMBER is a-number
+    ∷ TRUE is a-constant (truth true) ∷ FALSE is a-constant (truth false) ∷ TT is a-constant trivial
+    ∷ SEMI is a-follow ∷ LPAR is a-group ∷ LBRACE is a-block ∷ CALL is a-call
+    ∷ LET is a-let ∷ IF is an-if ∷ WHILE is a-while
+    ∷ (PREFIX + MINUS) is a-unary minus ∷ (PREFIX + NOT) is a-unary not
+    ∷ (PREFIX + BANG) is a-unary fetch ∷ (PREFIX + REF) is a-unary new
+    ∷ PLUS is a-binary add ∷ MINUS is a-binary sub ∷ STAR is a-binary mul ∷ SLASH is a-binary div
+    ∷ AND is a-binary Binary.and ∷ OR is a-binary Binary.or
+    ∷ LESS is a-binary less ∷ EQUAL is a-binary equal ∷ BECOMES is a-binary Binary.assign ∷ []
 
 unfoldable pub shape-of : ℕ → Option Shape
 shape-of k = entry shapes k
@@ -75,13 +85,15 @@ unfoldable mutual
   pub tree-at : ℕ → List Token → List ℕ → ℕ → Exp
   tree-at zero ts w i = literal 0 trivial
   tree-at (suc f) ts w i =
-      build-if ts (shape-of (row-word w i KIND)) (row-word w i OWN) (tree-at f ts w (row-word w i FIRST)) (tree-at f ts w (row-word w i SECOND))
+      build-if ts (shape-of (row-word w i KIND)) (row-word w i OWN) (tree-at f ts w (row-word w i FIRST))
+      (tree-at f ts w (row-word w i SECOND))
       (tree-at f ts w (row-word w i THIRD)) (args-at f ts w (row-word w i FIRST))
 
   -- the arguments from row i on; row 0 is none
   pub args-at : ℕ → List Token → List ℕ → ℕ → Exps
   args-at zero ts w i = last
-  args-at (suc f) ts w i = cond (eqb i 0) last (more (tree-at f ts w (row-word w i EXPRESSION)) (args-at f ts w (row-word w i NEXT)))
+  args-at (suc f) ts w i = cond (eqb i 0) last
+      (more (tree-at f ts w (row-word w i EXPRESSION)) (args-at f ts w (row-word w i NEXT)))
 
 -- ---- rows that are whole: every part is a row before its own, and the tokens are of the kinds that the tree needs
 
@@ -123,7 +135,8 @@ unfoldable mutual
 pub data ParamsAt (ts : List Token) (w : List ℕ) : ℕ → List Param → Type 0 where
   params-none : {r : ℕ} → ParamsAt ts w r []
   params-more : {r : ℕ} {p : Param} {ps : List Param}
-      → row-word w r OWN ≡ p .at → At ts (p .at) NAME → p .called ≡ spelling-at ts (p .at) → row-word w r TYPE ≡ type-number (p .type)
+      → row-word w r OWN ≡ p .at → At ts (p .at) NAME → p .called ≡ spelling-at ts (p .at)
+      → row-word w r TYPE ≡ type-number (p .type)
       → ParamsAt ts w (r + 1) ps → ParamsAt ts w r (p ∷ ps)
 
 -- row r is the function d
@@ -148,14 +161,15 @@ pub data FunctionsAt (f : ℕ) (ts : List Token) (w : List ℕ) : ℕ → List D
   functions-more : {k : ℕ} {d : Def} {ds : List Def}
       → FunctionAt f ts w (function-row w k) d → FunctionsAt f ts w (k + 1) ds → FunctionsAt f ts w k (d ∷ ds)
 
--- The table holds the program p, a reading of the tokens ts: this is what the reader promises to the checker and the runner.
-pub record Holds (ts : List Token) (w : List ℕ) (count defs root : ℕ) (p : Program) : Type 0 where
+-- The table holds the program p, a reading of the tokens ts, as P says: this is what the reader promises to the checker
+-- and the runner.
+pub record Holds (ts : List Token) (w : List ℕ) (P : Held) (p : Program) : Type 0 where
   pub depth : ℕ
   pub long : TABLE ≤ length w
-  pub stand : Stand w count ts
-  pub defined : defs ≡ length (p .defs)
-  pub few : defs ≤ count
+  pub stand : Stand w (P .count) ts
+  pub defined : P .functions ≡ length (p .defs)
+  pub few : P .functions ≤ P .count
   pub functions : FunctionsAt depth ts w 0 (p .defs)
-  pub main : tree-at depth ts w root ≡ p .main
-  pub right : Right depth ts w root
+  pub main : tree-at depth ts w (P .root) ≡ p .main
+  pub right : Right depth ts w (P .root)
   pub room : below (p .main) < NODES

@@ -6,11 +6,13 @@ use Prim.Native.Nat.{ℕ, suc, _+_, _≤_, _<_}
 use lib.Dec.{eqb}
 use lib.ListN.{length, getD}
 use Rattle.language.specs.Sizes.{TOKENS, LARGEST}
-use Rattle.language.specs.Tokens.{Spelling, same, Token, NAME, NUMBER, past, kind-at, value-at, spelling-at, place-at, At}
+use Rattle.language.specs.Tokens.{Spelling, same, Token, NAME, NUMBER, past}
+use Rattle.language.specs.Tokens.{kind-at, value-at, spelling-at, place-at, At}
 use Rattle.language.specs.Trees.{PUTCHAR}
 use Rattle.layout.specs.Table.{token-place, token-end, token-value, kind-of, put-token}
 
--- the ordinal of the first token that is spelled s, the list's first token being the nth; where there is none, that of its end
+-- the ordinal of the first token that is spelled s, the list's first token being the nth; where there is none, that of
+-- its end
 unfoldable pub first-from : ℕ → List Token → Spelling → ℕ
 first-from n [] s = n
 first-from n (t ∷ ts) s = cond (same (t .spelling) s) n (first-from (suc n) ts s)
@@ -26,15 +28,15 @@ pub record Named (ts : List Token) (n : ℕ) (s : Spelling) : Type 0 where
   pub spelled : spelling-at ts at ≡ s
   pub number : n ≡ name-number ts s
 
--- the fourth word of the token t, one of ts
-unfoldable pub payload : List Token → Token → ℕ
-payload ts t = cond (eqb (t .kind) NUMBER) (t .value) (cond (eqb (t .kind) NAME) (name-number ts (t .spelling)) 0)
+-- the value of the token t, one of ts, as a word: a number's value, or a name's number
+unfoldable pub value-word : List Token → Token → ℕ
+value-word ts t = cond (eqb (t .kind) NUMBER) (t .value) (cond (eqb (t .kind) NAME) (name-number ts (t .spelling)) 0)
 
 -- the table with the tokens us of the list ts written from token n on
 unfoldable pub lay-tokens : List Token → List ℕ → ℕ → List Token → List ℕ
 lay-tokens ts w n [] = w
 lay-tokens ts w n (u ∷ us) =
-    lay-tokens ts (put-token w n (u .kind) (u .place) (u .place + length (u .spelling)) (payload ts u)) (n + 1) us
+    lay-tokens ts (put-token w n (u .kind) (u .place) (u .place + length (u .spelling)) (value-word ts u)) (n + 1) us
 
 -- The first `count` tokens of the table stand for ts. All that the layers above know of a text is this.
 pub record Stand (w : List ℕ) (count : ℕ) (ts : List Token) : Type 0 where
@@ -43,6 +45,6 @@ pub record Stand (w : List ℕ) (count : ℕ) (ts : List Token) : Type 0 where
   pub kinds : (i : ℕ) → kind-at ts i ≡ kind-of w count i
   pub places : (i : ℕ) → i < count → token-place w i ≡ place-at ts i
   pub ends : (i : ℕ) → i < count → token-end w i ≡ place-at ts i + length (spelling-at ts i)
-  pub values : (i : ℕ) → i < count → token-value w i ≡ payload ts (getD ts i past)
+  pub values : (i : ℕ) → i < count → token-value w i ≡ value-word ts (getD ts i past)
   -- a number is one that can be written
   pub written : (i : ℕ) → At ts i NUMBER → value-at ts i ≤ LARGEST

@@ -1,12 +1,17 @@
--- A reading in rows: what the table becomes when a tree, a function or a program is laid down, the parts before their whole.
+-- A reading in rows: what the table becomes when a tree, a function or a program is laid down, the parts before their
+-- whole.
 use mathlib.Core.Bool.{true, false}
 use mathlib.Core.List.{List, [], _∷_}
 use Prim.Native.Nat.{ℕ, _+_}
 use lib.ListN.{length}
-use Rattle.language.specs.Tokens.{NAME, NUMBER, DEF, LET, WHILE, IF, REF, NOT, TRUE, FALSE, TT, PLUS, MINUS, STAR, SLASH, AND, OR, LESS, EQUAL, BECOMES, BANG, SEMI, LPAR, LBRACE}
-use Rattle.language.specs.Trees.{Literal, whole, truth, trivial, Unary, minus, not, fetch, new, Binary, add, sub, mul, div, less, equal, and, or, assign, Exp, name, literal, unary, binary, follow, group, block, call, bind, branch, loop, Exps, last, more, Param, Def, Program}
+use Rattle.language.specs.Tokens.{Token, NAME, NUMBER, DEF, LET, WHILE, IF, REF, NOT, TRUE, FALSE, TT, PLUS}
+use Rattle.language.specs.Tokens.{MINUS, STAR, SLASH, AND, OR, LESS, EQUAL, BECOMES, BANG, SEMI, LPAR, LBRACE}
+use Rattle.language.specs.Trees.{Literal, whole, truth, trivial, Unary, minus, not, fetch, new, Binary, add, sub}
+use Rattle.language.specs.Trees.{mul, div, less, equal, and, or, assign, Exp, name, literal, unary, binary, follow}
+use Rattle.language.specs.Trees.{group, block, call, bind, branch, loop, Exps, last, more, Param, Def, Program}
 use Rattle.language.specs.Meaning.{type-number}
 use Rattle.layout.specs.Table.{put-row, put-function}
+use Rattle.layout.specs.declared.Held.{Held}
 
 -- ---- the kinds of rows: a node's is its own token's, PREFIX more before an operand
 
@@ -83,17 +88,21 @@ unfoldable mutual
       put-row (lay (lay w f e) (f + below e + 1) u) (f + below e + 1 + below u + 1) (binary-kind o) i (f + below e)
       (f + below e + 1 + below u) 0
   lay w f (follow i e u) =
-      put-row (lay (lay w f e) (f + below e + 1) u) (f + below e + 1 + below u + 1) SEMI i (f + below e) (f + below e + 1 + below u) 0
+      put-row (lay (lay w f e) (f + below e + 1) u) (f + below e + 1 + below u + 1) SEMI i (f + below e)
+      (f + below e + 1 + below u) 0
   lay w f (group i e) = put-row (lay w f e) (f + below e + 1) LPAR i (f + below e) 0 0
   lay w f (block i e) = put-row (lay w f e) (f + below e + 1) LBRACE i (f + below e) 0 0
   lay w f (call i x es) = put-row (lay-all w f i es) (f + under es) CALL i (head f es) 0 0
   lay w f (bind i x e u) =
-      put-row (lay (lay w f e) (f + below e + 1) u) (f + below e + 1 + below u + 1) LET i (f + below e) (f + below e + 1 + below u) 0
+      put-row (lay (lay w f e) (f + below e + 1) u) (f + below e + 1 + below u + 1) LET i (f + below e)
+      (f + below e + 1 + below u) 0
   lay w f (branch i c e u) =
-      put-row (lay (lay (lay w f c) (f + below c + 1) e) (f + below c + 1 + below e + 1) u) (f + below c + 1 + below e + 1 + below u + 1) IF i
+      put-row (lay (lay (lay w f c) (f + below c + 1) e) (f + below c + 1 + below e + 1) u)
+      (f + below c + 1 + below e + 1 + below u + 1) IF i
       (f + below c) (f + below c + 1 + below e) (f + below c + 1 + below e + 1 + below u)
   lay w f (loop i c e) =
-      put-row (lay (lay w f c) (f + below c + 1) e) (f + below c + 1 + below e + 1) WHILE i (f + below c) (f + below c + 1 + below e) 0
+      put-row (lay (lay w f c) (f + below c + 1) e) (f + below c + 1 + below e + 1) WHILE i (f + below c)
+      (f + below c + 1 + below e) 0
 
   pub lay-all : List ℕ → ℕ → ℕ → Exps → List ℕ
   lay-all w f i last = w
@@ -111,7 +120,8 @@ lay-params w f (p ∷ ps) = lay-params (put-row w f PARAMETER (p .at) (type-numb
 -- a function's row, then its parameters', then its body's: how many parameters, the result's type, the body's root
 unfoldable pub lay-def : List ℕ → ℕ → Def → List ℕ
 lay-def w f d =
-    put-row (lay (lay-params w (f + 1) (d .params)) (f + 1 + length (d .params)) (d .body)) f DEF (d .at) (length (d .params))
+    put-row (lay (lay-params w (f + 1) (d .params)) (f + 1 + length (d .params)) (d .body)) f DEF (d .at)
+    (length (d .params))
     (type-number (d .result)) (f + 1 + length (d .params) + below (d .body))
 
 unfoldable pub def-rows : Def → ℕ
@@ -133,3 +143,7 @@ lay-program w p = lay (lay-defs w 0 0 (p .defs)) (defs-rows (p .defs)) (p .main)
 -- the row of the last expression
 unfoldable pub main-row : Program → ℕ
 main-row p = defs-rows (p .defs) + below (p .main)
+
+-- how a table holds the program p of the tokens ts, once it is laid down
+abbrev pub held-as : List Token → Program → Held
+held-as ts p = record { count = length ts; functions = length (p .defs); root = main-row p }

@@ -91,8 +91,8 @@ function-row w k = getD w (FUNCTIONS-AT + k) 0
 abbrev pub variable-name : List ℕ → ℕ → ℕ
 variable-name w i = getD w (VARIABLES-AT + 2 * i) 0
 
-abbrev pub variable-kind : List ℕ → ℕ → ℕ
-variable-kind w i = getD w (VARIABLES-AT + 2 * i + 1) 0
+abbrev pub variable-type : List ℕ → ℕ → ℕ
+variable-type w i = getD w (VARIABLES-AT + 2 * i + 1) 0
 
 -- ---- writing
 
@@ -112,7 +112,7 @@ unfoldable pub put-function : List ℕ → ℕ → ℕ → List ℕ
 put-function w k row = set w (FUNCTIONS-AT + k) row
 
 unfoldable pub put-variable : List ℕ → ℕ → ℕ → ℕ → List ℕ
-put-variable w i name kind = set (set w (VARIABLES-AT + 2 * i) name) (VARIABLES-AT + 2 * i + 1) kind
+put-variable w i name number = set (set w (VARIABLES-AT + 2 * i) name) (VARIABLES-AT + 2 * i + 1) number
 
 -- ---- clearing
 

@@ -36,7 +36,8 @@ word-of (Cell n) = n
 -- the value that two words stand for
 abbrev pub value-in : ℕ → ℕ → State.Value
 value-in tag word =
-    cond (eqb tag 0) (number (toZ w32 word)) (cond (eqb tag 1) (flag (eqb word 1)) (cond (eqb tag 2) nothing (cell word)))
+    cond (eqb tag 0) (number (toZ w32 word))
+    (cond (eqb tag 1) (flag (eqb word 1)) (cond (eqb tag 2) nothing (cell word)))
 
 -- the two words of v stand for v
 abbrev pub Survives : Value → Type 0

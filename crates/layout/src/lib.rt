@@ -19,6 +19,14 @@ use language::ACTIVE;
 use language::PARAMETERS;
 use language::TOKENS;
 
+// A program as a table holds it: how many tokens and how many functions it has, and the row of its last
+// expression.
+pub struct Held {
+    pub count: usize,
+    pub functions: usize,
+    pub root: usize,
+}
+
 // Where each region of table memory begins.
 pub const ROWS_AT: usize = 4 * TOKENS;
 

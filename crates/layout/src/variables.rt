@@ -3,7 +3,7 @@ ghost use mathlib.Core.Path.{_≡_};
 ghost use Prim.Native.Nat.{ℕ, _≤_, _<_};
 ghost use lib.ListN.{length};
 ghost use Rattle.language.specs.Sizes.{TOKENS, TABLE};
-ghost use Rattle.layout.specs.Table.{variable-name, variable-kind, put-variable};
+ghost use Rattle.layout.specs.Table.{variable-name, variable-type, put-variable};
 use crate::VARIABLES_AT;
 
 // Its name's number.
@@ -15,18 +15,18 @@ pub fn name(table: &[u32], at: usize) -> u32
 }
 
 // Its type's number.
-pub fn kind(table: &[u32], at: usize) -> u32
+pub fn type_number(table: &[u32], at: usize) -> u32
     requires { ⌜ (TABLE ≤ length (now table)) × (at < TOKENS) ⌝ }
-    ensures { λ r. ⌜ r ≡ variable-kind (now (table .entry)) at ⌝ }
+    ensures { λ r. ⌜ r ≡ variable-type (now (table .entry)) at ⌝ }
 {
     table[VARIABLES_AT + 2 * at + 1]
 }
 
-pub fn put(table: &mut [u32], at: usize, name: u32, kind: u32)
+pub fn put(table: &mut [u32], at: usize, name: u32, number: u32)
     requires { ⌜ (TABLE ≤ length (now table)) × (at < TOKENS) ⌝ }
-    ensures { λ _. ⌜ now (table .exit) ≡ put-variable (now (table .entry)) at name kind ⌝ }
+    ensures { λ _. ⌜ now (table .exit) ≡ put-variable (now (table .entry)) at name number ⌝ }
 {
     let w = VARIABLES_AT + 2 * at;
     table[w] = name;
-    table[w + 1] = kind;
+    table[w + 1] = number;
 }

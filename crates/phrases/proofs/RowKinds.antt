@@ -5,11 +5,11 @@ use mathlib.Core.Option.{Option, none, some}
 use mathlib.Core.Path.{_≡_, refl}
 use Prim.Native.Nat.{ℕ, zero, suc, _+_, _≤_, _<_}
 use native.Mathlib.Omega.{arith}
-use lib.Dec.{T, eqb, leb, eqb→eq, leb→le}
-use Rattle.language.specs.Tokens.{Row, entry, PAST, RBRACE}
+use lib.Dec.{leb, leb→le}
+use Rattle.language.specs.Tokens.{Entry, entry, PAST, RBRACE}
 use Rattle.language.specs.Trees.{Literal, Unary, Binary}
 use Rattle.language.specs.Grammar.{or, and, sum, prod, operators, comparisons, prefixes, constants}
-use Rattle.language.proofs.Grammar.Entries.{every, entry-passes}
+use Rattle.language.proofs.Grammar.Entries.{every, entry-passes, by-entries}
 use Rattle.language.proofs.Executable.Climbing.{Joins, joins-or, joins-and, joins-cmp, joins-sum, joins-prod}
 use Rattle.layout.specs.Table.{kind-of}
 use Rattle.layout.specs.Rows.{PREFIX, literal-kind, unary-kind, binary-kind}
@@ -18,7 +18,7 @@ use Rattle.phrases.specs.Parts.{has, in-table}
 
 -- ---- a look into a table
 
-module _ {A : Type 0} (rows : List (Row ℕ A)) (k : ℕ) where
+module _ {A : Type 0} (rows : List (Entry ℕ A)) (k : ℕ) where
   -- what is in the table stands for something
   pub stands-for : in-table rows k ≡ true → (a : A) × (entry rows k ≡ some a)
   stands-for h = go (entry rows k) refl h
@@ -37,7 +37,7 @@ module _ {A : Type 0} (rows : List (Row ℕ A)) (k : ℕ) where
 
 -- a token that is in a table stands before the end, past which there is none
 module _ (w : List ℕ) (count i k : ℕ) (h : k ≡ kind-of w count i) where
-  listed : {A : Type 0} (rows : List (Row ℕ A)) → in-table rows PAST ≡ false → in-table rows k ≡ true → i < count
+  listed : {A : Type 0} (rows : List (Entry ℕ A)) → in-table rows PAST ≡ false → in-table rows k ≡ true → i < count
   listed rows p l = kind-within w count i (omega (arith, positive k refl))
     where
       positive : (c : ℕ) → k ≡ c → 0 < c
@@ -56,14 +56,10 @@ module _ (w : List ℕ) (count i k : ℕ) (h : k ≡ kind-of w count i) where
 
 -- ---- the kinds of rows
 
-by-rows : {A : Type 0} (kind : A → ℕ) (of : ℕ → ℕ) (rows : List (Row ℕ A)) (k : ℕ) {a : A} → T (every (λ c x. eqb (kind x) (of c)) rows)
-    → entry rows k ≡ some a → kind a ≡ of k
-by-rows kind of rows k {a} t e = eqb→eq (kind a) (of k) (entry-passes (λ c x. eqb (kind x) (of c)) rows k t e)
-
 -- an operator before its operand
 pub prefix-row : (k : ℕ) {o : Unary} → entry prefixes k ≡ some o → unary-kind o ≡ PREFIX + k
 unfolding unary-kind every
-prefix-row k e = by-rows unary-kind (λ c. PREFIX + c) prefixes k tt e
+prefix-row k e = by-entries unary-kind (λ c. PREFIX + c) prefixes k tt e
 
 -- its kind is small
 pub prefix-small : (k : ℕ) → in-table prefixes k ≡ true → k ≤ RBRACE
@@ -73,13 +69,13 @@ prefix-small k h = leb→le k RBRACE (entry-passes (λ c x. leb c RBRACE) prefix
 -- a constant
 pub constant-row : (k : ℕ) {l : Literal} → entry constants k ≡ some l → literal-kind l ≡ k
 unfolding literal-kind every
-constant-row k e = by-rows literal-kind (λ c. c) constants k tt e
+constant-row k e = by-entries literal-kind (λ c. c) constants k tt e
 
 -- an operator between two operands
 pub joins-row : {k : ℕ} {o : Binary} {p : ℕ} → Joins k o p → binary-kind o ≡ k
 unfolding binary-kind every
-joins-row {k} (joins-or e) = by-rows binary-kind (λ c. c) (operators or) k tt e
-joins-row {k} (joins-and e) = by-rows binary-kind (λ c. c) (operators and) k tt e
-joins-row {k} (joins-cmp e) = by-rows binary-kind (λ c. c) comparisons k tt e
-joins-row {k} (joins-sum e) = by-rows binary-kind (λ c. c) (operators sum) k tt e
-joins-row {k} (joins-prod e) = by-rows binary-kind (λ c. c) (operators prod) k tt e
+joins-row {k} (joins-or e) = by-entries binary-kind (λ c. c) (operators or) k tt e
+joins-row {k} (joins-and e) = by-entries binary-kind (λ c. c) (operators and) k tt e
+joins-row {k} (joins-cmp e) = by-entries binary-kind (λ c. c) comparisons k tt e
+joins-row {k} (joins-sum e) = by-entries binary-kind (λ c. c) (operators sum) k tt e
+joins-row {k} (joins-prod e) = by-entries binary-kind (λ c. c) (operators prod) k tt e

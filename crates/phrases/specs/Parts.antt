@@ -8,7 +8,7 @@ use mathlib.Core.Path.{_≡_}
 use Prim.Native.Nat.{ℕ, _+_, _≤_, _<_}
 use lib.ListN.{length}
 use Rattle.language.specs.Sizes.{TOKENS, NODES, TABLE}
-use Rattle.language.specs.Tokens.{Token, Row, entry}
+use Rattle.language.specs.Tokens.{Token, Entry, entry}
 use Rattle.language.specs.Trees.{Exp, Exps}
 use Rattle.language.specs.Grammar.{un, seq, bound, item, assign, atom, tier}
 use Rattle.language.proofs.Executable.Parses.{Result, failed, got}
@@ -27,7 +27,7 @@ has (some a) = true
 has none = false
 
 -- the table has a row for the kind k
-abbrev pub in-table : {A : Type 0} → List (Row ℕ A) → ℕ → Bool
+abbrev pub in-table : {A : Type 0} → List (Entry ℕ A) → ℕ → Bool
 in-table rows k = has (entry rows k)
 
 -- ---- what is told of the tokens from n on

@@ -19,7 +19,7 @@ use Rattle.phrases.specs.Parts.{Told}
 use Rattle.phrases.specs.declared.parts.Part.{Part}
 use Rattle.reader.specs.declared.types.Typing.{Typing}
 use Rattle.reader.specs.declared.definitions.Rows.{Rows}
-use Rattle.reader.specs.declared.definitions.Sheet.{Sheet}
+use Rattle.reader.specs.declared.definitions.Parsed.{Parsed}
 
 -- ---- what is told of the tokens from n on
 
@@ -142,10 +142,10 @@ pub record LaidProgram (T : Result Program → Type 0) (w : List ℕ) (f before 
   pub top : root ≡ f + defs-rows (program .defs) + below (program .main)
   pub laid : w′ ≡ lay (lay-defs w f before (program .defs)) (f + defs-rows (program .defs)) (program .main)
 
-abbrev pub ProgramOutcome : (Result Program → Type 0) → List ℕ → ℕ → ℕ → Sheet → List ℕ → Type 0
-ProgramOutcome T w f before (Sheet.Program defs root m) w′ = LaidProgram T w f before defs root m w′
-ProgramOutcome T w f before (Sheet.None e) w′ = T (failed e)
+abbrev pub ProgramOutcome : (Result Program → Type 0) → List ℕ → ℕ → ℕ → Parsed → List ℕ → Type 0
+ProgramOutcome T w f before (Parsed.Program defs root m) w′ = LaidProgram T w f before defs root m w′
+ProgramOutcome T w f before (Parsed.None e) w′ = T (failed e)
 
-pub record ProgramAnswer (T : Told Program) (count : ℕ) (w : List ℕ) (f before : ℕ) (g : Sheet) (w′ : List ℕ) : Type 0 where
+pub record ProgramAnswer (T : Told Program) (count : ℕ) (w : List ℕ) (f before : ℕ) (g : Parsed) (w′ : List ℕ) : Type 0 where
   pub told : (ts : List Token) → Stand w count ts → ProgramOutcome (T ts) w f before g w′
   pub clear : without-rows w′ ≡ without-rows w

@@ -27,7 +27,7 @@ pub enum Rows {
     None { at: usize },
 }
 
-pub enum Sheet {
+pub enum Parsed {
     // How many functions there are, the row of the last expression, and the token behind it.
     Program { defs: usize, root: u32, next: usize },
     // The token at which reading failed.
@@ -147,7 +147,7 @@ fn function(table: &mut [u32], count: usize, at: usize, free: usize) -> Rows
 }
 
 // Functions, then the last expression, where `defs` functions are behind.
-pub fn program(table: &mut [u32], count: usize, at: usize, free: usize, defs: usize) -> Sheet
+pub fn program(table: &mut [u32], count: usize, at: usize, free: usize, defs: usize) -> Parsed
     requires { ⌜ Room count (now table) at free ⌝ }
     requires { ⌜ defs ≤ at ⌝ }
     ensures { λ g. ⌜ ProgramAnswer (Sequel at) count (now (table .entry)) free defs g (now (table .exit)) ⌝ }
@@ -159,7 +159,7 @@ pub fn program(table: &mut [u32], count: usize, at: usize, free: usize, defs: us
                 functions::put(table, defs, free as u32);
                 program(table, count, next, rows, defs + 1)
             }
-            Rows::None { at: e } => Sheet::None { at: e },
+            Rows::None { at: e } => Parsed::None { at: e },
         }
     } else {
         let main = seq(table, count, at, free);
@@ -168,12 +168,12 @@ pub fn program(table: &mut [u32], count: usize, at: usize, free: usize, defs: us
                 root,
                 next,
                 free: _,
-            } => Sheet::Program {
+            } => Parsed::Program {
                 defs: defs,
                 root: root,
                 next: next,
             },
-            Part::None { at: e } => Sheet::None { at: e },
+            Part::None { at: e } => Parsed::None { at: e },
         }
     }
 }

@@ -11,15 +11,16 @@ ghost use Rattle.language.specs.Sizes.{TOKENS, TABLE};
 ghost use Rattle.language.specs.Tokens.{Token};
 ghost use Rattle.layout.specs.Names.{Stand};
 ghost use Rattle.reader.specs.Findings.{Finds};
-use definitions::Sheet;
+use definitions::Parsed;
 use definitions::program;
+use layout::Held;
 use layout::ROWS_AT;
 use layout::VARIABLES_AT;
 use layout::memory::clear;
 
 pub enum Found {
-    // How many functions the reading has, and the row of its last expression.
-    Program { defs: usize, root: usize },
+    // The reading, laid down in the table.
+    Program(Held),
     // The token at which reading failed.
     None { at: usize },
 }
@@ -30,20 +31,22 @@ pub fn read(table: &mut [u32], count: usize) -> Found
     requires { ⌜ (TABLE ≤ length (now table)) × (count ≤ TOKENS) ⌝ }
     ensures { λ g. ⌜ ((ts : List Token) → Stand (now (table .entry)) count ts → Finds ts (now (table .entry)) g (now (table .exit))) ⌝ }
 {
-    let sheet = program(table, count, 0, 0, 0);
-    match sheet {
-        Sheet::Program { defs, root, next } => {
+    let parsed = program(table, count, 0, 0, 0);
+    match parsed {
+        Parsed::Program { defs, root, next } => {
             if next != count {
                 clear(table, ROWS_AT, VARIABLES_AT);
                 return Found::None { at: next };
             }
             let row = root as usize;
-            Found::Program {
-                defs: defs,
+            let held = Held {
+                count,
+                functions: defs,
                 root: row,
-            }
+            };
+            Found::Program(held)
         }
-        Sheet::None { at: e } => {
+        Parsed::None { at: e } => {
             clear(table, ROWS_AT, VARIABLES_AT);
             Found::None { at: e }
         }

@@ -14,7 +14,7 @@ use Rattle.language.specs.Meaning.{type-number}
 use Rattle.language.proofs.Types.TypeNumbers.{one-number}
 use Rattle.language.proofs.Executable.Checks.{after-ok, after-bad, told-some, told-none}
 use Rattle.language.proofs.Executable.Checker.{infer}
-use Rattle.layout.specs.Table.{row-word}
+use Rattle.layout.specs.Table.{TYPE, ARITY, RESULT, row-word}
 use Rattle.layout.specs.Decode.{ParamsAt, params-none, params-more}
 use Rattle.rules.specs.Asked.{suits, Matches, AsksCall}
 use Rattle.numbers.specs.declared.Reason.the-variants.{NoFunction}
@@ -41,15 +41,15 @@ decided-type t u = ((λ e. one-number t u (eqb-true _ _ e)), λ e d. eqb-false _
 
 -- as many arguments as parameters suit when their types are the parameters'
 suits-params : {ts : List Token} (w : List ℕ) (r k : ℕ) (us : List Ty) {ps : List Param} (j : ℕ) → j ≡ r + k + 1 → ParamsAt ts w j ps
-    → k + length ps ≡ row-word w r 2 → length us ≡ length ps
+    → k + length ps ≡ row-word w r ARITY → length us ≡ length ps
     → Decided (suits w (Callee.Function r) k us) (us ≡ map (λ (p : Param). p .type) ps)
 unfolding suits
 suits-params w r k [] j e params-none l n = ((λ _. refl), λ d _. clash d)
 suits-params w r k (u ∷ us) j e params-none l n = absurd (omega arith)
 suits-params w r k [] j e (params-more a b c d q) l n = absurd (omega arith)
 suits-params w r k (u ∷ us) j e (params-more {p = p} {ps = ps} a b c d q) l n =
-    let t : row-word w (r + k + 1) 2 ≡ type-number (p .type) = ap (λ (i : ℕ). row-word w i 2) (sym e) ∙ d in
-    rw (lt-ltb k (row-word w r 2) (omega arith), t)
+    let t : row-word w (r + k + 1) TYPE ≡ type-number (p .type) = ap (λ (i : ℕ). row-word w i TYPE) (sym e) ∙ d in
+    rw (lt-ltb k (row-word w r ARITY) (omega arith), t)
     (decided-more _ _ u (p .type) us (map (λ (p : Param). p .type) ps) (decided-type u (p .type))
     (suits-params w r (suc k) us (j + 1) (omega arith) q (omega arith) (omega arith)))
 
@@ -61,7 +61,7 @@ suits-putchar w (u ∷ v ∷ us) n = absurd (omega arith)
 
 module _ (w : List ℕ) {c : Callee} {n : ℕ} {b : Bool} (i : ℕ) where
   -- a function's answer
-  pub call-function : {r a g : ℕ} {q : Typing} → c ≡ Callee.Function r → a ≡ row-word w r 2 → g ≡ row-word w r 3 → Matches a g n b i q
+  pub call-function : {r a g : ℕ} {q : Typing} → c ≡ Callee.Function r → a ≡ row-word w r ARITY → g ≡ row-word w r RESULT → Matches a g n b i q
       → AsksCall w c n b i q
   unfolding infer
   call-function {r} {q = q} e x y m =

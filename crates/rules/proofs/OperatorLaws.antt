@@ -6,7 +6,8 @@ use native.Mathlib.Decide.{decLt}
 use native.Mathlib.Omega.{arith}
 use Rattle.language.specs.Sizes.{REFS}
 use Rattle.language.specs.Tokens.{BECOMES}
-use Rattle.language.specs.Trees.{Ty, int, bool, unit, ref, refs, Ty-discrete, Unary, minus, not, fetch, new, Binary, add, sub, mul, div, less, equal, and, or, assign}
+use Rattle.language.specs.Trees.{Ty, int, bool, unit, ref, refs, Ty-discrete, Unary, minus, not}
+use Rattle.language.specs.Trees.{fetch, new, Binary, add, sub, mul, div, less, equal, and, or, assign}
 use Rattle.language.specs.Faults.{unsuited, wrong-operands}
 use Rattle.language.specs.Meaning.{type-number}
 use Rattle.language.proofs.Types.TypeNumbers.{one-number, number-refs}

@@ -12,7 +12,7 @@ use Rattle.language.specs.Tokens.{Token}
 use Rattle.language.specs.Trees.{Ty}
 use Rattle.language.specs.Types.{Sig}
 use Rattle.language.specs.Meaning.{type-number}
-use Rattle.layout.specs.Table.{token-value, row-word, function-row, without-variables}
+use Rattle.layout.specs.Table.{OWN, TYPE, ARITY, token-value, row-word, function-row, without-variables}
 use Rattle.layout.proofs.VariablesWords.{without-before, row-without, function-without, token-without}
 use Rattle.layout.proofs.VariablesTrees.{function-alike}
 use Rattle.layout.specs.Functions.{Headed, function-name, find-function}
@@ -29,12 +29,12 @@ module _ (w : List ℕ) where
   -- ---- functions
 
   module _ {k : ℕ} (h : Headed p k) where
-    row-plain : row-word p (function-row p k) 1 ≡ row-word w (function-row w k) 1
-    row-plain = row-without w (function-row p k) 1 (h .row) (omega arith) ∙ ap (λ (i : ℕ). row-word w i 1) (function-without w k (h .few))
+    row-plain : row-word p (function-row p k) OWN ≡ row-word w (function-row w k) OWN
+    row-plain = row-without w (function-row p k) 1 (h .row) (omega arith) ∙ ap (λ (i : ℕ). row-word w i OWN) (function-without w k (h .few))
 
     -- a function's name has the same number
     pub name-plain : function-name p k ≡ function-name w k
-    name-plain = token-without w (row-word p (function-row p k) 1 + 1) 3 (h .name) (omega arith)
+    name-plain = token-without w (row-word p (function-row p k) OWN + 1) 3 (h .name) (omega arith)
         ∙ ap (λ (i : ℕ). token-value w (i + 1)) row-plain
 
     -- and its head lies in the same place
@@ -65,7 +65,7 @@ module _ (w : List ℕ) where
   rowed-plain Callee.Nobody h = tt
 
   wanted-function : (r k n : ℕ) → r + n < NODES → (b : Bool) → ltb k n ≡ b
-      → cond b (row-word p (r + k + 1) 2) 0 ≡ cond b (row-word w (r + k + 1) 2) 0
+      → cond b (row-word p (r + k + 1) TYPE) 0 ≡ cond b (row-word w (r + k + 1) TYPE) 0
   wanted-function r k n h true e = row-without w (r + k + 1) 2 (omega (arith, ltb-true k n e)) (omega arith)
   wanted-function r k n h false e = refl
 
@@ -73,7 +73,7 @@ module _ (w : List ℕ) where
   pub wanted-plain : (c : Callee) (k : ℕ) → Rowed p c → wanted-in p c k ≡ wanted-in w c k
   wanted-plain (Callee.Function r) k h =
       let e = row-without w r 2 (omega arith) (omega arith) in
-      rw e (wanted-function r k (row-word w r 2) (omega arith) (ltb k (row-word w r 2)) refl)
+      rw e (wanted-function r k (row-word w r ARITY) (omega arith) (ltb k (row-word w r ARITY)) refl)
   wanted-plain Callee.Putchar k h = refl
   wanted-plain Callee.Nobody k h = refl
 

@@ -8,7 +8,7 @@ use borrow.Author.Tests.{eq-eqb, ne-eqb, lt-ltb, le-ltb}
 use Rattle.language.specs.Sizes.{TOKENS, NODES}
 use Rattle.language.specs.Trees.{int}
 use Rattle.language.specs.Meaning.{type-number}
-use Rattle.layout.specs.Table.{TYPE, ARITY, row-word, variable-name, variable-kind}
+use Rattle.layout.specs.Table.{TYPE, ARITY, row-word, variable-name, variable-type}
 use Rattle.layout.specs.Functions.{find-function, found}
 use Rattle.layout.specs.declared.functions.Found.{Found}
 use Rattle.layout.specs.declared.functions.Found.the-variants as Found
@@ -18,7 +18,7 @@ use Rattle.rules.specs.declared.sight.Callee.the-variants as Callee
 
 module _ (w : List ℕ) (x : ℕ) {i k : ℕ} (last : i ≡ suc k) where
   -- the last variable is the one, or it is one of those before
-  pub variable-here : variable-name w k ≡ x → find-variable w x i ≡ some (variable-kind w k)
+  pub variable-here : variable-name w k ≡ x → find-variable w x i ≡ some (variable-type w k)
   unfolding find-variable
   variable-here e = rw (last, eq-eqb _ _ (sym e)) refl
 

@@ -1,4 +1,5 @@
--- What a node asks when its children are typed, and when an answer tells what the executable checker of the language answers.
+-- What a node asks when its children are typed, and when an answer tells what the executable checker of the language
+-- answers.
 use mathlib.Core.Bool.{Bool, true, false, _&&_}
 use mathlib.Core.List.{List, [], _∷_}
 use mathlib.Core.Option.{some}
@@ -8,10 +9,12 @@ use native.Mathlib.Decide.{ℕ-discrete}
 use lib.Dec.{eqb}
 use lib.ListN.{length}
 use Rattle.language.specs.Tokens.{Token, NAME, LET}
-use Rattle.language.specs.Trees.{Name, Ty, int, bool, unit, Ty-discrete, Unary, Binary, add, sub, mul, div, less, equal, and, or, assign, Exp, branch, call, Exps, Scope, nearest}
+use Rattle.language.specs.Trees.{Name, Ty, int, bool, unit, Ty-discrete, Unary, Binary, add, sub, mul, div}
+use Rattle.language.specs.Trees.{less, equal, and, or, assign, Exp, branch, call, Exps, Scope, nearest}
 use Rattle.language.specs.Types.{Sig}
 use Rattle.language.specs.Faults as Faults
-use Rattle.language.specs.Faults.{unsuited, wrong-operand, wrong-operands, not-unit, not-bool, wrong-number, wrong-argument}
+use Rattle.language.specs.Faults.{unsuited, wrong-operand, wrong-operands}
+use Rattle.language.specs.Faults.{not-unit, not-bool, wrong-number, wrong-argument}
 use Rattle.language.specs.Meaning.{type-number}
 use Rattle.language.proofs.Executable.Checks.{Res, ok, bad, told, need}
 use Rattle.language.proofs.Executable.Operators.{if-yes, unop, binop}
@@ -61,30 +64,36 @@ AsksOne kind n i r =
 abbrev pub AsksTwo : ℕ → ℕ → ℕ → ℕ → Typing → Type 0
 AsksTwo kind m n i r =
     (ts : List Token) (s : Shape) (Δ : Scope Sig) (Γ : Scope Ty) (a b c : Exp) (es : Exps) (t u : Ty)
-    → shape-of kind ≡ some s → children s ≡ 2 → (kind ≡ LET → ⊥) → infer Δ a Γ ≡ ok t → m ≡ type-number t → infer Δ b Γ ≡ ok u
+    → shape-of kind ≡ some s → children s ≡ 2 → (kind ≡ LET → ⊥) → infer Δ a Γ ≡ ok t → m ≡ type-number t
+    → infer Δ b Γ ≡ ok u
     → n ≡ type-number u
     → Tells r (infer Δ (build ts s i a b c es) Γ)
 
 -- an operator's answer, once its operands' types are known
 abbrev pub Prefixed : ℕ → ℕ → ℕ → Typing → Type 0
-Prefixed kind n i r = (o : Unary) (t : Ty) → kind ≡ unary-kind o → n ≡ type-number t → Tells r (told (unop o t) (unsuited o) i)
+Prefixed kind n i r = (o : Unary) (t : Ty) → kind ≡ unary-kind o → n ≡ type-number t
+    → Tells r (told (unop o t) (unsuited o) i)
 
 -- between two operands
 abbrev pub Between : ℕ → ℕ → ℕ → ℕ → Typing → Type 0
 Between kind m n i r =
-    (o : Binary) (t u : Ty) → kind ≡ binary-kind o → m ≡ type-number t → n ≡ type-number u → Tells r (told (binop o t u) wrong-operands i)
+    (o : Binary) (t u : Ty) → kind ≡ binary-kind o → m ≡ type-number t → n ≡ type-number u
+    → Tells r (told (binop o t u) wrong-operands i)
 
 -- of a prefix operator that wants one type and gives it back
 abbrev pub Alike : ℕ → ℕ → ℕ → Typing → Type 0
-Alike m n i r = (t u : Ty) → m ≡ type-number t → n ≡ type-number u → Tells r (told (if-yes (Ty-discrete t u) u) wrong-operand i)
+Alike m n i r = (t u : Ty) → m ≡ type-number t → n ≡ type-number u
+    → Tells r (told (if-yes (Ty-discrete t u) u) wrong-operand i)
 
 -- of `:=`
 abbrev pub Assigns : ℕ → ℕ → ℕ → Typing → Type 0
-Assigns m n i r = (t u : Ty) → m ≡ type-number t → n ≡ type-number u → Tells r (told (binop assign t u) wrong-operands i)
+Assigns m n i r = (t u : Ty) → m ≡ type-number t → n ≡ type-number u
+    → Tells r (told (binop assign t u) wrong-operands i)
 
 -- of `;`
 abbrev pub Follows : ℕ → ℕ → ℕ → Typing → Type 0
-Follows m n i r = (t u : Ty) → m ≡ type-number t → n ≡ type-number u → Tells r (need (Ty-discrete t unit) not-unit i λ _. ok u)
+Follows m n i r = (t u : Ty) → m ≡ type-number t → n ≡ type-number u
+    → Tells r (need (Ty-discrete t unit) not-unit i λ _. ok u)
 
 -- of `while`
 abbrev pub Repeats : ℕ → ℕ → ℕ → Typing → Type 0
@@ -92,8 +101,8 @@ Repeats m n i r =
     (t u : Ty) → m ≡ type-number t → n ≡ type-number u
     → Tells r (need (Ty-discrete t bool) not-bool i λ _. need (Ty-discrete u unit) not-unit i λ _. ok unit)
 
--- the type that an operator wants of both operands, and that of its result; `:=`, which wants two types, is kept out where
--- these are used
+-- the type that an operator wants of both operands, and that of its result; `:=`, which wants two types, is kept out
+-- where these are used
 abbrev pub operand : Binary → Ty
 operand add = int
 operand sub = int
@@ -128,7 +137,8 @@ Result kind n = (o : Binary) → (o ≡ assign → ⊥) → kind ≡ binary-kind
 abbrev pub AsksIf : ℕ → ℕ → ℕ → ℕ → Typing → Type 0
 AsksIf k m n i r =
     (Δ : Scope Sig) (Γ : Scope Ty) (a b c : Exp) (v t u : Ty)
-    → infer Δ a Γ ≡ ok v → k ≡ type-number v → infer Δ b Γ ≡ ok t → m ≡ type-number t → infer Δ c Γ ≡ ok u → n ≡ type-number u
+    → infer Δ a Γ ≡ ok v → k ≡ type-number v → infer Δ b Γ ≡ ok t → m ≡ type-number t → infer Δ c Γ ≡ ok u
+    → n ≡ type-number u
     → Tells r (infer Δ (branch i a b c) Γ)
 
 -- what a call answers of a function with such a signature, where the flag tells whether the arguments suit

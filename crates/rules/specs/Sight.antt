@@ -10,7 +10,7 @@ use Rattle.language.specs.Tokens.{Token}
 use Rattle.language.specs.Trees.{Name, Ty, int, Def, Scope, empty, push}
 use Rattle.language.specs.Types.{Sig, sig, with-def, given}
 use Rattle.language.specs.Meaning.{type-number}
-use Rattle.layout.specs.Table.{TYPE, ARITY, row-word, function-row, variable-name, variable-kind}
+use Rattle.layout.specs.Table.{TYPE, ARITY, row-word, function-row, variable-name, variable-type}
 use Rattle.layout.specs.Names.{Stand, Named}
 use Rattle.layout.specs.Functions.{find-function}
 use Rattle.layout.specs.Decode.{FunctionAt}
@@ -25,13 +25,13 @@ use Rattle.rules.specs.declared.sight.Callee.the-variants as Callee
 pub data Variables (ts : List Token) (w : List ℕ) : ℕ → Scope Ty → Type 0 where
   variables-none : Variables ts w 0 empty
   variables-more : {n m : ℕ} {x : Name} {t : Ty} {Γ : Scope Ty}
-      → m ≡ suc n → Named ts (variable-name w n) x → variable-kind w n ≡ type-number t → Variables ts w n Γ
+      → m ≡ suc n → Named ts (variable-name w n) x → variable-type w n ≡ type-number t → Variables ts w n Γ
       → Variables ts w m (push x t Γ)
 
 -- the type's number of the nearest of the first n variables whose name has the number x
 unfoldable pub find-variable : List ℕ → ℕ → ℕ → Option ℕ
 find-variable w x zero = none
-find-variable w x (suc n) = cond (eqb x (variable-name w n)) (some (variable-kind w n)) (find-variable w x n)
+find-variable w x (suc n) = cond (eqb x (variable-name w n)) (some (variable-type w n)) (find-variable w x n)
 
 -- what the search says
 abbrev pub found : Found → Option ℕ
@@ -47,7 +47,7 @@ pub data Functions (f : ℕ) (ts : List Token) (w : List ℕ) : ℕ → Scope Si
       → m ≡ suc n → FunctionAt f ts w (function-row w n) d → Functions f ts w n Δ → Functions f ts w m (with-def Δ d)
 
 -- the tokens ts, and the functions Δ in sight
-pub record Sheet (ts : List Token) (f : ℕ) (w : List ℕ) (seen : ℕ) (Δ : Scope Sig) : Type 0 where
+pub record InSight (ts : List Token) (f : ℕ) (w : List ℕ) (seen : ℕ) (Δ : Scope Sig) : Type 0 where
   pub count : ℕ
   pub stand : Stand w count ts
   pub few : seen ≤ count

@@ -3,7 +3,8 @@ ghost use Prim.Native.Nat.{_≤_};
 ghost use lib.ListN.{length};
 ghost use Rattle.language.specs.Sizes.{TABLE};
 ghost use Rattle.rules.specs.Sight.{Rowed};
-ghost use Rattle.rules.specs.Asked.{Children, Constant, AsksOne, AsksTwo, AsksIf, AsksCall, Prefixed, Between, Alike, Assigns, Follows, Repeats, Matches, Operand, Result};
+ghost use Rattle.rules.specs.Asked.{Children, Constant, AsksOne, AsksTwo, AsksIf, AsksCall, Prefixed};
+ghost use Rattle.rules.specs.Asked.{Between, Alike, Assigns, Follows, Repeats, Matches, Operand, Result};
 use crate::Typing;
 use crate::sight::Callee;
 use language::kinds;
@@ -93,8 +94,8 @@ fn unary(kind: u32, found: u32, at: u32) -> Typing
     Typing::Fault(Reason::TooManyRefs, at)
 }
 
-// A Group has its inside's type, and so has a Block.
-pub fn one(kind: u32, found: u32, at: u32) -> Typing
+// A node's answer once its one child is typed. A Group has its inside's type, and so has a Block.
+pub fn after_child(kind: u32, found: u32, at: u32) -> Typing
     ensures { λ r. ⌜ AsksOne kind found at r ⌝ }
 {
     if kind < rows::PREFIX {
@@ -177,7 +178,8 @@ fn repeat(condition: u32, body: u32, at: u32) -> Typing
     Typing::Fault(Reason::NotBool, at)
 }
 
-pub fn two(kind: u32, first: u32, second: u32, at: u32) -> Typing
+// A node's answer once its two children are typed.
+pub fn after_children(kind: u32, first: u32, second: u32, at: u32) -> Typing
     ensures { λ r. ⌜ AsksTwo kind first second at r ⌝ }
 {
     if kind == kinds::SEMI {

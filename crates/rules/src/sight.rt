@@ -34,7 +34,7 @@ pub fn variable(table: &[u32], binds: usize, name: u32) -> Found
     while 0 < i {
         let k = i - 1;
         if variables::name(table, k) == name {
-            return Found::Is(variables::kind(table, k));
+            return Found::Is(variables::type_number(table, k));
         }
         i = k;
     }

@@ -25,7 +25,8 @@ use Rattle.runner.specs.Contract.{Stands, slack, top, Ready}
 use Rattle.machine.specs.declared.state.Frame.{Frame}
 use Rattle.machine.specs.declared.state.Tally.{Tally}
 use Rattle.machine.proofs.Keeping.{kept-self, kept-put, room-after, printed-after}
-use Rattle.runner.proofs.Shapes.{kind-is, unary-shape, Rest, binary-shape}
+use Rattle.layout.proofs.Shapes.{kind-of-shape}
+use Rattle.runner.proofs.Shapes.{unary-shape, Rest, binary-shape}
 use Rattle.runner.proofs.Standing.{stands-after, stands-first, stands-second, stands-third}
 use Rattle.runner.proofs.Beginnings.{name-inside-of}
 use Rattle.runner.proofs.Constants.{number-inside-of, number-small}
@@ -92,13 +93,13 @@ module _ {table w o : List ℕ} {node depth : ℕ} {f : Frame} {s : Tally} (r : 
   pub ready-unary : PREFIX ≤ row-word table node 0 → IsUnary table node
   ready-unary l =
       let k = right-shape (r .h) (r .ts) table node (r .stands .tree) in
-      k .1 ∙ ap (λ (x : Shape). some x) (unary-shape (row-word table node 0) (k .0) (kind-is (row-word table node 0) (k .1)) l)
+      k .1 ∙ ap (λ (x : Shape). some x) (unary-shape (row-word table node 0) (k .0) (kind-of-shape (row-word table node 0) _ (k .1)) l)
 
   -- an operator between two operands
   pub ready-binary : Rest (row-word table node 0) → PLUS ≤ row-word table node 0 → IsBinary table node
   ready-binary rest l =
       let k = right-shape (r .h) (r .ts) table node (r .stands .tree) in
-      k .1 ∙ ap (λ (x : Shape). some x) (binary-shape (row-word table node 0) (k .0) (kind-is (row-word table node 0) (k .1)) rest l)
+      k .1 ∙ ap (λ (x : Shape). some x) (binary-shape (row-word table node 0) (k .0) (kind-of-shape (row-word table node 0) _ (k .1)) rest l)
 
 -- ---- the parts of a node
 

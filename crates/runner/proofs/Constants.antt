@@ -13,7 +13,7 @@ use Rattle.language.specs.State as M
 use Rattle.language.specs.State.{value}
 use Rattle.language.specs.Meaning.{Fun, Env, step, literal-value}
 use Rattle.layout.specs.Table.{token-value, row-word}
-use Rattle.layout.specs.Names.{payload, Stand}
+use Rattle.layout.specs.Names.{value-word, Stand}
 use Rattle.layout.specs.Decode.{a-number, a-constant, shape-of, build, tree-at, Right}
 use Rattle.layout.specs.Values.{meant}
 use Rattle.layout.specs.declared.values.Value.{Value}
@@ -25,7 +25,8 @@ use Rattle.machine.specs.declared.state.Tally.{Tally}
 use Rattle.machine.specs.declared.state.Outcome.the-variants.{Gives}
 use Rattle.machine.proofs.Telling.{tells-same, tells-by}
 use Rattle.machine.proofs.Keeping.{kept-self}
-use Rattle.runner.proofs.Shapes.{tree-is, kind-is, Rest, literal-shape}
+use Rattle.layout.proofs.Shapes.{kind-of-shape}
+use Rattle.runner.proofs.Shapes.{tree-is, Rest, literal-shape}
 use Rattle.runner.proofs.Standing.{carried-own}
 use Rattle.runner.proofs.Steps.{stepped, every}
 
@@ -45,7 +46,7 @@ number-inside ts i e = go (decLt i (length ts))
 
 -- its fourth word is its value
 pub number-at : {w : List ℕ} {count : ℕ} {ts : List Token} → Stand w count ts → (i : ℕ) → At ts i NUMBER → token-value w i ≡ value-at ts i
-unfolding kind-at value-at payload
+unfolding kind-at value-at value-word
 number-at {w} {count} {ts} st i e = let l = number-inside ts i e in st .values i (omega (arith, st .long)) ∙ rw e refl
 
 -- ---- literals
@@ -96,7 +97,7 @@ module _ (table : List ℕ) (node : ℕ) where
         → tree-at (suc h) ts table node ≡ literal (row-word table node 1) (literal-of table node)
     unfolding Right
     literal-tree st r rest l =
-        literal-shape (row-word table node 0) (r .shape) (kind-is (row-word table node 0) (r .known)) rest l _ (is-number st r) is-true is-false
+        literal-shape (row-word table node 0) (r .shape) (kind-of-shape (row-word table node 0) _ (r .known)) rest l _ (is-number st r) is-true is-false
         is-unit
 
   literal-step : (rec : Sem) (fs : Scope Fun) (env : Env) (σ : M.State) (v : Value) → meant v ≡ literal-value (literal-of table node)

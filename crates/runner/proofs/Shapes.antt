@@ -1,18 +1,17 @@
--- Rows read back: the tree that a row of a known kind is, and the kind that a row of a known shape has.
+-- Rows read back: the tree that a row of a known kind is, and the shape that a kind has.
 use mathlib.Core.Path.{_≡_, refl, sym, ap, subst, _∙_}
-use mathlib.Core.Bool.{Bool, true, false}
-use mathlib.Core.List.{List, [], _∷_}
-use mathlib.Core.Option.{Option, some}
+use mathlib.Core.Bool.{true, false}
+use mathlib.Core.List.{List}
+use mathlib.Core.Option.{some}
 use Prim.Native.Nat.{ℕ, zero, suc, _+_, _≤_, _<_}
 use native.Mathlib.Omega.{arith}
-use lib.Dec.{eqb}
-use borrow.Author.Tests.{eqb-true}
-use Rattle.language.specs.Tokens.{Token, Row, _is_, entry, NAME, NUMBER, LET, WHILE, IF, REF, NOT, TRUE, FALSE, TT, PLUS, MINUS, STAR, SLASH, AND, OR, LESS, EQUAL, BECOMES, BANG, SEMI, LPAR, LBRACE}
+use Rattle.language.specs.Tokens.{Token, entry, NAME, NUMBER, LET, WHILE, IF, TRUE, FALSE, TT, PLUS, SEMI, LPAR, LBRACE}
 use Rattle.language.specs.Trees.{Exp, Exps, whole, truth, trivial, Unary, minus, fetch, new, Binary, own}
-use Rattle.language.proofs.Meaning.CellTypes.{none-some, some-one}
+use Rattle.language.proofs.Meaning.CellTypes.{some-one}
 use Rattle.layout.specs.Table.{row-word}
-use Rattle.layout.specs.Rows.{PREFIX, CALL}
-use Rattle.layout.specs.Decode.{Shape, a-name, a-number, a-follow, a-group, a-block, a-call, a-let, an-if, a-while, a-constant, a-unary, a-binary, shapes, shape-of, children, build, build-if, tree-at, args-at, Node, Right, RightArgs}
+use Rattle.layout.specs.Rows.{PREFIX, CALL, literal-kind, unary-kind, binary-kind}
+use Rattle.layout.proofs.Shapes.{shape-kind}
+use Rattle.layout.specs.Decode.{Shape, a-name, a-number, a-follow, a-group, a-block, a-call, a-let, an-if, a-while, a-constant, a-unary, a-binary, shape-of, children, build, build-if, tree-at, args-at, Node, Right, RightArgs}
 use Rattle.machine.specs.Rows.{unary-of, binary-of}
 
 -- ---- the tree of a row
@@ -79,57 +78,6 @@ module _ (ts : List Token) (w : List ℕ) (i f : ℕ) (r : Right (suc f) ts w i)
   unfolding Right
   third-part l = part-third (λ j. Right f ts w j) (λ j. RightArgs f ts w j) ts w i r sh e l
 
--- ---- the kind of a shape
-
-abbrev pub kind : Shape → ℕ
-kind a-name = NAME
-kind a-number = NUMBER
-kind (a-constant (whole n)) = NUMBER
-kind (a-constant (truth true)) = TRUE
-kind (a-constant (truth false)) = FALSE
-kind (a-constant trivial) = TT
-kind (a-unary minus) = PREFIX + MINUS
-kind (a-unary Unary.not) = PREFIX + NOT
-kind (a-unary fetch) = PREFIX + BANG
-kind (a-unary new) = PREFIX + REF
-kind (a-binary Binary.add) = PLUS
-kind (a-binary Binary.sub) = MINUS
-kind (a-binary Binary.mul) = STAR
-kind (a-binary Binary.div) = SLASH
-kind (a-binary Binary.and) = AND
-kind (a-binary Binary.or) = OR
-kind (a-binary Binary.less) = LESS
-kind (a-binary Binary.equal) = EQUAL
-kind (a-binary Binary.assign) = BECOMES
-kind a-follow = SEMI
-kind a-group = LPAR
-kind a-block = LBRACE
-kind a-call = CALL
-kind a-let = LET
-kind an-if = IF
-kind a-while = WHILE
-
-abbrev Agree : List (Row ℕ Shape) → Type 0
-Agree [] = Unit {0}
-Agree ((c is a) ∷ rows) = (kind a ≡ c) × Agree rows
-
-entry-kind : (rows : List (Row ℕ Shape)) → Agree rows → (k : ℕ) (a : Shape) → entry rows k ≡ some a → k ≡ kind a
-unfolding entry
-entry-kind [] g k a e = absurd (none-some e)
-entry-kind ((c is b) ∷ rows) g k a e = by (eqb k c) refl (λ q. entry-kind rows (g .1) k a q)
-  where
-    by : (t : Bool) → eqb k c ≡ t → (entry rows k ≡ some a → k ≡ kind a) → k ≡ kind a
-    by true d ih = let q : _≡_ {A = Option Shape} (some b) (some a) = rw d at e in eqb-true k c d ∙ sym (g .0) ∙ ap kind (some-one q)
-    by false d ih = let q : entry rows k ≡ some a = rw d at e in ih q
-
-agree : Agree shapes
-agree = (refl, (refl, (refl, (refl, (refl, (refl, (refl, (refl, (refl, (refl, (refl, (refl, (refl, (refl, (refl, (refl, (refl, (refl, (refl, (refl, (refl, (refl, (refl, (refl, (refl, tt)))))))))))))))))))))))))
-
--- a row of a shape has the kind of that shape
-pub kind-is : (k : ℕ) {sh : Shape} → shape-of k ≡ some sh → k ≡ kind sh
-unfolding shape-of
-kind-is k {sh} e = entry-kind shapes agree k sh e
-
 -- ---- the shape of a kind
 
 -- a name
@@ -173,8 +121,8 @@ unfolding shape-of entry
 known-while e = rw e refl
 
 -- an operator before its operand
-pub unary-shape : (k : ℕ) (sh : Shape) → k ≡ kind sh → PREFIX ≤ k → sh ≡ a-unary (unary-of k)
-unfolding unary-of
+pub unary-shape : (k : ℕ) (sh : Shape) → k ≡ shape-kind sh → PREFIX ≤ k → sh ≡ a-unary (unary-of k)
+unfolding unary-of shape-kind literal-kind unary-kind binary-kind
 unary-shape k a-name e l = absurd (omega arith)
 unary-shape k a-number e l = absurd (omega arith)
 unary-shape k (a-constant (whole n)) e l = absurd (omega arith)
@@ -215,8 +163,8 @@ pub record Rest (k : ℕ) : Type 0 where
   pub low : k < PREFIX
 
 -- an operator between two operands
-pub binary-shape : (k : ℕ) (sh : Shape) → k ≡ kind sh → Rest k → PLUS ≤ k → sh ≡ a-binary (binary-of k)
-unfolding binary-of
+pub binary-shape : (k : ℕ) (sh : Shape) → k ≡ shape-kind sh → Rest k → PLUS ≤ k → sh ≡ a-binary (binary-of k)
+unfolding binary-of shape-kind literal-kind unary-kind binary-kind
 binary-shape k a-name e r l = absurd (r .name e)
 binary-shape k a-number e r l = absurd (omega arith)
 binary-shape k (a-constant (whole n)) e r l = absurd (omega arith)
@@ -245,8 +193,9 @@ binary-shape k an-if e r l = absurd (r .branch e)
 binary-shape k a-while e r l = absurd (r .loop e)
 
 -- a literal: a number, or a constant that has its kind alone
-pub literal-shape : (k : ℕ) (sh : Shape) → k ≡ kind sh → Rest k → k < PLUS → (C : Type 0) → (k ≡ NUMBER → C) → (k ≡ TRUE → C) → (k ≡ FALSE → C)
+pub literal-shape : (k : ℕ) (sh : Shape) → k ≡ shape-kind sh → Rest k → k < PLUS → (C : Type 0) → (k ≡ NUMBER → C) → (k ≡ TRUE → C) → (k ≡ FALSE → C)
     → (k ≡ TT → C) → C
+unfolding shape-kind literal-kind unary-kind binary-kind
 literal-shape k a-name e r l C n t f u = absurd (r .name e)
 literal-shape k a-number e r l C n t f u = n e
 literal-shape k (a-constant (whole m)) e r l C n t f u = n e

@@ -7,10 +7,11 @@ use lib.ListN.{length, drop}
 use Rattle.language.specs.State as M
 use Rattle.language.specs.State.{number, flag, nothing, cell, value, stop}
 use Rattle.layout.specs.Values.{meant}
+use Rattle.layout.specs.declared.Held.{Held}
 use Rattle.layout.specs.declared.values.Value.{Value}
 use Rattle.layout.specs.declared.values.Value.the-variants.{Int, Flag, Nothing, Cell}
 use Rattle.numbers.proofs.Apart.{same-stop}
-use Rattle.runner.specs.Contract.{spent-of, EndsAs, Sheet, RunsTo}
+use Rattle.runner.specs.Contract.{spent-of, EndsAs, Loaded, RunsTo}
 use Rattle.runner.specs.declared.Done.{Done}
 
 -- ---- the code's values are told apart by what they stand for
@@ -62,8 +63,8 @@ one-answer (Done.Stop y i d) (Done.Stop z j e) a b =
     (λ n. Done.Stop (same-stop y z (x .0) n) (x .1 n) (one-spent a b (x .2) n), one-output a b (x .2))
 
 -- no two answers, outputs or work memories fulfil the contract of `run`
-pub one-run : {table w o w1 o1 w2 o2 : List ℕ} {count defs root allowance : ℕ} {r q : Done} → Sheet table w count defs root allowance
-    → RunsTo table w o w1 o1 count defs root allowance r → RunsTo table w o w2 o2 count defs root allowance q → (r ≡ q) × (o1 ≡ o2) × (w1 ≡ w2)
+pub one-run : {table w o w1 o1 w2 o2 : List ℕ} {P : Held} {allowance : ℕ} {r q : Done} → Loaded table w P allowance
+    → RunsTo table w o w1 o1 P allowance r → RunsTo table w o w2 o2 P allowance q → (r ≡ q) × (o1 ≡ o2) × (w1 ≡ w2)
 one-run {r = r} {q = q} sh a b =
     let e = one-answer r q (a .answer (sh .ts) (sh .program) (sh .type) (sh .holds) (sh .typed))
     (b .answer (sh .ts) (sh .program) (sh .type) (sh .holds) (sh .typed)) in

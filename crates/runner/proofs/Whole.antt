@@ -16,9 +16,10 @@ use Rattle.language.proofs.Meaning.NeverStuck.{never-stuck}
 use Rattle.layout.specs.Table.{zeros}
 use Rattle.layout.specs.Names.{Stand}
 use Rattle.layout.specs.Decode.{tree-at, FunctionsAt, functions-none, functions-more, Holds}
+use Rattle.layout.specs.declared.Held.{Held}
 use Rattle.machine.specs.Slots.{slots, cells-of}
 use Rattle.machine.specs.Outcomes.{Tells, tells, anything, bytes, memory, outcome, tally}
-use Rattle.runner.specs.Contract.{Defines, defines-none, defines-more, binds-none, Stands, Ready, Ran, Sheet, reported, EndsAs, RunsTo}
+use Rattle.runner.specs.Contract.{Defines, defines-none, defines-more, binds-none, Stands, Ready, Ran, Loaded, reported, EndsAs, RunsTo}
 use Rattle.runner.specs.declared.Done.{Done}
 use Rattle.machine.specs.declared.state.Frame.{Frame}
 use Rattle.machine.specs.declared.state.Tally.{Tally}
@@ -61,10 +62,10 @@ first-tally allowance = record { units = allowance; births = 0; cells = 0; print
 abbrev in-sight : Program → Scope Fun
 in-sight p = functions (p .defs) (push PUTCHAR putchar empty)
 
-stands-first : {ts : List Token} {table : List ℕ} (w : List ℕ) {count defs root : ℕ} {p : Program} {t : Ty} (h : Holds ts table count defs root p)
-    → HasType p t → Stands (h .depth) (h .depth) ts table w root (outermost defs) (in-sight p) empty
-stands-first {ts} {table} w {count} {defs} {root} {p} h typed =
-    let q : 0 + length (p .defs) ≡ defs = omega (arith, h .defined) in
+stands-first : {ts : List Token} {table : List ℕ} (w : List ℕ) {P : Held} {p : Program} {t : Ty} (h : Holds ts table P p)
+    → HasType p t → Stands (h .depth) (h .depth) ts table w (P .root) (outermost (P .functions)) (in-sight p) empty
+stands-first {ts} {table} w {P} {p} h typed =
+    let q : 0 + length (p .defs) ≡ P .functions = omega (arith, h .defined) in
     record {
       scene = record {
         long = h .long;
@@ -85,9 +86,9 @@ told-is : {q m : M.Outcome} → Tells q m → (m ≡ stuck → ⊥) → q ≡ m
 told-is tells h = refl
 told-is anything h = absurd (h refl)
 
-module _ {table w o : List ℕ} {count defs root allowance : ℕ} where
+module _ {table w o : List ℕ} {P : Held} {allowance : ℕ} where
   -- the last expression is ready
-  pub ready-first : Sheet table w count defs root allowance → Ready table w o root ACTIVE (outermost defs) (first-tally allowance)
+  pub ready-first : Loaded table w P allowance → Ready table w o (P .root) ACTIVE (outermost (P .functions)) (first-tally allowance)
   ready-first sh =
       record {
         d = sh .holds .depth;
@@ -101,21 +102,21 @@ module _ {table w o : List ℕ} {count defs root allowance : ℕ} where
         printed = omega arith;
       }
 
-  module _ {w1 o1 : List ℕ} {r : Outcome} (ran : Ran (evals ACTIVE) 0 table w o w1 o1 root (outermost defs) (first-tally allowance) r) where
-    whole-tells : (ts : List Token) (p : Program) (t : Ty) → Holds ts table count defs root p → HasType p t
+  module _ {w1 o1 : List ℕ} {r : Outcome} (ran : Ran (evals ACTIVE) 0 table w o w1 o1 (P .root) (outermost (P .functions)) (first-tally allowance) r) where
+    whole-tells : (ts : List Token) (p : Program) (t : Ty) → Holds ts table P p → HasType p t
         → Tells (outcome w1 o1 r) (run p allowance (length o))
     unfolding run
     whole-tells ts p t h typed =
         subst (λ (e : Exp). Tells (outcome w1 o1 r) (eval (in-sight p) ACTIVE e empty (start allowance (length o)))) (h .main)
-        (subst (λ (σ : M.State). Tells (outcome w1 o1 r) (eval (in-sight p) ACTIVE (tree-at (h .depth) ts table root) empty σ))
+        (subst (λ (σ : M.State). Tells (outcome w1 o1 r) (eval (in-sight p) ACTIVE (tree-at (h .depth) ts table (P .root)) empty σ))
         (memory-first w o allowance) (ran .right (h .depth) (h .depth) ts (in-sight p) empty (stands-first w h typed)))
 
-    outcome-is : (ts : List Token) (p : Program) (t : Ty) → Holds ts table count defs root p → HasType p t
+    outcome-is : (ts : List Token) (p : Program) (t : Ty) → Holds ts table P p → HasType p t
         → outcome w1 o1 r ≡ run p allowance (length o)
     outcome-is ts p t h typed = told-is (whole-tells ts p t h typed) (never-stuck p t allowance (length o) typed)
 
     -- the contract of the run
-    pub whole : (w2 : List ℕ) → w2 ≡ zeros w1 0 WORK → (q : Done) → q ≡ reported r → RunsTo table w o w2 o1 count defs root allowance q
+    pub whole : (w2 : List ℕ) → w2 ≡ zeros w1 0 WORK → (q : Done) → q ≡ reported r → RunsTo table w o w2 o1 P allowance q
     whole w2 ew q eq = record {
       answer = λ ts p t h typed.
           subst (EndsAs (run p allowance (length o)) o o1) (sym eq)

@@ -15,6 +15,7 @@ use Rattle.language.specs.Meaning.{Fun, putchar, defined, Env, arguments, run}
 use Rattle.layout.specs.Table.{KIND, row-word, function-row, zeros}
 use Rattle.layout.specs.Names.{name-number, Stand}
 use Rattle.layout.specs.Decode.{tree-at, args-at, Right, RightArgs, FunctionAt, Holds}
+use Rattle.layout.specs.declared.Held.{Held}
 use Rattle.layout.specs.Slots.{key-at}
 use Rattle.layout.specs.Slots as Slots
 use Rattle.layout.specs.Values.{meant}
@@ -151,11 +152,11 @@ reported (Gives v t) = Done.Value v (spent t)
 reported (Halts y p t) = Done.Stop y p (spent t)
 
 -- What is asked: the table holds a program that has a type.
-pub record Sheet (table w : List ℕ) (count defs root allowance : ℕ) : Type 0 where
+pub record Loaded (table w : List ℕ) (P : Held) (allowance : ℕ) : Type 0 where
   pub ts : List Token
   pub program : Program
   pub type : Ty
-  pub holds : Holds ts table count defs root program
+  pub holds : Holds ts table P program
   pub typed : HasType program type
   pub long : WORK ≤ length w
   pub allowed : allowance ≤ ALLOWANCE
@@ -178,7 +179,7 @@ pub record EndsAs (m : M.Outcome) (o o′ : List ℕ) (r : Done) : Type 0 where
   pub output : o′ ≡ reverse (state .printed) ++ drop (length (reverse (state .printed))) o
 
 -- What is promised: the answer and the output are those of the meaning, and work memory is cleared.
-pub record RunsTo (table w o w′ o′ : List ℕ) (count defs root allowance : ℕ) (r : Done) : Type 0 where
-  pub answer : (ts : List Token) (p : Program) (t : Ty) → Holds ts table count defs root p → HasType p t
+pub record RunsTo (table w o w′ o′ : List ℕ) (P : Held) (allowance : ℕ) (r : Done) : Type 0 where
+  pub answer : (ts : List Token) (p : Program) (t : Ty) → Holds ts table P p → HasType p t
       → EndsAs (run p allowance (length o)) o o′ r
   pub cleared : w′ ≡ zeros w 0 WORK

@@ -7,9 +7,10 @@ mod nodes;
 mod operators;
 
 ghost use mathlib.Core.Path.{_≡_};
-ghost use Rattle.runner.specs.Contract.{Sheet, RunsTo, reported};
+ghost use Rattle.runner.specs.Contract.{Loaded, RunsTo, reported};
 use language::ACTIVE;
 use language::WORK;
+use layout::Held;
 use layout::memory;
 use layout::values::Value;
 use machine::state::Frame;
@@ -50,22 +51,13 @@ fn report(outcome: Outcome) -> Done
     }
 }
 
-// Runs the program that the table holds: `count` tokens, `defs` functions, the last expression at row
-// `root`.
-pub fn run(
-    table: &[u32],
-    work: &mut [u32],
-    out: &mut [u8],
-    count: usize,
-    defs: usize,
-    root: usize,
-    allowance: u32,
-) -> Done
-    requires { ⌜ Sheet (now table) (now work) count defs root allowance ⌝ }
-    ensures { λ r. ⌜ RunsTo (now (table .entry)) (now (work .entry)) (now (out .entry)) (now (work .exit)) (now (out .exit)) count defs root allowance r ⌝ }
+// Runs the program that the table holds.
+pub fn run(table: &[u32], work: &mut [u32], out: &mut [u8], program: Held, allowance: u32) -> Done
+    requires { ⌜ Loaded (now table) (now work) program allowance ⌝ }
+    ensures { λ r. ⌜ RunsTo (now (table .entry)) (now (work .entry)) (now (out .entry)) (now (work .exit)) (now (out .exit)) program allowance r ⌝ }
 {
     let frame = Frame {
-        defs,
+        defs: program.functions,
         base: 0,
         size: 0,
     };
@@ -75,7 +67,7 @@ pub fn run(
         cells: 0,
         printed: 0,
     };
-    let outcome = nodes::eval(table, work, out, root, ACTIVE, frame, start);
+    let outcome = nodes::eval(table, work, out, program.root, ACTIVE, frame, start);
     memory::clear(work, 0, WORK);
     report(outcome)
 }

@@ -18,7 +18,8 @@ use Rattle.numbers.specs.declared.Refusal.{Refusal}
 use Rattle.layout.specs.Table.{token-word, without-rows, without-variables}
 use Rattle.layout.specs.Names.{Stand, lay-tokens}
 use Rattle.layout.specs.Decode.{Holds}
-use Rattle.layout.proofs.Held.{held}
+use Rattle.layout.specs.declared.Held.{Held}
+use Rattle.layout.proofs.HeldPrograms.{held}
 use Rattle.layout.proofs.FewRows.{few-rows, few-defs}
 use Rattle.layout.proofs.LayLaws.{length-lay-program}
 use Rattle.layout.proofs.TokenLaws.{stand-same, lay-length}
@@ -32,7 +33,7 @@ use Rattle.reader.specs.Findings as Reader
 use Rattle.reader.specs.declared.Found as found
 use Rattle.checker.specs.Checked as Checker
 use Rattle.rules.specs.declared.Typing as typing
-use Rattle.sheets.specs.Sheets.{wiped, byte-of, Held, OfProgram, Typed, Standing, OfTokens, Read, Placed, OfSource, Examined}
+use Rattle.sheets.specs.Sheets.{wiped, byte-of, OfProgram, Typed, Standing, OfTokens, Read, Placed, OfSource, Examined}
 use Rattle.sheets.specs.declared.Verdict.{Verdict}
 use Rattle.sheets.specs.declared.Seen.{Seen}
 
@@ -59,8 +60,8 @@ byte-past w count end i h = rw (le-ltb i count h) refl
 
 -- ---- the type of a program that is held
 
-module _ (w w′ : List ℕ) (count defs root : ℕ) where
-  checked-holds : (e : w′ ≡ without-variables w) (ts : List Token) (p : Program) → Holds ts w count defs root p → Holds ts w′ count defs root p
+module _ (w w′ : List ℕ) (P : Held) where
+  checked-holds : (e : w′ ≡ without-variables w) (ts : List Token) (p : Program) → Holds ts w P p → Holds ts w′ P p
   checked-holds e ts p h = rw e (holds-without h)
 
   checked-rest : w′ ≡ without-variables w → wiped w′ ≡ wiped w
@@ -69,17 +70,17 @@ module _ (w w′ : List ℕ) (count defs root : ℕ) where
   checked-long : w′ ≡ without-variables w → length w′ ≡ length w
   checked-long e = ap length e ∙ length-without w
 
-  pub typed-type : (r : typing.Typing) (n : ℕ) → Checker.Checked w w′ count defs root r → r ≡ typing.the-variants.«Type» n
-      → Typed w w′ count defs root (Verdict.Proper defs root n)
+  pub typed-type : (r : typing.Typing) (n : ℕ) → Checker.Checked w w′ P r → r ≡ typing.the-variants.«Type» n
+      → Typed w w′ P (Verdict.Proper P n)
   typed-type r n c q = record {
-    told = λ ts p h. (refl, refl, subst (λ (r : typing.Typing). Checker.Answers r p) q (c .right ts p h));
+    told = λ ts p h. (refl, subst (λ (r : typing.Typing). Checker.Answers r p) q (c .right ts p h));
     holds = checked-holds (c .table);
     rest = checked-rest (c .table);
     long = checked-long (c .table);
   }
 
-  pub typed-fault : (r : typing.Typing) (y : Reason) (i : ℕ) → Checker.Checked w w′ count defs root r → r ≡ typing.the-variants.Fault y i
-      → Typed w w′ count defs root (Verdict.Denied (Refusal.Types y) i)
+  pub typed-fault : (r : typing.Typing) (y : Reason) (i : ℕ) → Checker.Checked w w′ P r → r ≡ typing.the-variants.Fault y i
+      → Typed w w′ P (Verdict.Denied (Refusal.Types y) i)
   typed-fault r y i c q = record {
     told = λ ts p h. (reason-meant y, subst (λ (r : typing.Typing). Checker.Answers r p) q (c .right ts p h), refl);
     holds = checked-holds (c .table);
@@ -93,44 +94,49 @@ module _ (w w₁ : List ℕ) (count : ℕ) (st : Standing w count) where
   abbrev Found : found.Found → Type 0
   Found g = (ts : List Token) → Stand w count ts → Reader.Finds ts w g w₁
 
-  program-holds : {defs root : ℕ} {ts : List Token} → Stand w count ts → (r : Reader.Read ts w defs root w₁) → Holds ts w₁ count defs root (r .program)
-  program-holds {ts = ts} s r =
-      rw (r .laid, r .count, r .top) (held ts (r .program) w count (st .long) s (r .reading))
+  program-holds : {P : Held} {ts : List Token} → Stand w count ts → (r : Reader.Read ts w P w₁) → Holds ts w₁ P (r .program)
+  program-holds {ts = ts} s r = rw (r .laid, r .held) (held ts (r .program) w (st .long) s (r .reading))
+
+  -- by as many tokens as there are
+  program-count : {P : Held} {ts : List Token} → Stand w count ts → Reader.Read ts w P w₁ → P .count ≡ count
+  program-count s r = ap (λ (P : Held). P .count) (r .held) ∙ s .long
 
   -- the reader's table can be given to the checker
-  pub program-held : (r : found.Found) (defs root : ℕ) → Found r → r ≡ found.the-variants.Program defs root → Held w₁ count defs root
-  program-held r defs root f e =
+  pub program-held : (r : found.Found) (P : Held) → Found r → r ≡ found.the-variants.Program P → Checker.Checkable w₁ P
+  program-held r P f e =
       let g = subst Found e f in
       let r = g (st .tokens) (st .stand) in
       record { tokens = st .tokens; program = r .program; holds = program-holds (st .stand) r }
 
-  program-rest : {defs root : ℕ} → Reader.Read (st .tokens) w defs root w₁ → wiped w₁ ≡ wiped w
+  program-rest : {P : Held} → Reader.Read (st .tokens) w P w₁ → wiped w₁ ≡ wiped w
   program-rest r =
       let n = few-rows (st .tokens) (r .program) (r .reading) in
       let k = few-defs (r .program .defs) in
       ap wiped (r .laid) ∙ wiped-program (r .program) w (omega (arith, st .stand .few, st .stand .long)) (omega (arith, st .stand .few, st .stand .long))
 
-  of-program : {defs root : ℕ} {ts : List Token} {w₂ : List ℕ} (v : Verdict) (r : Reader.Read ts w defs root w₁)
-      → OfProgram (r .program) defs root v → Holds ts w₂ count defs root (r .program) → OfTokens ts w₂ count v
-  of-program (Verdict.Proper d q n) r (a, b, x) h = record {
+  of-program : {P : Held} {ts : List Token} {w₂ : List ℕ} (v : Verdict) (r : Reader.Read ts w P w₁)
+      → OfProgram (r .program) P v → Holds ts w₂ P (r .program) → OfTokens ts w₂ v
+  of-program (Verdict.Proper Q n) r (e, x) h = record {
     program = r .program;
     type = x .0;
     proper = record { reads = r .reading; typed = x .1 };
     numbered = x .2;
-    holds = rw (a, b) h;
+    holds = rw e h;
   }
   of-program (Verdict.Denied y i) r (v, f, e) h = rw e (faulty (r .reading) f)
 
-  pub read-program : (w₂ : List ℕ) (r : found.Found) (defs root : ℕ) (v : Verdict) → Found r → r ≡ found.the-variants.Program defs root
-      → Typed w₁ w₂ count defs root v → Read w w₂ count v
-  read-program w₂ r defs root v f e t =
+  pub read-program : (w₂ : List ℕ) (r : found.Found) (P : Held) (v : Verdict) → Found r → r ≡ found.the-variants.Program P
+      → Typed w₁ w₂ P v → Read w w₂ count v
+  read-program w₂ r P v f e t =
       let g = subst Found e f in
       record {
         told = λ ts x.
             let r = g ts x in
             let h = program-holds x r in
             of-program v r (t .told ts (r .program) h) (t .holds ts (r .program) h);
-        stands = λ ts x. let r = g ts x in (t .holds ts (r .program) (program-holds x r)) .stand;
+        stands = λ ts x.
+            let r = g ts x in
+            subst (λ (n : ℕ). Stand w₂ n ts) (program-count x r) ((t .holds ts (r .program) (program-holds x r)) .stand);
         rest = t .rest ∙ program-rest (g (st .tokens) (st .stand));
         long = t .long ∙ ap length ((g (st .tokens) (st .stand)) .laid) ∙ length-lay-program ((g (st .tokens) (st .stand)) .program) w;
       }
@@ -152,8 +158,8 @@ module _ (w w₁ : List ℕ) (count : ℕ) (st : Standing w count) where
 
 -- ---- a source
 
-pub placed-proper : (w : List ℕ) (count end d r n : ℕ) (v : Verdict) → v ≡ Verdict.Proper d r n → Placed w count end v (Seen.Passes count d r n)
-placed-proper w count end d r n v e = subst (λ (v : Verdict). Placed w count end v (Seen.Passes count d r n)) (sym e) refl
+pub placed-proper : (w : List ℕ) (count end : ℕ) (P : Held) (n : ℕ) (v : Verdict) → v ≡ Verdict.Proper P n → Placed w count end v (Seen.Passes P n)
+placed-proper w count end P n v e = subst (λ (v : Verdict). Placed w count end v (Seen.Passes P n)) (sym e) refl
 
 pub placed-denied : (w : List ℕ) (count end x : ℕ) (y : Refusal) (i : ℕ) (v : Verdict) → v ≡ Verdict.Denied y i → x ≡ byte-of w count end i
     → Placed w count end v (Seen.Refused y x)
@@ -183,9 +189,9 @@ module _ (source w w₁ : List ℕ) (long : TABLE ≤ length w) where
   given : {n : ℕ} (x : Tokens.Whole source w w₁ n) → TextGives source (x .tokens)
   given x = record { short = x .short; splits = x .splits }
 
-  of-tokens : {n : ℕ} (x : Tokens.Whole source w w₁ n) (w₂ : List ℕ) → Stand w₂ n (x .tokens) → (v : Verdict) (s : Seen) → OfTokens (x .tokens) w₂ n v
+  of-tokens : {n : ℕ} (x : Tokens.Whole source w w₁ n) (w₂ : List ℕ) → Stand w₂ n (x .tokens) → (v : Verdict) (s : Seen) → OfTokens (x .tokens) w₂ v
       → Placed w₂ n (length source) v s → OfSource source w₂ s
-  of-tokens {n} x w₂ st (Verdict.Proper d r k) s a e = subst (OfSource source w₂) (sym e) record {
+  of-tokens {n} x w₂ st (Verdict.Proper P k) s a e = subst (OfSource source w₂) (sym e) record {
     tokens = x .tokens;
     program = a .program;
     type = a .type;

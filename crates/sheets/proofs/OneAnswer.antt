@@ -14,12 +14,12 @@ use Rattle.sheets.specs.Sheets.{wiped, OfSource, Examined}
 use Rattle.sheets.specs.declared.Seen.{Seen}
 
 abbrev pub seen-report : Seen → CheckReport ℕ
-seen-report (Seen.Passes c d r n) = check-report passed 0 n
+seen-report (Seen.Passes P n) = check-report passed 0 n
 seen-report (Seen.Refused y i) = check-report (refused (refusal-meant y)) i 0
 
 -- it is what check says where the table is long enough
 seen-checked : (source w : List ℕ) (s : Seen) → OfSource source w s → Checked (from-text source) TABLE (seen-report s)
-seen-checked source w (Seen.Passes c d r n) p =
+seen-checked source w (Seen.Passes P n) p =
     subst (λ (n : ℕ). Checked (from-text source) TABLE (check-report passed 0 n)) (sym (p .numbered)) (check-passed (le-refl TABLE) (p .passes))
 seen-checked source w (Seen.Refused y i) p = check-refused (le-refl TABLE) p
 

@@ -17,6 +17,7 @@ use Rattle.numbers.specs.Meanings.{refusal-meant}
 use Rattle.layout.specs.Table.{token-word, zeros}
 use Rattle.layout.specs.Names.{Stand}
 use Rattle.layout.specs.Decode.{Holds}
+use Rattle.layout.specs.declared.Held.{Held}
 use Rattle.sheets.specs.declared.Verdict.{Verdict}
 use Rattle.sheets.specs.declared.Seen.{Seen}
 
@@ -32,19 +33,14 @@ byte-of w count end i = cond (ltb i count) (token-word w i 1) end
 
 -- ---- a program that the table holds
 
-pub record Held (w : List ℕ) (count defs root : ℕ) : Type 0 where
-  pub tokens : List Token
-  pub program : Program
-  pub holds : Holds tokens w count defs root program
-
 -- the type of p, or its fault
-abbrev pub OfProgram : Program → ℕ → ℕ → Verdict → Type 0
-OfProgram p defs root (Verdict.Proper d r n) = (d ≡ defs) × (r ≡ root) × ((t : Ty) × HasType p t × (n ≡ type-number t))
-OfProgram p defs root (Verdict.Denied y i) = (r : Reason) × HasFault p r i × (refusal-meant y ≡ types r)
+abbrev pub OfProgram : Program → Held → Verdict → Type 0
+OfProgram p P (Verdict.Proper Q n) = (Q ≡ P) × ((t : Ty) × HasType p t × (n ≡ type-number t))
+OfProgram p P (Verdict.Denied y i) = (r : Reason) × HasFault p r i × (refusal-meant y ≡ types r)
 
-pub record Typed (w w′ : List ℕ) (count defs root : ℕ) (v : Verdict) : Type 0 where
-  pub told : (ts : List Token) (p : Program) → Holds ts w count defs root p → OfProgram p defs root v
-  pub holds : (ts : List Token) (p : Program) → Holds ts w count defs root p → Holds ts w′ count defs root p
+pub record Typed (w w′ : List ℕ) (P : Held) (v : Verdict) : Type 0 where
+  pub told : (ts : List Token) (p : Program) → Holds ts w P p → OfProgram p P v
+  pub holds : (ts : List Token) (p : Program) → Holds ts w P p → Holds ts w′ P p
   pub rest : wiped w′ ≡ wiped w
   pub long : length w′ ≡ length w
 
@@ -56,19 +52,19 @@ pub record Standing (w : List ℕ) (count : ℕ) : Type 0 where
   pub long : TABLE ≤ length w
 
 -- they are a program of this type, which the table holds
-pub record Allowed (ts : List Token) (w : List ℕ) (count defs root n : ℕ) : Type 0 where
+pub record Allowed (ts : List Token) (w : List ℕ) (P : Held) (n : ℕ) : Type 0 where
   pub program : Program
   pub type : Ty
   pub proper : Proper ts program type
   pub numbered : n ≡ type-number type
-  pub holds : Holds ts w count defs root program
+  pub holds : Holds ts w P program
 
-abbrev pub OfTokens : List Token → List ℕ → ℕ → Verdict → Type 0
-OfTokens ts w count (Verdict.Proper d r n) = Allowed ts w count d r n
-OfTokens ts w count (Verdict.Denied y i) = Denied ts (refusal-meant y) (at i)
+abbrev pub OfTokens : List Token → List ℕ → Verdict → Type 0
+OfTokens ts w (Verdict.Proper P n) = Allowed ts w P n
+OfTokens ts w (Verdict.Denied y i) = Denied ts (refusal-meant y) (at i)
 
 pub record Read (w w′ : List ℕ) (count : ℕ) (v : Verdict) : Type 0 where
-  pub told : (ts : List Token) → Stand w count ts → OfTokens ts w′ count v
+  pub told : (ts : List Token) → Stand w count ts → OfTokens ts w′ v
   pub stands : (ts : List Token) → Stand w count ts → Stand w′ count ts
   pub rest : wiped w′ ≡ wiped w
   pub long : length w′ ≡ length w
@@ -77,20 +73,20 @@ pub record Read (w w′ : List ℕ) (count : ℕ) (v : Verdict) : Type 0 where
 
 -- what is seen of a source that ends at `end`, from what becomes of its tokens
 abbrev pub Placed : List ℕ → ℕ → ℕ → Verdict → Seen → Type 0
-Placed w count end (Verdict.Proper d r n) s = s ≡ Seen.Passes count d r n
+Placed w count end (Verdict.Proper P n) s = s ≡ Seen.Passes P n
 Placed w count end (Verdict.Denied y i) s = s ≡ Seen.Refused y (byte-of w count end i)
 
 -- it passes, and the table holds its program
-pub record Passing (source w : List ℕ) (count defs root n : ℕ) : Type 0 where
+pub record Passing (source w : List ℕ) (P : Held) (n : ℕ) : Type 0 where
   pub tokens : List Token
   pub program : Program
   pub type : Ty
   pub passes : Passes (from-text source) tokens program type
   pub numbered : n ≡ type-number type
-  pub holds : Holds tokens w count defs root program
+  pub holds : Holds tokens w P program
 
 abbrev pub OfSource : List ℕ → List ℕ → Seen → Type 0
-OfSource source w (Seen.Passes c d r n) = Passing source w c d r n
+OfSource source w (Seen.Passes P n) = Passing source w P n
 OfSource source w (Seen.Refused y i) = Refused (from-text source) (refusal-meant y) i
 
 pub record Examined (source w w′ : List ℕ) (s : Seen) : Type 0 where

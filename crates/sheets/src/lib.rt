@@ -4,7 +4,9 @@ ghost use mathlib.Core.Path.{_≡_};
 ghost use Prim.Native.Nat.{_≤_};
 ghost use lib.ListN.{length};
 ghost use Rattle.language.specs.Sizes.{TOKENS, TABLE};
-ghost use Rattle.sheets.specs.Sheets.{byte-of, Held, Typed, Standing, Read, Placed, Examined};
+ghost use Rattle.checker.specs.Checked.{Checkable};
+ghost use Rattle.sheets.specs.Sheets.{byte-of, Typed, Standing, Read, Placed, Examined};
+use layout::Held;
 use numbers::Refusal;
 use reader::Found;
 use rules::Typing;
@@ -13,22 +15,13 @@ use tokens::answer::Split;
 // What becomes of tokens: a program, as the table holds it, with its type's number; or why they are none,
 // and the ordinal of the token at which this is told.
 pub enum Verdict {
-    Proper {
-        defs: usize,
-        root: usize,
-        type_number: u32,
-    },
+    Proper { program: Held, type_number: u32 },
     Denied(Refusal, usize),
 }
 
-// What becomes of a source: the same, with the count of its tokens and a byte for a place.
+// What becomes of a source: the same, with a byte for a place.
 pub enum Seen {
-    Passes {
-        count: usize,
-        defs: usize,
-        root: usize,
-        type_number: u32,
-    },
+    Passes { program: Held, type_number: u32 },
     Refused(Refusal, usize),
 }
 
@@ -44,14 +37,13 @@ pub fn place(table: &[u32], count: usize, end: usize, at: usize) -> usize
 }
 
 // The type of the program that the table holds.
-fn typed(table: &mut [u32], count: usize, defs: usize, root: usize) -> Verdict
-    requires { ⌜ Held (now table) count defs root ⌝ }
-    ensures { λ r. ⌜ Typed (now (table .entry)) (now (table .exit)) count defs root r ⌝ }
+fn typed(table: &mut [u32], program: Held) -> Verdict
+    requires { ⌜ Checkable (now table) program ⌝ }
+    ensures { λ r. ⌜ Typed (now (table .entry)) (now (table .exit)) program r ⌝ }
 {
-    match checker::type_of(table, count, defs, root) {
+    match checker::type_of(table, program) {
         Typing::Type(type_number) => Verdict::Proper {
-            defs,
-            root,
+            program,
             type_number,
         },
         Typing::Fault(why, at) => {
@@ -67,7 +59,7 @@ fn read(table: &mut [u32], count: usize) -> Verdict
     ensures { λ r. ⌜ Read (now (table .entry)) (now (table .exit)) count r ⌝ }
 {
     match reader::read(table, count) {
-        Found::Program { defs, root } => typed(table, count, defs, root),
+        Found::Program(program) => typed(table, program),
         Found::None { at } => Verdict::Denied(Refusal::NoReading, at),
     }
 }
@@ -79,13 +71,10 @@ fn placed(table: &[u32], count: usize, end: usize, verdict: Verdict) -> Seen
 {
     match verdict {
         Verdict::Proper {
-            defs,
-            root,
+            program,
             type_number,
         } => Seen::Passes {
-            count,
-            defs,
-            root,
+            program,
             type_number,
         },
         Verdict::Denied(why, at) => Seen::Refused(why, place(table, count, end, at)),

@@ -13,11 +13,11 @@ use Rattle.language.specs.Text.Content.{space, token}
 use Rattle.language.specs.Text.Reaches.{start, skip, next}
 use Rattle.language.specs.Tokens.{EDITION-1, Token}
 use Rattle.layout.proofs.TokenLaws.{lay-length, lay-more}
-use Rattle.layout.specs.Names.{lay-tokens, payload}
+use Rattle.layout.specs.Names.{lay-tokens, value-word}
 use Rattle.layout.specs.Table.{put-token}
-use Rattle.tokens.proofs.Written.{table-spans, payload-found, token-end}
+use Rattle.tokens.proofs.Written.{table-spans, value-word-found, token-end}
 use Rattle.tokens.specs.Answer.{Laid, Whole, Broken}
-use Rattle.tokens.specs.Found.{Spans, Payload}
+use Rattle.tokens.specs.Found.{Spans, ValueWord}
 
 -- the split comes as far as p with n tokens, which lie in the table: w₀ before, w now
 pub record Reached (t w₀ w : List ℕ) (p n : ℕ) : Type 0 where
@@ -74,7 +74,7 @@ module _ {t w₀ w : List ℕ} {p n : ℕ} (r : Reached t w₀ w p n) where
 
     -- a token is written behind the others
     pub reached-next : {q k v m : ℕ} {w′ : List ℕ} → n < TOKENS → Piece EDITION-1 t p q (token k v) → v ≤ LARGEST
-        → Payload t w n k (slice p q t) v m → w′ ≡ put-token w n k p q m → Reached t w₀ w′ q (n + 1)
+        → ValueWord t w n k (slice p q t) v m → w′ ≡ put-token w n k p q m → Reached t w₀ w′ q (n + 1)
     reached-next {q} {k} {v} {m} l x h y z =
         let ts = r .tokens in
         let u = token-of t p q k v in
@@ -82,8 +82,8 @@ module _ {t w₀ w : List ℕ} {p n : ℕ} (r : Reached t w₀ w p n) where
         let c = r .count in
         let d = r .laid in
         let e : p + length (slice p q t) ≡ q = token-end t p q (omega (arith, b .0)) (b .1) in
-        let y′ = subst₂ (λ a i. Payload t a i k (slice p q t) v m) d c y in
-        let f : payload (ts ++ (u ∷ [])) u ≡ m = payload-found t w₀ ts (r .reaches) fits p q k v m (x .form) y′ in
+        let y′ = subst₂ (λ a i. ValueWord t a i k (slice p q t) v m) d c y in
+        let f : value-word (ts ++ (u ∷ [])) u ≡ m = value-word-found t w₀ ts (r .reaches) fits p q k v m (x .form) y′ in
         record {
           tokens = ts ++ (u ∷ []);
           reaches = next (r .reaches) x h refl;

@@ -15,8 +15,8 @@ use Rattle.language.proofs.Text.Choices.{either, outcome, clash, and-both}
 use Rattle.language.proofs.Text.Spellings.{stands}
 use Rattle.language.proofs.Text.Tables.{Table, spelling-of, kind-of, every, same-one, no-kind}
 use Rattle.language.specs.Text.{byte, or-name, word-kind}
-use Rattle.language.specs.Tokens.{Spelling, spell, same, Row, spelled, words, EDITION-1, NAME}
-use Rattle.language.specs.Tokens.Row.{_is_}
+use Rattle.language.specs.Tokens.{Spelling, spell, same, Entry, spelled, words, EDITION-1, NAME}
+use Rattle.language.specs.Tokens.Entry.{_is_}
 use Rattle.tokens.proofs.Compared.{stands-same}
 use Rattle.tokens.proofs.FirstBytes.{NoneOf, begins-so, other-first}
 
@@ -37,11 +37,11 @@ abbrev pub stood : Table → List ℕ → ℕ → ℕ
 stood [] t p = NAME
 stood (r ∷ rows) t p = cond (stands t p (spelling-of r)) (kind-of r) (stood rows t p)
 
-left-yes : (n b : ℕ) (r : Row String ℕ) (rows : Table) → fits n b (spelling-of r) ≡ true → left n b (r ∷ rows) ≡ r ∷ left n b rows
+left-yes : (n b : ℕ) (r : Entry String ℕ) (rows : Table) → fits n b (spelling-of r) ≡ true → left n b (r ∷ rows) ≡ r ∷ left n b rows
 unfolding left
 left-yes n b r rows e = ap (λ x. cond x (r ∷ left n b rows) (left n b rows)) e
 
-left-no : (n b : ℕ) (r : Row String ℕ) (rows : Table) → fits n b (spelling-of r) ≡ false → left n b (r ∷ rows) ≡ left n b rows
+left-no : (n b : ℕ) (r : Entry String ℕ) (rows : Table) → fits n b (spelling-of r) ≡ false → left n b (r ∷ rows) ≡ left n b rows
 unfolding left
 left-no n b r rows e = ap (λ x. cond x (r ∷ left n b rows) (left n b rows)) e
 

@@ -20,8 +20,8 @@ use Rattle.language.specs.Text.Reaches.{start, skip, next}
 use Rattle.language.specs.Tokens.{same, Vocabulary, Token, NAME, NUMBER, past}
 use Rattle.language.specs.Trees.{PUTCHAR}
 use Rattle.layout.proofs.TokenLaws.{same-self, first-is, lay-holds}
-use Rattle.layout.specs.Names.{first-from, name-number, payload, lay-tokens}
-use Rattle.tokens.specs.Found.{Spans, bytes-of, First, Numbered, Payload}
+use Rattle.layout.specs.Names.{first-from, name-number, value-word, lay-tokens}
+use Rattle.tokens.specs.Found.{Spans, bytes-of, First, Numbered, ValueWord}
 
 -- ---- tokens and their bytes
 
@@ -98,11 +98,11 @@ module _ {voc : Vocabulary} (t w₀ : List ℕ) (ts : List Token) {p : ℕ} (r :
       ⊎-elim (λ e. rw e (sym (m .putchar e))) (λ e. rw e (first-number u n (m .first e))) (outcome (same (u .spelling) PUTCHAR))
 
   -- the fourth word of the next token
-  pub payload-found : (q e k v n : ℕ) → Form voc t q e (token k v)
-      → Payload t (lay-tokens ts w₀ 0 ts) (length ts) k (slice q e t) v n
-      → payload (ts ++ (token-of t q e k v ∷ [])) (token-of t q e k v) ≡ n
-  unfolding payload
-  payload-found q e k v n f m =
+  pub value-word-found : (q e k v n : ℕ) → Form voc t q e (token k v)
+      → ValueWord t (lay-tokens ts w₀ 0 ts) (length ts) k (slice q e t) v n
+      → value-word (ts ++ (token-of t q e k v ∷ [])) (token-of t q e k v) ≡ n
+  unfolding value-word
+  value-word-found q e k v n f m =
       ⊎-elim
       (λ x. let y : k ≡ NAME = eqb-true k NAME x in
       rw (ne-eqb k NUMBER (λ z. omega arith), x) (name-numbered (token-of t q e k v) n (m .name y)))

@@ -103,6 +103,6 @@ pub record Numbered (t w : List ℕ) (count : ℕ) (s : Spelling) (r : ℕ) : Ty
   pub first : same s PUTCHAR ≡ false → First t w count s r
 
 -- r is the fourth word of a token with this kind, spelling and value
-pub record Payload (t w : List ℕ) (count kind : ℕ) (s : Spelling) (value r : ℕ) : Type 0 where
+pub record ValueWord (t w : List ℕ) (count kind : ℕ) (s : Spelling) (value r : ℕ) : Type 0 where
   pub name : kind ≡ NAME → Numbered t w count s r
   pub other : (kind ≡ NAME → ⊥) → r ≡ value

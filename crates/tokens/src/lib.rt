@@ -4,7 +4,7 @@ ghost use Prim.Native.Nat.{_≤_};
 ghost use lib.ListN.{length};
 ghost use lib.Seq.{slice};
 ghost use Rattle.language.specs.Sizes.{TABLE};
-ghost use Rattle.tokens.specs.Found.{Comparable, Payload};
+ghost use Rattle.tokens.specs.Found.{Comparable, ValueWord};
 ghost use Rattle.tokens.specs.Answer.{IsSplit};
 
 pub mod answer;
@@ -24,7 +24,7 @@ use language::kinds;
 use numbers::Flaw;
 
 // The fourth word of the token that is to be the next one of the table.
-fn payload(
+fn value_word(
     source: &[u8],
     table: &[u32],
     count: usize,
@@ -35,7 +35,7 @@ fn payload(
 ) -> u32
     requires { ⌜ Comparable (now source) (now table) count p q ⌝ }
     ensures { λ r.
-        ⌜ Payload (now (source .entry)) (now (table .entry)) count kind (slice p q (now (source .entry))) value r ⌝ }
+        ⌜ ValueWord (now (source .entry)) (now (table .entry)) count kind (slice p q (now (source .entry))) value r ⌝ }
 {
     if kind == kinds::NAME {
         return names::name_number(source, table, count, p, q);
@@ -63,7 +63,7 @@ pub fn split(source: &[u8], table: &mut [u32]) -> Split
                 if count == TOKENS {
                     return Split::Stopped(Flaw::ManyTokens, at);
                 }
-                let word = payload(source, table, count, kind, at, end, value);
+                let word = value_word(source, table, count, kind, at, end, value);
                 layout::token::put(table, count, kind, at as u32, end as u32, word);
                 count += 1;
                 at = end;

@@ -14,7 +14,13 @@ same-length : tie.Need-same-length
 same-length c = search needs
 
 returns : tie.Need-returns
-returns c = record { right = λ ts p h. answers p (c .before .before .before .before .before .before .program .ensures .right ts p h); table = c .before .before .clear .ensures ∙ c .before .before .before .before .before .before .program .ensures .kept .rest }
+returns c =
+    let at-program = c .before .before .before .before .before .before in
+    record {
+      right = λ ts p h. answers p (at-program .program .ensures .right ts p h);
+      table = c .before .before .clear .ensures
+          ∙ at-program .program .ensures .kept .rest;
+    }
 
 pub type-of-spec : {M : Type 1} → statement M
 type-of-spec = tie.close (tie.spec program-requires clear-requires same-length returns)

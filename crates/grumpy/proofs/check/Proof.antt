@@ -26,7 +26,7 @@ returns-2 c =
     let clear = c .before .before .before .before .before in
     let examine = clear .before .before .before .before in
     let if1 = examine .before .before in
-    check-is-passed _ _ _ _ _ (examine .examine .ensures) (if1 .if1 .left) (clear .clear .ensures) _ _ _ _ (c .before .seen .given .1)
+    check-is-passed _ _ _ _ _ (examine .examine .ensures) (if1 .if1 .left) (clear .clear .ensures) _ _ (c .before .seen .given .1)
 
 same-length-2 : tie.Need-same-length-2
 same-length-2 c = search needs

@@ -1,6 +1,5 @@
-use borrow.Author.Needs.{needs}
 use native.Mathlib.Omega.{arith}
-use mathlib.Core.Bool.{true, false}
+use mathlib.Core.Bool.{true}
 use mathlib.Core.Path.{_≡_, ap}
 use lib.IntN.{pos, natAbs, _+ℤ_, _-ℤ_}
 use lib.Signed.{ltZ, mag}

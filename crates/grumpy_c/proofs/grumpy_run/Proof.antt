@@ -29,7 +29,8 @@ same-length-4 c = search needs
 returns-2 : tie.Need-returns-2
 returns-2 c =
     let report-ran = c .before .before in
-    let run = report-ran .before .before .before .before .before .before .before .before in
+    let ran = report-ran .before .before .before .before in
+    let run = ran .before .before .before .before in
     let if1 = run .before .before .before .before in
     ran-c _ _ _ _ _ _ _ _ _ _ (run .run .result) _ (if1 .if1 .left) (run .run .ensures) (report-ran .report-ran .ensures)
 

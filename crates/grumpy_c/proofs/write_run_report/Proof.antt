@@ -1,6 +1,5 @@
 use borrow.Author.Needs.{needs}
 use mathlib.Core.Path.{refl}
-use lib.ListN.{length-set}
 use Rattle.grumpy_c.proofs.Told.{three-long}
 use Rattle.grumpy_c.specs.Reports.{six}
 use Rattle.grumpy_c.proofs.write_run_report.Statement.{statement}

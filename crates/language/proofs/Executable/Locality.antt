@@ -8,7 +8,7 @@ use Prim.Native.Nat.{ℕ, _+_, _≤_}
 use native.Mathlib.Omega.{arith}
 use lib.ListN.{length, getD}
 use lib.Dec.{eqb}
-use Rattle.language.specs.Tokens.{Token, Row, past, entry, kind-at, value-at, spelling-at}
+use Rattle.language.specs.Tokens.{Token, Entry, past, entry, kind-at, value-at, spelling-at}
 use Rattle.language.proofs.Executable.Parser.{is}
 use Rattle.language.proofs.Executable.ParserSound.{at}
 use Rattle.language.proofs.Grammar.Prefixes.{inside}
@@ -112,7 +112,7 @@ module _ {ts us : List Token} where
   pub is-same : (i k : ℕ) → Agree ts us i → eqb (kind-at ts i) k ≡ eqb (kind-at us i) k
   is-same i k a = ap (λ (z : ℕ). eqb z k) (same-kind a i (omega arith))
 
-  pub means-same : {A : Type 0} (i : ℕ) (rows : List (Row ℕ A)) → Agree ts us i → entry rows (kind-at ts i) ≡ entry rows (kind-at us i)
+  pub means-same : {A : Type 0} (i : ℕ) (rows : List (Entry ℕ A)) → Agree ts us i → entry rows (kind-at ts i) ≡ entry rows (kind-at us i)
   means-same i rows a = ap (entry rows) (same-kind a i (omega arith))
 
 -- a token of a kind that there is, by the parser's test

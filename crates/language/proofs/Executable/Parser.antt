@@ -6,7 +6,7 @@ use mathlib.Core.Option.{Option}
 use Prim.Native.Nat.{ℕ, zero, suc, _+_, _*_}
 use lib.ListN.{length}
 use lib.Dec.{eqb}
-use Rattle.language.specs.Tokens.{Token, Row, kind-at, value-at, spelling-at, entry, NAME, NUMBER, DEF, LET, IN, WHILE, IF, THEN, ELSE, REF, BECOMES, IS, SEMI, COMMA, COLON, LPAR, RPAR, LBRACE, RBRACE}
+use Rattle.language.specs.Tokens.{Token, Entry, kind-at, value-at, spelling-at, entry, NAME, NUMBER, DEF, LET, IN, WHILE, IF, THEN, ELSE, REF, BECOMES, IS, SEMI, COMMA, COLON, LPAR, RPAR, LBRACE, RBRACE}
 use Rattle.language.specs.Trees.{Ty, ref, whole, Binary, Exp, name, literal, unary, binary, follow, group, block, call, bind, branch, loop, Exps, last, more, Program}
 use Rattle.language.specs.Grammar.{Level, or, sum, cmp, un, chain, Sym, Of, tier, program, def, formals, params, type, seq, bound, item, assign, atom, actuals, args, part, operators, comparisons, prefixes, constants, basics, param, define, before}
 use Rattle.language.proofs.Executable.Parses.{Result, failed, got, made, made-past, then, test, look, need}
@@ -43,7 +43,7 @@ module _ (ts : List Token) where
   is i k = eqb (kind-at ts i) k
 
   -- what token i stands for by the table
-  abbrev pub means : {A : Type 0} → ℕ → List (Row ℕ A) → Option A
+  abbrev pub means : {A : Type 0} → ℕ → List (Entry ℕ A) → Option A
   means i rows = entry rows (kind-at ts i)
 
   -- one step: the first token decides; `r` answers for the parts

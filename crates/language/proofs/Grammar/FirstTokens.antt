@@ -8,7 +8,7 @@ use Prim.Native.Nat.{ℕ, _≤_, _<_}
 use native.Mathlib.Omega.{arith}
 use lib.Dec.{T, eqb, leb, leb→le, eqb→eq}
 use borrow.Author.Tests.{ne-eqb}
-use Rattle.language.specs.Tokens.{Token, Row, _is_, At, entry, kind-at, NAME, NUMBER, DEF, LET, WHILE, IF, REF, NOT, TRUE, FALSE, TT, PLUS, MINUS, STAR, SLASH, AND, OR, LESS, EQUAL, BECOMES, BANG, SEMI, COMMA, LPAR, LBRACE}
+use Rattle.language.specs.Tokens.{Token, Entry, _is_, At, entry, kind-at, NAME, NUMBER, DEF, LET, WHILE, IF, REF, NOT, TRUE, FALSE, TT, PLUS, MINUS, STAR, SLASH, AND, OR, LESS, EQUAL, BECOMES, BANG, SEMI, COMMA, LPAR, LBRACE}
 use Rattle.language.specs.Trees.{Literal, Unary, Binary}
 use Rattle.language.specs.Grammar.{Of, tier, Level, or, and, sum, prod, Sym, program, def, formals, params, type, seq, bound, item, assign, cmp, un, atom, actuals, args, chain, part, operators, comparisons, prefixes, constants, Reads, program-seq, program-def, def-is, formals-none, formals-some, params-one, params-more, type-basic, type-ref, seq-let, seq-item, seq-more, let-in, item-if, item-while, item-assign, assign-one, assign-to, chain-one, chain-more, cmp-one, cmp-two, un-prefix, un-atom, atom-name, atom-call, atom-number, atom-constant, atom-group, atom-block, actuals-none, actuals-some, args-one, args-more}
 use Rattle.language.proofs.Grammar.Entries.{every, entry-passes, found-nothing}
@@ -16,13 +16,13 @@ use Rattle.language.proofs.Grammar.Entries.{every, entry-passes, found-
 -- ---- the numbers
 
 -- what a token goes on with: `,` another of a list, `;` a Seq, `:=` an Assign, an operator its level, `(` a call, `ref` a Type
-abbrev pub pulls : List (Row ℕ ℕ)
+abbrev pub pulls : List (Entry ℕ ℕ)
 pulls =
     COMMA is 1 ∷ SEMI is 2 ∷ BECOMES is 3 ∷ OR is 4 ∷ AND is 5 ∷ LESS is 6 ∷ EQUAL is 6 ∷ PLUS is 7 ∷ MINUS is 7 ∷
     STAR is 8 ∷ SLASH is 8 ∷ LPAR is 9 ∷ REF is 9 ∷ []
 
 -- what a token begins: 1 a Program, 2 a Seq, 3 an Item, 4 an Assign or a level of operators, 5 an Atom; each also all above it
-abbrev pub openers : List (Row ℕ ℕ)
+abbrev pub openers : List (Entry ℕ ℕ)
 openers =
     DEF is 1 ∷ LET is 2 ∷ IF is 3 ∷ WHILE is 3 ∷ MINUS is 4 ∷ NOT is 4 ∷ BANG is 4 ∷ REF is 4 ∷ NAME is 5 ∷ NUMBER is 5 ∷
     TRUE is 5 ∷ FALSE is 5 ∷ TT is 5 ∷ LPAR is 5 ∷ LBRACE is 5 ∷ []
@@ -96,12 +96,12 @@ pull-most k = go (entry pulls k) λ n e. leb→le n 9 (entry-passes (λ c n. leb
 
 module _ (g : ℕ → ℕ) where
   -- a kind of the table has the number that each row's kind has
-  pub by-number : {A : Type 0} (n : ℕ) (rows : List (Row ℕ A)) (k : ℕ) {a : A} → T (every (λ c _. eqb (g c) n) rows)
+  pub by-number : {A : Type 0} (n : ℕ) (rows : List (Entry ℕ A)) (k : ℕ) {a : A} → T (every (λ c _. eqb (g c) n) rows)
       → entry rows k ≡ some a → g k ≡ n
   by-number n rows k t e = eqb→eq (g k) n (entry-passes (λ c _. eqb (g c) n) rows k t e)
 
   -- a kind of another number is not in the table
-  pub not-in : {A : Type 0} (n : ℕ) (rows : List (Row ℕ A)) (k : ℕ) → T (every (λ c _. eqb (g c) n) rows)
+  pub not-in : {A : Type 0} (n : ℕ) (rows : List (Entry ℕ A)) (k : ℕ) → T (every (λ c _. eqb (g c) n) rows)
       → (g k ≡ n → ⊥) → entry rows k ≡ none
   not-in n rows k t h = found-nothing (entry rows k) λ a e. h (by-number n rows k t e)
 

@@ -6,7 +6,7 @@ use native.Mathlib.Decide.{decLe}
 use native.Mathlib.Omega.{arith}
 use lib.ListN.{length, List·getD-eq-default}
 use lib.Dec.{T, ltb, ltb→lt}
-use Rattle.language.specs.Tokens.{Token, Row, past, At, Means, kind-at, entry}
+use Rattle.language.specs.Tokens.{Token, Entry, past, At, Means, kind-at, entry}
 use Rattle.language.specs.Trees.{Binary}
 use Rattle.language.specs.Grammar.{Of, Sym, Level, or, and, sum, prod, operators, comparisons, prefixes, constants, basics, Reads, program-seq, program-def, def-is, formals-none, formals-some, params-one, params-more, type-basic, type-ref, seq-let, seq-item, seq-more, let-in, item-if, item-while, item-assign, assign-one, assign-to, chain-one, chain-more, cmp-one, cmp-two, un-prefix, un-atom, atom-name, atom-call, atom-number, atom-constant, atom-group, atom-block, actuals-none, actuals-some, args-one, args-more}
 use Rattle.language.proofs.Grammar.Entries.{every, entry-passes}
@@ -25,7 +25,7 @@ module _ (ts : List Token) where
       go (no l) = omega (arith, l)
 
   -- so is one that a table has
-  pub in-table : {A : Type 0} (i : ℕ) (rows : List (Row ℕ A)) {a : A} → T (every (λ c _. ltb 0 c) rows) → Means ts i rows a → i < length ts
+  pub in-table : {A : Type 0} (i : ℕ) (rows : List (Entry ℕ A)) {a : A} → T (every (λ c _. ltb 0 c) rows) → Means ts i rows a → i < length ts
   in-table i rows t h = inside i refl (ltb→lt 0 (kind-at ts i) (entry-passes (λ c _. ltb 0 c) rows (kind-at ts i) t h))
 
   pub operator-there : (l : Level) (i : ℕ) {o : Binary} → Means ts i (operators l) o → i + 1 ≤ length ts
@@ -86,7 +86,7 @@ module _ {ts us : List Token} {e : ℕ} (alike : Alike ts us e) where
   pub kept-at : {k : ℕ} (i : ℕ) → At ts i k → i < e → At us i k
   kept-at i a h = alike .same i h ∙ a
 
-  pub kept-means : {A : Type 0} (i : ℕ) (rows : List (Row ℕ A)) {a : A} → Means ts i rows a → i < e → Means us i rows a
+  pub kept-means : {A : Type 0} (i : ℕ) (rows : List (Entry ℕ A)) {a : A} → Means ts i rows a → i < e → Means us i rows a
   kept-means i rows a h = ap (entry rows) (alike .same i h) ∙ a
 
   pub kept : {s : Sym} {i j : ℕ} {x : Of s} → Reads ts s i j x → j ≤ e → Spans us s i j

@@ -4,7 +4,7 @@ use mathlib.Core.List.{List, [], _∷_}
 use mathlib.Core.Option.{Option, none, some, Option·none-ne-some}
 use Prim.Native.Nat.{ℕ}
 use Prim.Native.String.{String}
-use Rattle.language.specs.Tokens.{Token, Row, _is_, spell, same, spelled, entry, kind-at, value-at, spelling-at}
+use Rattle.language.specs.Tokens.{Token, Entry, _is_, spell, same, spelled, entry, kind-at, value-at, spelling-at}
 use Rattle.language.specs.Edition.{Splits}
 use Rattle.language.specs.Trees.{Program}
 use Rattle.language.specs.Starts.{FirstWrong}
@@ -16,7 +16,7 @@ use Rattle.language.proofs.Executable.Settles.{Settles}
 use Rattle.language.proofs.Meaning.CellTypes.{some-one}
 use Rattle.language.proofs.Grammar.FirstWrong.{comes-to, place, settled}
 
-abbrev pub texts : List (Row String ℕ)
+abbrev pub texts : List (Entry String ℕ)
 texts =
     "1;)" is 2 ∷ "1<2<3" is 3 ∷ "1<2==3" is 3 ∷ "1+" is 2 ∷ "" is 0 ∷ " //1" is 0 ∷ ")" is 0 ∷ "1 2" is 1 ∷ "1;" is 2 ∷ "()" is 1 ∷
     "{}" is 1 ∷ "(1" is 2 ∷ "x=1" is 1 ∷ "x:=y:=1" is 3 ∷ "f(1,)" is 4 ∷ "let x=1" is 4 ∷ "let do=1 in 1" is 1 ∷ "1+let x=1 in x" is 2 ∷
@@ -27,7 +27,7 @@ texts =
 abbrev pub Wrong : String → ℕ → Type 0
 Wrong s i = (ts : List Token) × Splits (spell s) ts × FirstWrong ts i
 
-abbrev pub All : List (Row String ℕ) → Type 0
+abbrev pub All : List (Entry String ℕ) → Type 0
 All [] = Unit {0}
 All ((s is i) ∷ rows) = Wrong s i × All rows
 
@@ -40,13 +40,13 @@ unfoldable of-text : Scanner.Result → Option ℕ
 of-text (Scanner.split ts) = ordinal (comes-to ts)
 of-text (Scanner.flawed f i) = none
 
-unfoldable worked : List (Row String ℕ) → List (Option ℕ)
+unfoldable worked : List (Entry String ℕ) → List (Option ℕ)
 unfolding of-text scan Parser.parse Parser.step Parses.then Parses.test Parses.look Parses.need kind-at value-at spelling-at
     entry same spelled
 worked [] = []
 worked ((s is i) ∷ rows) = of-text (scan (spell s)) ∷ worked rows
 
-abbrev ordinals : List (Row String ℕ) → List (Option ℕ)
+abbrev ordinals : List (Entry String ℕ) → List (Option ℕ)
 ordinals [] = []
 ordinals ((s is i) ∷ rows) = some i ∷ ordinals rows
 
@@ -65,7 +65,7 @@ first e = cc
 later : {x y : Option ℕ} {xs ys : List (Option ℕ)} → (x ∷ xs) ≡ (y ∷ ys) → xs ≡ ys
 later e = cc
 
-rows-right : (rows : List (Row String ℕ)) → worked rows ≡ ordinals rows → All rows
+rows-right : (rows : List (Entry String ℕ)) → worked rows ≡ ordinals rows → All rows
 unfolding worked
 rows-right [] e = tt
 rows-right ((s is i) ∷ rows) e = (text-right s i (scan (spell s)) (scanned (spell s)) (first e), rows-right rows (later e))

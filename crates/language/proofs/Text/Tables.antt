@@ -12,27 +12,27 @@ use native.Mathlib.Omega.{arith}
 use Prim.Native.Nat.{ℕ, zero, suc, _≤_, _<_, max}
 use Prim.Native.String.{String}
 use Rattle.language.proofs.Text.Choices.{outcome, clash, and-both}
-use Rattle.language.specs.Tokens.{Spelling, spell, same, Row, spelled}
-use Rattle.language.specs.Tokens.Row.{_is_}
+use Rattle.language.specs.Tokens.{Spelling, spell, same, Entry, spelled}
+use Rattle.language.specs.Tokens.Entry.{_is_}
 
 -- a table gives spellings their kinds
 abbrev pub Table : Type 0
-Table = List (Row String ℕ)
+Table = List (Entry String ℕ)
 
 -- the spelling of a row
-abbrev pub spelling-of : Row String ℕ → Spelling
+abbrev pub spelling-of : Entry String ℕ → Spelling
 spelling-of (w is k) = spell w
 
 -- its kind
-abbrev pub kind-of : Row String ℕ → ℕ
+abbrev pub kind-of : Entry String ℕ → ℕ
 kind-of (w is k) = k
 
 -- the number of its bytes
-abbrev pub size-of : Row String ℕ → ℕ
+abbrev pub size-of : Entry String ℕ → ℕ
 size-of r = length (spelling-of r)
 
 -- row i of a table
-abbrev pub row : Table → ℕ → Row String ℕ
+abbrev pub row : Table → ℕ → Entry String ℕ
 row rows i = getD rows i ("" is 0)
 
 -- spellings that pass the test are one
@@ -48,12 +48,12 @@ same-one (a ∷ x) (b ∷ y) e =
     cc
 
 -- each row passes the test
-unfoldable pub every : (Row String ℕ → Bool) → Table → Bool
+unfoldable pub every : (Entry String ℕ → Bool) → Table → Bool
 every f [] = true
 every f (r ∷ rows) = f r && every f rows
 
 -- so row i does
-pub every-row : (f : Row String ℕ → Bool) (rows : Table) → every f rows ≡ true → (i : ℕ) → i < length rows → f (row rows i) ≡ true
+pub every-row : (f : Entry String ℕ → Bool) (rows : Table) → every f rows ≡ true → (i : ℕ) → i < length rows → f (row rows i) ≡ true
 unfolding every
 every-row f [] e i h = absurd (omega arith)
 every-row f (r ∷ rows) e zero h = and-both (f r) (every f rows) e .0

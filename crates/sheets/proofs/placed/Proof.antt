@@ -13,7 +13,7 @@ place-requires : tie.Need-place-requires
 place-requires c κs = search needs
 
 returns : tie.Need-returns
-returns c = placed-proper _ _ _ _ _ _ _ (c .before .verdict .given .1)
+returns c = placed-proper _ _ _ _ _ _ (c .before .verdict .given .1)
 
 returns-2 : tie.Need-returns-2
 returns-2 c = placed-denied _ _ _ _ _ _ _ (c .before .before .verdict2 .given .1) (c .place .ensures)

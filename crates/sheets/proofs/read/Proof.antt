@@ -6,15 +6,15 @@ use Rattle.sheets.proofs.read.Tie as tie
 read-requires : tie.Need-read-requires
 read-requires c κs = search needs
 
-enum-known-defs : tie.Need-enum-known-defs
-enum-known-defs c = search needs
+enum-known-program : tie.Need-enum-known-program
+enum-known-program c = search needs
 
 typed-requires : tie.Need-typed-requires
 typed-requires c κs =
-    let defs = c .before .before in
-    let read = defs .before .before .before .before in
+    let found = c .before .before in
+    let read = found .before .before .before .before in
     let start = read .before .before .before in
-    program-held _ _ _ (start .pre) _ _ _ (read .read .ensures) (defs .defs .given .1)
+    program-held _ _ _ (start .pre) _ _ (read .read .ensures) (found .program .given .1)
 
 enum-known-at : tie.Need-enum-known-at
 enum-known-at c = search needs
@@ -25,10 +25,10 @@ same-length c = search needs
 returns : tie.Need-returns
 returns c =
     let typed = c .before .before in
-    let defs = typed .before .before .before in
-    let read = defs .before .before .before .before in
+    let found = typed .before .before .before in
+    let read = found .before .before .before .before in
     let start = read .before .before .before in
-    read-program _ _ _ (start .pre) _ _ _ _ _ (read .read .ensures) (defs .defs .given .1) (typed .typed .ensures)
+    read-program _ _ _ (start .pre) _ _ _ _ (read .read .ensures) (found .program .given .1) (typed .typed .ensures)
 
 same-length-2 : tie.Need-same-length-2
 same-length-2 c = search needs
@@ -44,7 +44,7 @@ read-spec =
     tie.close
     (tie.spec
     read-requires
-    enum-known-defs
+    enum-known-program
     typed-requires
     enum-known-at
     same-length

@@ -21,7 +21,7 @@ same-length c = search needs
 returns : tie.Need-returns
 returns c =
     let typing = c .before .before .before .before .before in
-    typed-type _ _ _ _ _ _ _ (typing .type-of .ensures) (c .before .type-number .given .1)
+    typed-type _ _ _ _ _ (typing .type-of .ensures) (c .before .type-number .given .1)
 
 same-length-2 : tie.Need-same-length-2
 same-length-2 c = search needs
@@ -29,7 +29,7 @@ same-length-2 c = search needs
 returns-2 : tie.Need-returns-2
 returns-2 c =
     let typing = c .before .before .before .before .before in
-    typed-fault _ _ _ _ _ _ _ _ (typing .type-of .ensures) (c .before .why .given .1)
+    typed-fault _ _ _ _ _ _ (typing .type-of .ensures) (c .before .why .given .1)
 
 pub typed-spec : {M : Type 1} → statement M
 typed-spec =

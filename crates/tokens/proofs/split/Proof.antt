@@ -72,8 +72,8 @@ returns-2 c =
     reached-broken (l .inv) many-tokens (c .before .before .before .before .before .before .before .if1 .left)
     (λ ts e. many (x .0) (x .1) (sym e ∙ full))
 
-payload-requires : tie.Need-payload-requires Inv-loop μ-loop
-payload-requires c κs =
+value-word-requires : tie.Need-value-word-requires Inv-loop μ-loop
+value-word-requires c κs =
     let h = c .before .before .before .before .before .before .before in
     let t = text h in
     let l = h .loop in
@@ -140,7 +140,7 @@ loop-again-2 c =
     c .before .before .before .before .before .before .before .before .before .before .before .before .before .before .before .before .pre
     in
     let left = c .before .before .before .before .before .before .if2 .left in
-    let word = c .before .before .before .before .payload .ensures in
+    let word = c .before .before .before .before .value-word .ensures in
     reached-next (l .inv) room (omega (arith, l .inv .few, left)) (x .0) (x .1) word (c .before .before .put .ensures)
 
 enum-told : tie.Need-enum-told Inv-loop μ-loop
@@ -214,7 +214,7 @@ split-spec =
     enum-known-kind
     same-length
     returns-2
-    payload-requires
+    value-word-requires
     cast-put
     cast-put-2
     put-requires

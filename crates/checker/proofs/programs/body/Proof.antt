@@ -16,7 +16,10 @@ same-length : tie.Need-same-length
 same-length c = search needs
 
 returns : tie.Need-returns
-returns c = deep-fits (c .before .before .before .before .before .before .before .before .pre) (c .before .before .before .before .before .word .ensures) (c .before .word2 .ensures) (c .if1 .taken)
+returns c =
+    let at-word = c .before .before .before .before .before in
+    let start = at-word .before .before .before in
+    deep-fits (start .pre) (at-word .word .ensures) (c .before .word2 .ensures) (c .if1 .taken)
 
 link-requires-2 : tie.Need-link-requires-2
 link-requires-2 c κs = search needs
@@ -25,7 +28,10 @@ add-type-at : tie.Need-add-type-at
 add-type-at c = search needs
 
 type-at-requires : tie.Need-type-at-requires
-type-at-requires c κs = body-ready (c .before .before .before .before .before .before .before .before .before .before .before .pre) (c .before .link2 .ensures) (c .before .before .before .before .before .before .link .ensures)
+type-at-requires c κs =
+    let at-link = c .before .before .before .before .before .before in
+    let start = at-link .before .before .before .before .before in
+    body-ready (start .pre) (c .before .link2 .ensures) (at-link .link .ensures)
 
 enum-known-typed : tie.Need-enum-known-typed
 enum-known-typed c = search needs
@@ -37,19 +43,46 @@ same-length-2 : tie.Need-same-length-2
 same-length-2 c = search needs
 
 returns-2 : tie.Need-returns-2
-returns-2 c = type-fits (c .before .before .before .before .before .before .before .before .before .before .before .before .before .before .before .before .before .before .pre) (c .before .before .before .before .before .before .before .before .before .before .before .before .before .before .before .word .ensures) (c .before .before .before .before .before .before .before .before .before .before .before .word2 .ensures) (c .before .before .before .before .before .before .before .before .before .before .if1 .left) (c .before .before .before .before .before .before .before .before .link2 .ensures) (c .before .before .before .before .before .before .before .before .before .before .before .before .before .link .ensures) (c .before .before .before .before .before .before .type-at .ensures) (c .before .before .typed2 .given .1) (c .if2 .taken)
+returns-2 c =
+    let at-type-at = c .before .before .before .before .before .before in
+    let at-link2 = at-type-at .before .before in
+    let at-if1 = at-link2 .before .before in
+    let at-word2 = at-if1 .before in
+    let at-link = at-word2 .before .before in
+    let at-word = at-link .before .before in
+    let start = at-word .before .before .before in
+    type-fits (start .pre) (at-word .word .ensures) (at-word2 .word2 .ensures) (at-if1 .if1 .left) (at-link2 .link2 .ensures) (at-link .link .ensures)
+    (at-type-at .type-at .ensures) (c .before .before .typed2 .given .1) (c .if2 .taken)
 
 same-length-3 : tie.Need-same-length-3
 same-length-3 c = search needs
 
 returns-3 : tie.Need-returns-3
-returns-3 c = fault-fits (c .before .before .before .before .before .before .before .before .before .before .before .before .before .before .before .before .before .pre) (c .before .before .before .before .before .before .before .before .before .before .before .before .before .before .word .ensures) (c .before .before .before .before .before .before .before .before .before .before .word2 .ensures) (c .before .before .before .before .before .before .before .before .before .if1 .left) (c .before .before .before .before .before .before .before .link2 .ensures) (c .before .before .before .before .before .before .before .before .before .before .before .before .link .ensures) (c .before .before .before .before .before .type-at .ensures) (c .before .typed .given .1)
+returns-3 c =
+    let at-type-at = c .before .before .before .before .before in
+    let at-link2 = at-type-at .before .before in
+    let at-if1 = at-link2 .before .before in
+    let at-word2 = at-if1 .before in
+    let at-link = at-word2 .before .before in
+    let at-word = at-link .before .before in
+    let start = at-word .before .before .before in
+    fault-fits (start .pre) (at-word .word .ensures) (at-word2 .word2 .ensures) (at-if1 .if1 .left) (at-link2 .link2 .ensures)
+    (at-link .link .ensures) (at-type-at .type-at .ensures) (c .before .typed .given .1)
 
 same-length-4 : tie.Need-same-length-4
 same-length-4 c = search needs
 
 returns-4 : tie.Need-returns-4
-returns-4 c = other-fits (c .before .before .before .before .before .before .before .before .before .before .before .before .before .before .before .before .before .before .pre) (c .before .before .before .before .before .before .before .before .before .before .before .before .before .before .before .word .ensures) (c .before .before .before .before .before .before .before .before .before .before .before .word2 .ensures) (c .before .before .before .before .before .before .before .before .before .before .if1 .left) (c .before .before .before .before .before .before .before .before .link2 .ensures) (c .before .before .before .before .before .before .before .before .before .before .before .before .before .link .ensures) (c .before .before .before .before .before .before .type-at .ensures) (c .before .before .typed2 .given .1) (c .if2 .left)
+returns-4 c =
+    let at-type-at = c .before .before .before .before .before .before in
+    let at-link2 = at-type-at .before .before in
+    let at-if1 = at-link2 .before .before in
+    let at-word2 = at-if1 .before in
+    let at-link = at-word2 .before .before in
+    let at-word = at-link .before .before in
+    let start = at-word .before .before .before in
+    other-fits (start .pre) (at-word .word .ensures) (at-word2 .word2 .ensures) (at-if1 .if1 .left) (at-link2 .link2 .ensures)
+    (at-link .link .ensures) (at-type-at .type-at .ensures) (c .before .before .typed2 .given .1) (c .if2 .left)
 
 pub body-spec : {M : Type 1} → statement M
 body-spec =

@@ -29,13 +29,31 @@ enum-told-3 : tie.Need-enum-told-3
 enum-told-3 c = search needs
 
 returns-2 : tie.Need-returns-2
-returns-2 c = function-fresh (c .before .before .before .before .before .before .before .pre) (c .before .before .before .before .before .word .ensures) (c .before .before .before .before .if1 .left) (c .before .before .before .name .ensures) (c .before .before .called .ensures) (c .enum-told .given .1)
+returns-2 c =
+    let at-name = c .before .before .before in
+    let at-if1 = at-name .before in
+    let at-word = at-if1 .before in
+    let start = at-word .before .before in
+    function-fresh (start .pre) (at-word .word .ensures) (at-if1 .if1 .left) (at-name .name .ensures) (c .before .before .called .ensures)
+    (c .enum-told .given .1)
 
 returns-3 : tie.Need-returns-3
-returns-3 c = putchar-fresh (c .before .before .before .before .before .before .before .pre) (c .before .before .before .before .before .word .ensures) (c .before .before .before .before .if1 .left) (c .before .before .before .name .ensures) (c .before .before .called .ensures) (c .enum-told2 .given .1)
+returns-3 c =
+    let at-name = c .before .before .before in
+    let at-if1 = at-name .before in
+    let at-word = at-if1 .before in
+    let start = at-word .before .before in
+    putchar-fresh (start .pre) (at-word .word .ensures) (at-if1 .if1 .left) (at-name .name .ensures) (c .before .before .called .ensures)
+    (c .enum-told2 .given .1)
 
 returns-4 : tie.Need-returns-4
-returns-4 c = nobody-fresh (c .before .before .before .before .before .before .before .pre) (c .before .before .before .before .before .word .ensures) (c .before .before .before .before .if1 .left) (c .before .before .before .name .ensures) (c .before .before .called .ensures) (c .enum-told3 .given .1)
+returns-4 c =
+    let at-name = c .before .before .before in
+    let at-if1 = at-name .before in
+    let at-word = at-if1 .before in
+    let start = at-word .before .before in
+    nobody-fresh (start .pre) (at-word .word .ensures) (at-if1 .if1 .left) (at-name .name .ensures) (c .before .before .called .ensures)
+    (c .enum-told3 .given .1)
 
 pub fresh-spec : {M : Type 1} → statement M
 fresh-spec =

@@ -16,7 +16,10 @@ enum-told : tie.Need-enum-told
 enum-told c = search needs
 
 parameters-requires : tie.Need-parameters-requires
-parameters-requires c κs = listed-params (c .before .before .before .before .before .before .before .before .pre) (c .before .before .before .before .before .row .ensures)
+parameters-requires c κs =
+    let at-row = c .before .before .before .before .before in
+    let start = at-row .before .before .before in
+    listed-params (start .pre) (at-row .row .ensures)
 
 enum-known-taken : tie.Need-enum-known-taken
 enum-known-taken c = search needs
@@ -25,25 +28,51 @@ enum-told-2 : tie.Need-enum-told-2
 enum-told-2 c = search needs
 
 body-requires : tie.Need-body-requires
-body-requires c κs = listed-body (c .before .before .before .before .before .before .before .before .before .before .before .before .before .before .pre) (c .before .before .before .before .before .before .before .before .before .before .before .row .ensures) (c .before .before .before .before .before .before .before .before .before .fresh .ensures) (c .before .before .before .before .before .before .before .enum-told .given .1) (c .before .before .before .before .before .parameters .ensures) (c .before .enum-told2 .given .1)
+body-requires c κs =
+    let at-parameters = c .before .before .before .before .before in
+    let at-enum-told = at-parameters .before .before in
+    let at-fresh = at-enum-told .before .before in
+    let at-row = at-fresh .before .before in
+    let start = at-row .before .before .before in
+    listed-body (start .pre) (at-row .row .ensures) (at-fresh .fresh .ensures) (at-enum-told .enum-told .given .1)
+    (at-parameters .parameters .ensures) (c .before .enum-told2 .given .1)
 
 same-length : tie.Need-same-length
 same-length c = search needs
 
 returns : tie.Need-returns
-returns c = head-ruled (c .before .before .before .before .before .before .before .before .pre) (c .before .before .before .before .before .row .ensures) (c .before .before .before .fresh .ensures) (c .before .head .given .1)
+returns c =
+    let at-fresh = c .before .before .before in
+    let at-row = at-fresh .before .before in
+    let start = at-row .before .before .before in
+    head-ruled (start .pre) (at-row .row .ensures) (at-fresh .fresh .ensures) (c .before .head .given .1)
 
 same-length-2 : tie.Need-same-length-2
 same-length-2 c = search needs
 
 returns-2 : tie.Need-returns-2
-returns-2 c = params-ruled (c .before .before .before .before .before .before .before .before .before .before .before .before .before .before .pre) (c .before .before .before .before .before .before .before .before .before .before .before .row .ensures) (c .before .before .before .before .before .before .before .before .before .fresh .ensures) (c .before .before .before .before .before .before .before .enum-told .given .1) (c .before .before .before .before .before .parameters .ensures) (c .before .taken .given .1)
+returns-2 c =
+    let at-parameters = c .before .before .before .before .before in
+    let at-enum-told = at-parameters .before .before in
+    let at-fresh = at-enum-told .before .before in
+    let at-row = at-fresh .before .before in
+    let start = at-row .before .before .before in
+    params-ruled (start .pre) (at-row .row .ensures) (at-fresh .fresh .ensures) (at-enum-told .enum-told .given .1)
+    (at-parameters .parameters .ensures) (c .before .taken .given .1)
 
 same-length-3 : tie.Need-same-length-3
 same-length-3 c = search needs
 
 returns-3 : tie.Need-returns-3
-returns-3 c = body-ruled (c .before .before .before .before .before .before .before .before .before .before .before .before .before .before .before .before .before .pre) (c .before .before .before .before .before .before .before .before .before .before .before .before .before .before .row .ensures) (c .before .before .before .before .before .before .before .before .before .before .before .before .fresh .ensures) (c .before .before .before .before .before .before .before .before .before .before .enum-told .given .1) (c .before .before .before .before .before .before .before .before .parameters .ensures) (c .before .before .before .before .enum-told2 .given .1) (c .before .before .body .ensures)
+returns-3 c =
+    let at-enum-told2 = c .before .before .before .before in
+    let at-parameters = at-enum-told2 .before .before .before .before in
+    let at-enum-told = at-parameters .before .before in
+    let at-fresh = at-enum-told .before .before in
+    let at-row = at-fresh .before .before in
+    let start = at-row .before .before .before in
+    body-ruled (start .pre) (at-row .row .ensures) (at-fresh .fresh .ensures) (at-enum-told .enum-told .given .1) (at-parameters .parameters .ensures)
+    (at-enum-told2 .enum-told2 .given .1) (c .before .before .body .ensures)
 
 pub function-spec : {M : Type 1} → statement M
 function-spec =

@@ -19,40 +19,72 @@ loop-holds : tie.Need-loop-holds Inv-loop μ-loop
 loop-holds c = taking-starts refl
 
 add-parameter : tie.Need-add-parameter Inv-loop μ-loop
-add-parameter c = let h = c .before .before .before .before .before .before .pre .last in omega (arith, c .before .before .before .link .ensures, c .before .loop-test .taken)
+add-parameter c =
+    let at-link = c .before .before .before in
+    let start = at-link .before .before .before in
+    let h = start .pre .last in omega (arith, at-link .link .ensures, c .before .loop-test .taken)
 
 add-parameter-2 : tie.Need-add-parameter-2 Inv-loop μ-loop
-add-parameter-2 c = let h = c .before .before .before .before .before .before .pre .last in omega (arith, c .before .before .before .link .ensures, c .before .loop-test .taken)
+add-parameter-2 c =
+    let at-link = c .before .before .before in
+    let start = at-link .before .before .before in
+    let h = start .pre .last in omega (arith, at-link .link .ensures, c .before .loop-test .taken)
 
 parameter-requires : tie.Need-parameter-requires Inv-loop μ-loop
-parameter-requires c κs = taking-row (c .before .before .before .before .before .before .pre) (c .before .before .before .link .ensures) (c .before .before .loop .inv) (c .before .loop-test .taken)
+parameter-requires c κs =
+    let at-link = c .before .before .before in
+    let start = at-link .before .before .before in
+    taking-row (start .pre) (at-link .link .ensures) (c .before .before .loop .inv) (c .before .loop-test .taken)
 
 enum-known-bound : tie.Need-enum-known-bound Inv-loop μ-loop
 enum-known-bound c = search needs
 
 same-length : tie.Need-same-length Inv-loop μ-loop
-same-length c = c .before .before .before .before .before .parameter .ensures .kept .long ∙ c .before .before .before .before .before .before .before .before .loop .inv .kept .long
+same-length c =
+    let at-parameter = c .before .before .before .before .before in
+    let at-loop = at-parameter .before .before .before in
+    at-parameter .parameter .ensures .kept .long ∙ at-loop .loop .inv .kept .long
 
 returns : tie.Need-returns Inv-loop μ-loop
-returns c = taking-stops (c .before .before .before .before .before .before .before .before .before .before .before .before .pre) (c .before .before .before .before .before .before .before .before .before .link .ensures) (c .before .before .before .before .before .before .before .before .loop .inv) (c .before .before .before .before .before .before .before .loop-test .taken) (c .before .before .before .before .before .parameter .ensures) (c .before .bound .given .1)
+returns c =
+    let at-parameter = c .before .before .before .before .before in
+    let at-loop-test = at-parameter .before .before in
+    let at-loop = at-loop-test .before in
+    let at-link = at-loop .before in
+    let start = at-link .before .before .before in
+    taking-stops (start .pre) (at-link .link .ensures) (at-loop .loop .inv) (at-loop-test .loop-test .taken) (at-parameter .parameter .ensures)
+    (c .before .bound .given .1)
 
 enum-told : tie.Need-enum-told Inv-loop μ-loop
 enum-told c = search needs
 
 add-k : tie.Need-add-k Inv-loop μ-loop
-add-k c = let h = c .before .before .before .before .before .before .before .before .before .before .before .pre .last in omega (arith, c .before .before .before .before .before .before .before .before .link .ensures, c .before .before .before .before .before .before .loop-test .taken)
+add-k c =
+    let at-loop-test = c .before .before .before .before .before .before in
+    let at-link = at-loop-test .before .before in
+    let start = at-link .before .before .before in
+    let h = start .pre .last in omega (arith, at-link .link .ensures, at-loop-test .loop-test .taken)
 
 loop-less : tie.Need-loop-less Inv-loop μ-loop
 loop-less c = omega (arith, c .before .before .before .before .before .before .loop-test .taken)
 
 loop-again : tie.Need-loop-again Inv-loop μ-loop
-loop-again c = taking-goes (c .before .before .before .before .before .before .before .before .before .before .before .pre) (c .before .before .before .before .before .before .before .before .link .ensures) (c .before .before .before .before .before .before .before .loop .inv) (c .before .before .before .before .before .before .loop-test .taken) (c .before .before .before .before .parameter .ensures) (c .enum-told .given .1)
+loop-again c =
+    let at-parameter = c .before .before .before .before in
+    let at-loop-test = at-parameter .before .before in
+    let at-loop = at-loop-test .before in
+    let at-link = at-loop .before in
+    let start = at-link .before .before .before in
+    taking-goes (start .pre) (at-link .link .ensures) (at-loop .loop .inv) (at-loop-test .loop-test .taken) (at-parameter .parameter .ensures)
+    (c .enum-told .given .1)
 
 same-length-2 : tie.Need-same-length-2 Inv-loop μ-loop
 same-length-2 c = c .before .loop .inv .kept .long
 
 returns-2 : tie.Need-returns-2 Inv-loop μ-loop
-returns-2 c = taking-ends (c .before .before .before .before .before .pre) (c .before .before .link .ensures) (c .before .loop .inv) (c .loop-test .left)
+returns-2 c =
+    let start = c .before .before .before .before .before in
+    taking-ends (start .pre) (c .before .before .link .ensures) (c .before .loop .inv) (c .loop-test .left)
 
 pub parameters-spec : {M : Type 1} → statement M
 parameters-spec =

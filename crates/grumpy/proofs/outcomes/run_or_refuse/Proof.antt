@@ -10,13 +10,14 @@ execute-requires : tie.Need-execute-requires
 execute-requires c κs =
     let seen = c .before .before .before in
     let start = seen .before .before .before .before .before .before in
-    runnable-sheet _ _ _ _ _ _ _ _ (start .pre) (seen .seen .given .1)
+    runnable-sheet _ _ _ _ _ _ (start .pre) (seen .seen .given .1)
 
 answer-requires : tie.Need-answer-requires
 answer-requires c κs =
-    let seen = c .before .before .before .before .before .before .before .before in
+    let execute = c .before .before .before .before .before in
+    let seen = execute .before .before .before in
     let start = seen .before .before .before .before .before .before in
-    runnable-long _ _ _ _ _ _ _ _ (start .pre) (seen .seen .given .1)
+    runnable-long _ _ _ _ _ _ (start .pre) (seen .seen .given .1)
 
 enum-known-seen-2 : tie.Need-enum-known-seen-2
 enum-known-seen-2 c = search needs
@@ -37,7 +38,7 @@ returns : tie.Need-returns
 returns c =
     let execute = c .before .before .before .before .before in
     let seen = execute .before .before .before .before in
-    answered-sheet _ _ _ _ _ _ _ _ _ _ _ _ _ _ (execute .execute .ensures) (seen .seen .given .1) (c .answer .ensures)
+    answered-sheet _ _ _ _ _ _ _ _ _ _ _ _ (execute .execute .ensures) (seen .seen .given .1) (c .answer .ensures)
 
 same-length-3 : tie.Need-same-length-3
 same-length-3 c = search needs

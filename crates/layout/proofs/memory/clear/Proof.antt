@@ -34,8 +34,13 @@ loop-again : tie.Need-loop-again Inv-loop μ-loop
 loop-again c =
     let v = c .before .loop .inv in
     let i = c .before .loop .i in
-    let to = c .before .before .args .to in
-    (length-set (c .before .loop .words) i 0 ∙ v .0, omega arith, omega arith, sym (zeros-step (c .before .loop .words) i (to - i) (to - (i + 1)) (omega arith)) ∙ v .3)
+    let to = c .before .before .args .to in (
+      length-set (c .before .loop .words) i 0 ∙ v .0,
+      omega arith,
+      omega arith,
+      sym
+          (zeros-step (c .before .loop .words) i (to - i) (to - (i + 1)) (omega arith)) ∙ v .3,
+    )
 
 same-length : tie.Need-same-length Inv-loop μ-loop
 same-length c = c .before .loop .inv .0

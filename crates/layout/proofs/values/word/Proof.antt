@@ -24,7 +24,9 @@ enum-known-v-3 : tie.Need-enum-known-v-3
 enum-known-v-3 c = search needs
 
 returns : tie.Need-returns
-returns c = let z : SFits w32 (c .before .before .v .given .0 .0) = search needs in let e = c .before .before .v .given .1 in (c .bits .ensures ∙ ap (ofZ w32) (toZ-ofZ {w = w32} z) ∙ ap word-of (sym e), rw e (ap number (toZ-ofZ {w = w32} z)))
+returns c = let z : SFits w32 (c .before .before .v .given .0 .0) = search needs in
+    let e = c .before .before .v .given .1 in
+    (c .bits .ensures ∙ ap (ofZ w32) (toZ-ofZ {w = w32} z) ∙ ap word-of (sym e), rw e (ap number (toZ-ofZ {w = w32} z)))
 
 returns-2 : tie.Need-returns-2
 returns-2 c = let e = c .before .before .v2 .given .1 in rw (e, c .if1 .taken) (refl, refl)

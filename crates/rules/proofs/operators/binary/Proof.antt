@@ -16,7 +16,10 @@ result-requires : tie.Need-result-requires
 result-requires c κs = search needs
 
 returns-2 : tie.Need-returns-2
-returns-2 c = between-fine _ (c .before .before .before .before .if1 .left) (c .before .before .before .operand .ensures) (c .result .ensures) (c .before .before .if2 .taken) (c .before .if3 .taken)
+returns-2 c =
+    let at-operand = c .before .before .before in
+    let at-if1 = at-operand .before in
+    between-fine _ (at-if1 .if1 .left) (at-operand .operand .ensures) (c .result .ensures) (c .before .before .if2 .taken) (c .before .if3 .taken)
 
 returns-3 : tie.Need-returns-3
 returns-3 c = between-other _ (c .before .before .before .if1 .left) (c .before .before .operand .ensures) (λ a b. c .if3 .left b)

@@ -10,11 +10,15 @@ use Rattle.rules.proofs.operators.branches.Tie as tie
 
 returns : tie.Need-returns
 unfolding infer type-number
-returns c = λ Δ Γ a b d v t u e k f p g q. type-is t (after-ok _ e (after-ok _ f (after-ok _ g (need-yes _ _ _ _ (is-type v bool k refl (c .before .if1 .taken)) (need-yes _ _ _ _ (is-type t u p q (c .if2 .taken)) refl))))) p
+returns c = λ Δ Γ a b d v t u e k f p g q. type-is t
+    (after-ok _ e (after-ok _ f
+    (after-ok _ g (need-yes _ _ _ _ (is-type v bool k refl (c .before .if1 .taken)) (need-yes _ _ _ _ (is-type t u p q (c .if2 .taken)) refl))))) p
 
 returns-2 : tie.Need-returns-2
 unfolding infer type-number
-returns-2 c = λ Δ Γ a b d v t u e k f p g q. fault-is (after-ok _ e (after-ok _ f (after-ok _ g (need-yes _ _ _ _ (is-type v bool k refl (c .before .if1 .taken)) (need-no _ _ _ _ (isnt-type t u p q (c .if2 .left)))))))
+returns-2 c = λ Δ Γ a b d v t u e k f p g q. fault-is
+    (after-ok _ e (after-ok _ f
+    (after-ok _ g (need-yes _ _ _ _ (is-type v bool k refl (c .before .if1 .taken)) (need-no _ _ _ _ (isnt-type t u p q (c .if2 .left)))))))
 
 returns-3 : tie.Need-returns-3
 unfolding infer type-number

@@ -10,10 +10,14 @@ enum-known-callee : tie.Need-enum-known-callee
 enum-known-callee c = search needs
 
 link-requires : tie.Need-link-requires
-link-requires c κs = let h = rowed-function _ (c .before .callee .given .1) (c .before .before .before .before .pre .1) in (c .before .before .before .before .pre .0, omega arith, omega arith)
+link-requires c κs =
+    let start = c .before .before .before .before in
+    let h = rowed-function _ (c .before .callee .given .1) (start .pre .1) in (start .pre .0, omega arith, omega arith)
 
 word-requires : tie.Need-word-requires
-word-requires c κs = let h = rowed-function _ (c .before .before .callee .given .1) (c .before .before .before .before .before .pre .1) in (c .before .before .before .before .before .pre .0, omega arith, omega arith)
+word-requires c κs =
+    let start = c .before .before .before .before .before in
+    let h = rowed-function _ (c .before .before .callee .given .1) (start .pre .1) in (start .pre .0, omega arith, omega arith)
 
 matched-requires : tie.Need-matched-requires
 matched-requires c κs = search needs
@@ -28,7 +32,9 @@ enum-told-2 : tie.Need-enum-told-2
 enum-told-2 c = search needs
 
 returns : tie.Need-returns
-returns c = call-function _ _ (c .before .before .before .before .callee .given .1) (c .before .before .link .ensures) (c .before .word .ensures) (c .matched .ensures)
+returns c =
+    let at-callee = c .before .before .before .before in
+    call-function _ _ (at-callee .callee .given .1) (c .before .before .link .ensures) (c .before .word .ensures) (c .matched .ensures)
 
 returns-2 : tie.Need-returns-2
 unfolding type-number

@@ -5,7 +5,8 @@ use Rattle.rules.proofs.operators.matched.Statement.{statement}
 use Rattle.rules.proofs.operators.matched.Tie as tie
 
 returns : tie.Need-returns
-returns c = λ s us a g k d. let e = sym k ∙ c .before .if1 .taken ∙ a in type-is (s .gives) (need-yes _ _ _ _ e (need-yes _ _ _ _ (d e .0 (c .if2 .taken)) refl)) g
+returns c = λ s us a g k d. let e = sym k ∙ c .before .if1 .taken ∙ a in type-is (s .gives)
+    (need-yes _ _ _ _ e (need-yes _ _ _ _ (d e .0 (c .if2 .taken)) refl)) g
 
 returns-2 : tie.Need-returns-2
 returns-2 c = λ s us a g k d. let e = sym k ∙ c .before .if1 .taken ∙ a in fault-is (need-yes _ _ _ _ e (need-no _ _ _ _ (d e .1 (c .if2 .left))))

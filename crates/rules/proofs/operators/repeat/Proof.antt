@@ -9,7 +9,8 @@ use Rattle.rules.proofs.operators.repeat.Tie as tie
 
 returns : tie.Need-returns
 unfolding type-number
-returns c = λ t u p q. type-is unit (need-yes _ _ _ _ (is-type t bool p refl (c .before .if1 .taken)) (need-yes _ _ _ _ (is-type u unit q refl (c .if2 .taken)) refl)) refl
+returns c = λ t u p q. type-is unit
+    (need-yes _ _ _ _ (is-type t bool p refl (c .before .if1 .taken)) (need-yes _ _ _ _ (is-type u unit q refl (c .if2 .taken)) refl)) refl
 
 returns-2 : tie.Need-returns-2
 unfolding type-number

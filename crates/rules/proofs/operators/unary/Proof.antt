@@ -40,11 +40,13 @@ add-t8 c = search needs
 
 returns-5 : tie.Need-returns-5
 unfolding unop unsuited unary-kind type-number
-returns-5 c = prefixed-new _ (c .before .before .before .if1 .left) (c .before .before .if2 .left) (c .before .if3 .left) (λ t p. new-some _ t p (c .if5 .taken))
+returns-5 c = prefixed-new _ (c .before .before .before .if1 .left) (c .before .before .if2 .left) (c .before .if3 .left)
+    (λ t p. new-some _ t p (c .if5 .taken))
 
 returns-6 : tie.Need-returns-6
 unfolding unop unsuited unary-kind type-number
-returns-6 c = prefixed-new _ (c .before .before .before .if1 .left) (c .before .before .if2 .left) (c .before .if3 .left) (λ t p. fault-is (new-none _ t p (c .if5 .left)))
+returns-6 c = prefixed-new _ (c .before .before .before .if1 .left) (c .before .before .if2 .left) (c .before .if3 .left)
+    (λ t p. fault-is (new-none _ t p (c .if5 .left)))
 
 pub unary-spec : {M : Type 1} → statement M
 unary-spec =

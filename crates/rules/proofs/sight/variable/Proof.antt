@@ -20,19 +20,33 @@ sub-k : tie.Need-sub-k Inv-loop μ-loop
 sub-k c = omega (arith, c .loop-test .taken)
 
 name-requires : tie.Need-name-requires Inv-loop μ-loop
-name-requires c κs = (c .before .before .before .pre .0, omega (arith, c .before .before .before .pre .1, c .before .loop .inv .0, c .loop-test .taken))
+name-requires c κs =
+    let start = c .before .before .before in
+    (start .pre .0, omega (arith, start .pre .1, c .before .loop .inv .0, c .loop-test .taken))
 
-kind-requires : tie.Need-kind-requires Inv-loop μ-loop
-kind-requires c κs = (c .before .before .before .before .before .pre .0, omega (arith, c .before .before .before .before .before .pre .1, c .before .before .before .loop .inv .0, c .before .before .loop-test .taken))
+type-number-requires : tie.Need-type-number-requires Inv-loop μ-loop
+type-number-requires c κs =
+    let at-loop = c .before .before .before in
+    let start = at-loop .before .before in
+    (start .pre .0, omega (arith, start .pre .1, at-loop .loop .inv .0, c .before .before .loop-test .taken))
 
 returns : tie.Need-returns Inv-loop μ-loop
-returns c = ap some (c .kind .ensures) ∙ sym (c .before .before .before .before .loop .inv .1 ∙ variable-here _ _ (omega (arith, c .before .before .before .loop-test .taken)) (sym (c .before .before .name .ensures) ∙ c .before .if1 .taken))
+returns c =
+    let at-loop-test = c .before .before .before in
+    let at-loop = at-loop-test .before in
+    ap some (c .type-number .ensures)
+    ∙ sym (at-loop .loop .inv .1 ∙ variable-here _ _ (omega (arith, at-loop-test .loop-test .taken))
+    (sym (c .before .before .name .ensures) ∙ c .before .if1 .taken))
 
 loop-less : tie.Need-loop-less Inv-loop μ-loop
 loop-less c = omega (arith, c .before .before .loop-test .taken)
 
 loop-again : tie.Need-loop-again Inv-loop μ-loop
-loop-again c = (omega (arith, c .before .before .before .loop .inv .0), c .before .before .before .loop .inv .1 ∙ variable-past _ _ (omega (arith, c .before .before .loop-test .taken)) (λ e. c .if1 .left (c .before .name .ensures ∙ e)))
+loop-again c = (
+  omega (arith, c .before .before .before .loop .inv .0),
+  c .before .before .before .loop .inv .1 ∙ variable-past _ _
+      (omega (arith, c .before .before .loop-test .taken)) (λ e. c .if1 .left (c .before .name .ensures ∙ e)),
+)
 
 returns-2 : tie.Need-returns-2 Inv-loop μ-loop
 returns-2 c = sym (c .before .loop .inv .1 ∙ variable-none _ _ (omega (arith, c .loop-test .left)))
@@ -46,7 +60,7 @@ variable-spec =
     loop-holds
     sub-k
     name-requires
-    kind-requires
+    type-number-requires
     returns
     loop-less
     loop-again

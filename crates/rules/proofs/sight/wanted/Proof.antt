@@ -10,19 +10,33 @@ enum-known-callee : tie.Need-enum-known-callee
 enum-known-callee c = search needs
 
 link-requires : tie.Need-link-requires
-link-requires c κs = let h = rowed-function _ (c .before .callee .given .1) (c .before .before .before .before .pre .1) in (c .before .before .before .before .pre .0, omega arith, omega arith)
+link-requires c κs =
+    let start = c .before .before .before .before in
+    let h = rowed-function _ (c .before .callee .given .1) (start .pre .1) in (start .pre .0, omega arith, omega arith)
 
 add-word : tie.Need-add-word
-add-word c = let h = rowed-function _ (c .before .before .before .callee .given .1) (c .before .before .before .before .before .before .pre .1) in omega (arith, c .before .link .ensures, c .if1 .taken)
+add-word c =
+    let at-callee = c .before .before .before in
+    let start = at-callee .before .before .before in
+    let h = rowed-function _ (at-callee .callee .given .1) (start .pre .1) in omega (arith, c .before .link .ensures, c .if1 .taken)
 
 add-word-2 : tie.Need-add-word-2
-add-word-2 c = let h = rowed-function _ (c .before .before .before .callee .given .1) (c .before .before .before .before .before .before .pre .1) in omega (arith, c .before .link .ensures, c .if1 .taken)
+add-word-2 c =
+    let at-callee = c .before .before .before in
+    let start = at-callee .before .before .before in
+    let h = rowed-function _ (at-callee .callee .given .1) (start .pre .1) in omega (arith, c .before .link .ensures, c .if1 .taken)
 
 word-requires : tie.Need-word-requires
-word-requires c κs = let h = rowed-function _ (c .before .before .before .callee .given .1) (c .before .before .before .before .before .before .pre .1) in (c .before .before .before .before .before .before .pre .0, omega (arith, c .before .link .ensures, c .if1 .taken), omega arith)
+word-requires c κs =
+    let at-callee = c .before .before .before in
+    let start = at-callee .before .before .before in
+    let h = rowed-function _ (at-callee .callee .given .1) (start .pre .1) in
+    (start .pre .0, omega (arith, c .before .link .ensures, c .if1 .taken), omega arith)
 
 returns : tie.Need-returns
-returns c = c .word .ensures ∙ sym (wanted-inside _ (c .before .before .before .before .callee .given .1) (omega (arith, c .before .before .link .ensures, c .before .if1 .taken)))
+returns c =
+    let at-callee = c .before .before .before .before in
+    c .word .ensures ∙ sym (wanted-inside _ (at-callee .callee .given .1) (omega (arith, c .before .before .link .ensures, c .before .if1 .taken)))
 
 enum-told : tie.Need-enum-told
 enum-told c = search needs

@@ -21,4 +21,15 @@ abbrev pub program-below : ℕ → In 1 program-kinds.ps
 program-below t = and 1 program-kinds.ps (falls 1 program-kinds.ps _<_ μ-program t) program.Pre
 
 abbrev pub program-claims : ℕ → program-lts.Claims
-program-claims t = (kind-reads.Asked, kind-reads.Learnt, function-reads.Asked, function-reads.Learnt, put-reads.Asked, put-reads.Learnt, program-below t, program.Post, seq-reads.Asked, seq-reads.Learnt)
+program-claims t = (
+  kind-reads.Asked,
+  kind-reads.Learnt,
+  function-reads.Asked,
+  function-reads.Learnt,
+  put-reads.Asked,
+  put-reads.Learnt,
+  program-below t,
+  program.Post,
+  seq-reads.Asked,
+  seq-reads.Learnt,
+)

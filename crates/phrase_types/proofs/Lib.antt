@@ -1,0 +1,8 @@
+pub mod KeptLaws
+pub mod ScopeLaws
+mod Naming
+mod NodeLaws
+mod BindLaws
+mod ReadyLaws
+mod ReadyArguments
+mod InferredLaws

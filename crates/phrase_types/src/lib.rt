@@ -1,0 +1,3 @@
+// Types expressions: of the tree at a node its type, or its first fault.
+
+pub mod expressions;
