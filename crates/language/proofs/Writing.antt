@@ -1,0 +1,3 @@
+-- What is true of a sheet that is written out again.
+pub mod Spelled
+pub mod ReadBack
