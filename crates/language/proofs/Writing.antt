@@ -1,3 +1,5 @@
 -- What is true of a sheet that is written out again.
 pub mod Spelled
 pub mod ReadBack
+pub mod OneWriting
+pub mod SameSheet

@@ -4,19 +4,18 @@ use mathlib.Core.List.{List, [], _∷_}
 use mathlib.Core.Path.{_≡_, refl, sym, ap, subst, _∙_}
 use Prim.Native.Nat.{ℕ, zero, suc}
 use native.Mathlib.Omega.{arith}
-use lib.IntN.{ℤ}
 use lib.ListN.{length, getD}
 use Rattle.language.specs.Tokens.{Token, past, SameToken, SameButPlaces, same-none, same-more}
 use Rattle.language.specs.Trees.{Ty, Program}
 use Rattle.language.specs.Grammar.{program}
-use Rattle.language.specs.Numbers.{Refusal, Told}
-use Rattle.language.specs.Answers.{Origin, Spot, place-in, Proper, Denied, Passes, Ending, Lent, RunReport, after-run, Ran, run-short, run-large, run-refused, run-ended}
-use Rattle.language.proofs.Executable.Parses.{Result}
+use Rattle.language.specs.Numbers.{Refusal}
+use Rattle.language.specs.Answers.{Origin, Spot, nowhere, place-in, Proper, Denied, Passes, by-origin, by-tokens, Lent, RunReport, Ran, run-short, run-large, run-refused, run-ended}
 use Rattle.language.proofs.Executable.Parser.{read, parse}
-use Rattle.language.proofs.Executable.Locality.{one-token, Agree}
+use Rattle.language.proofs.Executable.Locality.{one-token}
 use Rattle.language.proofs.Executable.Agreement.{agrees}
 use Rattle.language.proofs.Grammar.FirstWrong.{whole, plenty, comes-to}
-use Rattle.language.proofs.Answers.Verdict.{Verdict, denied, proper, verdict, by-comes, Says, verdict-says, proper-is, denied-is}
+use Rattle.language.proofs.Answers.Origins.{Lawful}
+use Rattle.language.proofs.Answers.Verdict.{verdict, by-comes, Says, verdict-says, proper-is, denied-is}
 
 -- ---- token by token
 
@@ -73,7 +72,49 @@ pub record SameRun {P Q : Type 0} (o : Origin P) (q : Origin Q) (ts us : List To
   pub here : r .place ≡ place-in o ts spot
   pub there : r′ .place ≡ place-in q us spot
 
-pub same-after : {P Q : Type 0} (o : Origin P) (q : Origin Q) (ts us : List Token) (t : Ty) (e : Ending)
-    → SameRun o q ts us (after-run o ts t e) (after-run q us t e)
-same-after o q ts us t e =
-    record { told = refl; type = refl; value = refl; units = refl; printed = refl; spot = e .spot; here = refl; there = refl }
+-- an origin with the same tokens answers the same to every run, with the same bytes printed
+module _ {P Q : Type 0} {o : Origin P} {q : Origin Q} (law : Lawful o) {ts us : List Token} (given : o .gives ts) (there : q .gives us)
+    (same : SameButPlaces ts us) where
+  -- the same program of the same type
+  pub same-passes : {xs : List Token} {p : Program} {t : Ty} → Passes o xs p t → Passes q us p t
+  same-passes {xs} {p} {t} a = record {
+    given = there;
+    proper = same-proper same (subst (λ (ts : List Token). Proper ts p t) (law .one-list xs ts (a .given) given) (a .proper));
+  }
+
+  pub same-run : {l : Lent} {r : RunReport P} {bs : List ℕ} → Ran o l r bs → (r′ : RunReport Q) × Ran q l r′ bs × SameRun o q ts us r r′
+  same-run (run-short h) =
+      (_, run-short h, record { told = refl; type = refl; value = refl; units = refl; printed = refl; spot = nowhere; here = refl; there = refl })
+  same-run (run-large e h) =
+      (_, run-large e h, record { told = refl; type = refl; value = refl; units = refl; printed = refl; spot = nowhere; here = refl; there = refl })
+  same-run (run-refused {r} {x} e h (by-origin d)) = absurd (law .never-both ts r x given d)
+  same-run (run-refused e h (by-tokens {ts = xs} {r} {s} g d)) =
+      let z = law .one-list xs ts g given in
+      (
+        _,
+        run-refused e h (by-tokens there (same-denied same (subst (λ (ts : List Token). Denied ts r s) z d))),
+        record {
+          told = refl;
+          type = refl;
+          value = refl;
+          units = refl;
+          printed = refl;
+          spot = s;
+          here = ap (λ (ts : List Token). place-in o ts s) z;
+          there = refl;
+        },
+      )
+  same-run (run-ended {ts = xs} {t = t} {e = end} e h a x) = (
+    _,
+    run-ended e h (same-passes a) x,
+    record {
+      told = refl;
+      type = refl;
+      value = refl;
+      units = refl;
+      printed = refl;
+      spot = end .spot;
+      here = ap (λ (ts : List Token). place-in o ts (end .spot)) (law .one-list xs ts (a .given) given);
+      there = refl;
+    },
+  )
