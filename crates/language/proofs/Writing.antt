@@ -3,3 +3,4 @@ pub mod Spelled
 pub mod ReadBack
 pub mod OneWriting
 pub mod SameSheet
+pub mod Examples

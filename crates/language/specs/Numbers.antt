@@ -5,7 +5,7 @@ use Rattle.language.specs.Text.{Flaw, strange-byte, open-comment, large-
 use Rattle.language.specs.Faults.{Reason, no-binding, no-function, wrong-number, wrong-argument, wrong-operand, wrong-operands, not-unit, not-bool, branches-differ, wrong-body, too-many-refs, too-many-functions, too-many-parameters, function-twice, parameter-twice}
 use Rattle.language.specs.State.{Stop, no-unit, too-deep, out-of-range, zero-divisor, cell-freed, cells-full, not-a-byte, output-full}
 
--- why nothing is run
+-- why nothing is run or written
 pub data Refusal : Type 0 where
   short-memory large-allowance long-source : Refusal
   text : Flaw → Refusal
