@@ -20,20 +20,22 @@ module _ {source w : List ℕ} {count : ℕ} (s : Spanned (length source) w coun
   pub mark-long : (i n : ℕ) → i < count → length (with-mark source w i n) ≡ size-of w i + 1
   unfolding with-mark
   mark-long i n h =
-      omega
-      (arith,
-      length-append (slice (token-place w i) (token-end w i) source) (mark n ∷ []),
-      length-slice (token-place w i) (token-end w i) source (s .inside i h))
+      omega (
+        arith,
+        length-append (slice (token-place w i) (token-end w i) source) (mark n ∷ []),
+        length-slice (token-place w i) (token-end w i) source (s .inside i h),
+      )
 
   pub text-length : (n i : ℕ) → i + n ≤ count → length (text-from source w i n) ≡ text-long w i n
   unfolding text-from text-long
   text-length zero i h = refl
   text-length (suc n) i h =
-      omega
-      (arith,
-      length-append (with-mark source w i n) (text-from source w (i + 1) n),
-      mark-long i n (omega arith),
-      text-length n (i + 1) (omega arith))
+      omega (
+        arith,
+        length-append (with-mark source w i n) (text-from source w (i + 1) n),
+        mark-long i n (omega arith),
+        text-length n (i + 1) (omega arith),
+      )
 
 -- a token no longer than the source, and the byte behind it
 pub sized : {w : List ℕ} {count i : ℕ} → Spanned SOURCE w count → i < count → size-of w i + 1 ≤ SOURCE + 1

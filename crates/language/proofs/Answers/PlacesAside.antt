@@ -89,8 +89,7 @@ module _ {P Q : Type 0} {o : Origin P} {q : Origin Q} (law : Lawful o) {ts us : 
       (_, run-large e h, record { told = refl; type = refl; value = refl; units = refl; printed = refl; spot = nowhere; here = refl; there = refl })
   same-run (run-refused {r} {x} e h (by-origin d)) = absurd (law .never-both ts r x given d)
   same-run (run-refused e h (by-tokens {ts = xs} {r} {s} g d)) =
-      let z = law .one-list xs ts g given in
-      (
+      let z = law .one-list xs ts g given in (
         _,
         run-refused e h (by-tokens there (same-denied same (subst (λ (ts : List Token). Denied ts r s) z d))),
         record {

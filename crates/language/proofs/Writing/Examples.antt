@@ -20,9 +20,9 @@ written ((source is text) ∷ rows) = gives (scan (spell source)) (spell text) &
 
 pub examples-written :
     written
-        ("1" is "1\n" ∷ "f(1,x)" is "f ( 1 , x )\n" ∷ "\t1+ 2\r\n\n" is "1 + 2\n" ∷ "1/2//half" is "1 / 2\n" ∷
-        "/* a /* b */ */-007" is "- 007\n" ∷ "x:=!y;x : = y" is "x := ! y ; x : = y\n" ∷ "a==b=c" is "a == b = c\n" ∷
-        "1x if_ if" is "1 x if_ if\n" ∷ "{tt}&&not true||false" is "{ tt } && not true || false\n" ∷ [])
+    ("1" is "1\n" ∷ "f(1,x)" is "f ( 1 , x )\n" ∷ "\t1+ 2\r\n\n" is "1 + 2\n" ∷ "1/2//half" is "1 / 2\n" ∷
+    "/* a /* b */ */-007" is "- 007\n" ∷ "x:=!y;x : = y" is "x := ! y ; x : = y\n" ∷ "a==b=c" is "a == b = c\n" ∷
+    "1x if_ if" is "1 x if_ if\n" ∷ "{tt}&&not true||false" is "{ tt } && not true || false\n" ∷ [])
     ≡ true
 unfolding written
 examples-written = refl

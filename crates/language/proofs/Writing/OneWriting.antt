@@ -85,8 +85,7 @@ module _ {P : Type 0} {o : Origin P} (law : Lawful o) where
   -- and one there is
   pub some-write : (table output : List ℕ) → (r : WriteReport P) × (t′ : List ℕ) × (o′ : List ℕ) × Write o table output r t′ o′
   some-write table output =
-      let a = some-wrote (length table) (length output) in
-      (
+      let a = some-wrote (length table) (length output) in (
         a .0,
         left (a .0 .told) TABLE table,
         a .1 ++ drop (length (a .1)) output,
