@@ -1,5 +1,6 @@
 -- What is true of a sheet that is written out again.
 pub mod Spelled
+pub mod LastByte
 pub mod ReadBack
 pub mod OneWriting
 pub mod SameSheet

@@ -71,9 +71,9 @@ fn measure(table: &[u32], count: usize) -> usize
     let mut long: usize = 0;
     let mut i = 0;
     while i < count {
-        let from = token::place(table, i) as usize;
-        let to = token::end(table, i) as usize;
-        let size = to - from;
+        let begin = token::place(table, i) as usize;
+        let end = token::end(table, i) as usize;
+        let size = end - begin;
         long = long + size + 1;
         i += 1;
     }
