@@ -22,7 +22,7 @@ module _ {source w : List ℕ} {count : ℕ} (x : Writable source w count) (n : 
   same-text ts s = text-written (x .stand) (x .splits) ∙ ap written-out (one-split laws-1 (x .splits) s)
 
   long-is : (ts : List Token) → Splits source ts → n ≡ length (written-out ts)
-  long-is ts s = e ∙ sym (text-length (writable-spans x) count 0 (omega arith)) ∙ ap length (same-text ts s)
+  long-is ts s = e ∙ sym (text-length source (writable-spans x) count 0 (omega arith)) ∙ ap length (same-text ts s)
 
   pub over-source : (out : List ℕ) → SOURCE < n → WritesOut source out out Text.TooLong
   over-source out h = record { told = λ ts s. (inr (omega (arith, long-is ts s)), refl) }

@@ -16,7 +16,7 @@ use Rattle.writer.specs.Texts.{Spanned, size-of, mark, with-mark, text-f
 
 -- ---- how long it is
 
-module _ {source w : List ℕ} {count : ℕ} (s : Spanned (length source) w count) where
+module _ (source : List ℕ) {w : List ℕ} {count : ℕ} (s : Spanned (length source) w count) where
   pub mark-long : (i n : ℕ) → i < count → length (with-mark source w i n) ≡ size-of w i + 1
   unfolding with-mark
   mark-long i n h =
@@ -40,6 +40,17 @@ module _ {source w : List ℕ} {count : ℕ} (s : Spanned (length source) w coun
 -- a token no longer than the source, and the byte behind it
 pub sized : {w : List ℕ} {count i : ℕ} → Spanned SOURCE w count → i < count → size-of w i + 1 ≤ SOURCE + 1
 sized {i = i} s h = omega (arith, s .inside i h)
+
+-- ---- the byte behind a token
+
+module _ (count i : ℕ) where
+  pub mark-between : i + 1 < count → 32 ≡ mark (count - (i + 1))
+  unfolding mark
+  mark-between h = let e : count - (i + 1) ≡ suc (count - (i + 2)) = omega arith in rw e refl
+
+  pub mark-last : count ≤ i + 1 → 10 ≡ mark (count - (i + 1))
+  unfolding mark
+  mark-last h = let e : count - (i + 1) ≡ 0 = omega arith in rw e refl
 
 -- ---- token by token
 
