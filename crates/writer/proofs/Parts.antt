@@ -50,6 +50,14 @@ copied-one entry source from to at i h k l e =
     let b : getD s i 0 ≡ getD source (from + i) 0 = getD-drop from (take to source) i 0 ∙ getD-take to source (from + i) 0 (omega arith) in
     rw (e, ← b, add-one i) (paste-suc entry at s i 0 h (omega (arith, length-slice from to source k)))
 
+-- all of them
+pub copied-all : (entry source now : List ℕ) (from to at i : ℕ) → to ≤ length source → i ≤ to - from → to - from ≤ i
+    → now ≡ paste entry at (slice from to source) i → Put entry now (slice from to source) at (at + (to - from))
+copied-all entry source now from to at i h k l e =
+    let n = length-slice from to source h in
+    let z : i ≡ length (slice from to source) = omega arith in
+    (omega arith, e ∙ ap (λ (j : ℕ). paste entry at (slice from to source) j) z)
+
 -- the byte behind a part
 pub put-mark : (entry s : List ℕ) (b at end : ℕ) {now : List ℕ} → at + length s < length entry → Put entry now s at end
     → Put entry (set now end b) (s ++ (b ∷ [])) at (end + 1)
