@@ -3,4 +3,4 @@ pub mod Runs
 pub mod Services
 pub mod Determined
 pub mod Demands
-pub mod Writings
+pub mod Rewriting

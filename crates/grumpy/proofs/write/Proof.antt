@@ -1,5 +1,5 @@
 use borrow.Author.Needs.{needs}
-use Rattle.grumpy.proofs.Writings.{write-is-short, examined-readable, write-is-answered}
+use Rattle.grumpy.proofs.Rewriting.{write-is-short, examined-readable, write-is-answered}
 use Rattle.grumpy.proofs.write.Statement.{statement}
 use Rattle.grumpy.proofs.write.Tie as tie
 
@@ -26,7 +26,7 @@ same-length-2 c = search needs
 returns-2 : tie.Need-returns-2
 returns-2 c =
     let clear = c .before .before in
-    let write-or-refuse = clear .before .before .before .before .before in
+    let write-or-refuse = clear .before .before .before .before in
     let examine = write-or-refuse .before .before .before .before .before in
     let if1 = examine .before .before in
     let x = write-or-refuse .write-or-refuse .ensures in

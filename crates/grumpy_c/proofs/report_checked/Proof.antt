@@ -6,6 +6,9 @@ use Rattle.grumpy_c.proofs.report_checked.Tie as tie
 enum-known-answer : tie.Need-enum-known-answer
 enum-known-answer c = search needs
 
+cast-write-three : tie.Need-cast-write-three
+cast-write-three c = search needs
+
 write-three-requires : tie.Need-write-three-requires
 write-three-requires c κs = search needs
 
@@ -42,6 +45,7 @@ report-checked-spec =
     tie.close
     (tie.spec
     enum-known-answer
+    cast-write-three
     write-three-requires
     enum-known-answer-2
     of-refusal-requires
