@@ -16,6 +16,10 @@ use Rattle.writer.specs.Texts.{Front, text-from, text-long, Writable, Wr
 use Rattle.writer.specs.declared.Text.{Text}
 use Rattle.writer.proofs.Words.{text-length, text-written, writable-spans}
 
+-- a length that was measured is within what it was found to be within
+pub measured-within : (n m room : ℕ) → n ≡ m → n ≤ room → m ≤ room
+measured-within n m room e h = omega arith
+
 module _ {source w : List ℕ} {count : ℕ} (x : Writable source w count) (n : ℕ) (e : n ≡ text-long w 0 count) where
   -- the text by the words is the one that every split of the source has
   same-text : (ts : List Token) → Splits source ts → text-from source w 0 count ≡ written-out ts

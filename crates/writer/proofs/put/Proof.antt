@@ -26,7 +26,7 @@ copy-requires c κs =
     let end = c .before in
     let place = end .before in
     let start = place .before .before .before .before in
-    span-room _ _ _ _ _ _ _ _ (start .pre) (place .place .ensures) (end .end .ensures)
+    span-room (start .args .source .now) _ _ _ _ _ _ _ (start .pre) (place .place .ensures) (end .end .ensures)
 
 behind-requires : tie.Need-behind-requires
 behind-requires c κs =

@@ -31,7 +31,7 @@ loop-less c = search needs
 
 loop-again : tie.Need-loop-again Inv-loop μ-loop
 loop-again c =
-    let put = c .before in
+    let put = c .before .before in
     let test = put .before .before in
     let loop = test .before in
     let given = loop .before .before .before .before .pre in
