@@ -67,7 +67,9 @@ pub fn run(
 
 // `out` gets the sheet's tokens, one space between every two and LF at the end.
 pub fn write(source: &[u8], table: &mut [u32], out: &mut [u8]) -> Wrote
-    ensures { λ r. ⌜ Write (from-text (now (source .entry))) (now (table .entry)) (now (out .entry)) (wrote-report r) (now (table .exit)) (now (out .exit)) ⌝ }
+    ensures { λ r.
+        ⌜ Write (from-text (now (source .entry))) (now (table .entry)) (now (out .entry)) (wrote-report r)
+        (now (table .exit)) (now (out .exit)) ⌝ }
 {
     if table.len() < TABLE {
         return Wrote::Refused(Refusal::ShortMemory, 0);

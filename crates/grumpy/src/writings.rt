@@ -20,7 +20,8 @@ fn rewrite(source: &[u8], table: &[u32], count: usize, out: &mut [u8]) -> Wrote
 // What comes of a sheet that was examined: it is written out, or it is refused and the output stays.
 pub fn write_or_refuse(source: &[u8], table: &[u32], out: &mut [u8], seen: Seen) -> Wrote
     requires { ⌜ Readable (now source) (now table) seen ⌝ }
-    ensures { λ r. ⌜ Rewritten (now (source .entry)) (now (table .entry)) (now (out .entry)) (now (out .exit)) seen r ⌝ }
+    ensures { λ r.
+        ⌜ Rewritten (now (source .entry)) (now (table .entry)) (now (out .entry)) (now (out .exit)) seen r ⌝ }
 {
     match seen {
         Seen::Passes {

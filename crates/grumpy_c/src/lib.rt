@@ -156,7 +156,9 @@ pub extern "C" fn grumpy_write(
     out: &mut [u8],
     report: &mut [u64],
 ) -> u32
-    ensures { λ r. ⌜ WroteC (now (source .entry)) (now (table .entry)) (now (out .entry)) (now (report .entry)) (now (table .exit)) (now (out .exit)) (now (report .exit)) r ⌝ }
+    ensures { λ r.
+        ⌜ WroteC (now (source .entry)) (now (table .entry)) (now (out .entry)) (now (report .entry))
+        (now (table .exit)) (now (out .exit)) (now (report .exit)) r ⌝ }
 {
     if report.len() < 3 {
         return 40;

@@ -5,7 +5,8 @@ ghost use Prim.Native.Nat.{_+_, _-_, _≤_, _<_};
 ghost use lib.ListN.{length};
 ghost use lib.Seq.{slice};
 ghost use Rattle.language.specs.Sizes.{SOURCE};
-ghost use Rattle.writer.specs.Texts.{Room, Span, Spanned, mark, with-mark, text-long, text-from, Put, Front, Writable, WritesOut};
+ghost use Rattle.writer.specs.Texts.{Put, Front, Room, Span, Spanned, mark, with-mark};
+ghost use Rattle.writer.specs.Texts.{text-long, text-from, Writable, WritesOut};
 use language::SOURCE;
 use layout::token;
 
@@ -41,7 +42,9 @@ fn behind(count: usize, i: usize) -> u8
 // Puts token i and the byte behind it into `out`, and answers where the next one is to go.
 fn put(source: &[u8], table: &[u32], count: usize, i: usize, out: &mut [u8], at: usize) -> usize
     requires { ⌜ Span (length (now source)) (now table) count i (length (now out)) at ⌝ }
-    ensures { λ r. ⌜ Put (now (out .entry)) (now (out .exit)) (with-mark (now (source .entry)) (now (table .entry)) i (count - (i + 1))) at r ⌝ }
+    ensures { λ r.
+        ⌜ Put (now (out .entry)) (now (out .exit))
+        (with-mark (now (source .entry)) (now (table .entry)) i (count - (i + 1))) at r ⌝ }
 {
     let from = token::place(table, i) as usize;
     let to = token::end(table, i) as usize;
@@ -53,7 +56,8 @@ fn put(source: &[u8], table: &[u32], count: usize, i: usize, out: &mut [u8], at:
 // Puts the text of all tokens into `out`.
 fn put_all(source: &[u8], table: &[u32], count: usize, out: &mut [u8])
     requires { ⌜ Spanned (length (now source)) (now table) count × (text-long (now table) 0 count ≤ length (now out)) ⌝ }
-    ensures { λ _. ⌜ Front (text-from (now (source .entry)) (now (table .entry)) 0 count) (now (out .entry)) (now (out .exit)) ⌝ }
+    ensures { λ _.
+        ⌜ Front (text-from (now (source .entry)) (now (table .entry)) 0 count) (now (out .entry)) (now (out .exit)) ⌝ }
 {
     let mut at = 0;
     let mut i = 0;
