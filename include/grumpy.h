@@ -1,23 +1,24 @@
-/* The box: reads, checks and runs a rate sheet written in Grumpy.
+/* The box: reads, checks, runs and rewrites a rate sheet written in Grumpy.
  *
- * Two functions. They keep nothing between calls, ask for no memory of their own but the stack, of which
+ * Three functions. They keep nothing between calls, ask for no memory of their own but the stack, of which
  * GRUMPY_STACK bytes are enough, and call nothing from outside but memset. They may be called from several
  * threads at once, each with memory of its own.
  *
  * Lent memory. The caller lends `table` and, to grumpy_run, `work`, of at least the words named below;
  * what they hold before the call does not matter. After the call the required words are zero and all
  * further words are as they were. If a memory is too short the answer is GRUMPY_SHORT_MEMORY and nothing
- * is changed at all. `out` may have any length, 0 too: the bytes printed are its first ones and the rest
- * is as it was; a sheet that is refused prints nothing.
+ * is changed at all. `out` may have any length, 0 too: the bytes printed, or those written, are its first
+ * ones and the rest is as it was; for a sheet that is refused nothing is printed or written.
  *
  * Memories must not overlap one another, nor the source or the report. A memory of length 0 may have any
  * pointer that is not null and is aligned for its words.
  *
- * Both functions return the number, and write the report:
+ * All functions return the number, and write the report:
  *
  *     report[0]  the number, one of the constants below
  *     report[1]  the place: a byte of the source, counted from 0; 0 where the number has none
- *     report[2]  the type of the sheet, if it passed: GRUMPY_INT, GRUMPY_BOOL, ... ; else 0
+ *     report[2]  the type of the sheet, if it passed: GRUMPY_INT, GRUMPY_BOOL, ... ; else 0.
+ *                Of grumpy_write the bytes written
  *
  * and grumpy_run also
  *
@@ -43,6 +44,7 @@ extern "C" {
 #define GRUMPY_WORK 16384
 #define GRUMPY_CHECK_REPORT 3
 #define GRUMPY_RUN_REPORT 6
+#define GRUMPY_WRITE_REPORT 3
 
 /* bytes of stack that a thread which calls these functions should have: measured on the worst sheets that a
  * search has found, not proved */
@@ -70,6 +72,7 @@ extern "C" {
 #define GRUMPY_WRONG_NUMBER 37    /* a call with too many or too few arguments */
 #define GRUMPY_SHORT_MEMORY 40    /* a lent memory or the report is too short */
 #define GRUMPY_LARGE_ALLOWANCE 41 /* the allowance is too large */
+#define GRUMPY_LONG_TEXT 44       /* the text is longer than `out` or than a source; nothing is written */
 #define GRUMPY_OUT_OF_UNITS 50    /* the allowance is used up */
 #define GRUMPY_TOO_DEEP 51        /* more than 512 nodes active at once */
 #define GRUMPY_OVERFLOW 52        /* a result outside 32 bits */
@@ -97,6 +100,14 @@ uint32_t grumpy_run(const uint8_t *source, size_t source_length,
                     uint8_t *out, size_t out_length,
                     uint64_t allowance,
                     uint64_t *report, size_t report_length);
+
+/* Reads and checks a sheet, and writes it out again if it passes: its tokens as they are spelled, one space
+ * between every two, a line feed at the end and no comments. An `out` of GRUMPY_SOURCE bytes is as much as
+ * is ever of use. What is written is a sheet with the same meaning; written again it is itself. */
+uint32_t grumpy_write(const uint8_t *source, size_t source_length,
+                      uint32_t *table, size_t table_length,
+                      uint8_t *out, size_t out_length,
+                      uint64_t *report, size_t report_length);
 
 #ifdef __cplusplus
 }

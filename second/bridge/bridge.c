@@ -5,7 +5,7 @@
  * which nothing can be written. With `paint` the stack is filled with a pattern before each call, to see
  * afterwards how far down it was written.
  *
- * A request is seven words of 64 bits (service: 0 check, 1 run; the lengths of source, table, work, output
+ * A request is seven words of 64 bits (service: 0 check, 1 run, 2 write; the lengths of source, table, work, output
  * and report; the allowance), then these five memories as they are. The answer is four words (the number
  * returned; how many bytes were changed that were not lent; with `paint` the bytes of stack that the call
  * took and those left below it, else 0 and 0), then the four memories that may be written. All in the
@@ -74,8 +74,14 @@ static uint64_t call(const uint64_t *asked, struct memory *m) {
   uint32_t *table = (uint32_t *)(m[TABLE].all + MARGIN), *work = (uint32_t *)(m[WORK].all + MARGIN);
   uint8_t *out = m[OUT].all + MARGIN;
   uint64_t *report = (uint64_t *)(m[REPORT].all + MARGIN);
-  if (asked[0] == 0) return grumpy_check(source, asked[1], table, asked[2], report, asked[5]);
-  return grumpy_run(source, asked[1], table, asked[2], work, asked[3], out, asked[4], asked[6], report, asked[5]);
+  switch (asked[0]) {
+    case 0: return grumpy_check(source, asked[1], table, asked[2], report, asked[5]);
+    case 1:
+      return grumpy_run(source, asked[1], table, asked[2], work, asked[3], out, asked[4], asked[6], report, asked[5]);
+    case 2: return grumpy_write(source, asked[1], table, asked[2], out, asked[4], report, asked[5]);
+  }
+  fail("no such service");
+  return 0;
 }
 
 /* The stack of the calls, from its lowest word up, and whether it is painted. */

@@ -96,8 +96,8 @@ pub fn run(source: &[u8], lent: &Lent) -> Answer {
     }
 }
 
-/// Everything Check and Run share once the loans are known to be long enough.
-fn prepare(source: &[u8]) -> Result<(tree::Program, types::Type), Refusal> {
+/// Everything the services share once the loans are known to be long enough.
+pub fn prepare(source: &[u8]) -> Result<(tree::Program, types::Type), Refusal> {
     if source.len() > MOST_BYTES {
         return Err(Refusal::new(10, 0));
     }

@@ -62,9 +62,19 @@ SomeArguments -> Seq
 SomeArguments -> SomeArguments , Seq
 ";
 
-struct Production {
-    part: &'static str,
-    symbols: Vec<&'static str>,
+pub struct Production {
+    pub part: &'static str,
+    pub symbols: Vec<&'static str>,
+}
+
+pub fn productions() -> Vec<Production> {
+    let line = |line: &'static str| {
+        let mut words = line.split_whitespace();
+        let part = words.next().expect("a part");
+        let symbols = words.skip(1).collect();
+        Production { part, symbols }
+    };
+    PRODUCTIONS.trim().lines().map(line).collect()
 }
 
 /// A production of which so many symbols are passed, begun before the token of
@@ -86,13 +96,7 @@ pub struct Recogniser {
 
 impl Default for Recogniser {
     fn default() -> Recogniser {
-        let line = |line: &'static str| {
-            let mut words = line.split_whitespace();
-            let part = words.next().expect("a part");
-            let symbols = words.skip(1).collect();
-            Production { part, symbols }
-        };
-        let productions: Vec<Production> = PRODUCTIONS.trim().lines().map(line).collect();
+        let productions = productions();
         let mut parts: HashMap<&str, Vec<usize>> = HashMap::new();
         for (index, production) in productions.iter().enumerate() {
             parts.entry(production.part).or_default().push(index);

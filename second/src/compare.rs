@@ -1,28 +1,31 @@
 //! Holds another implementation against this one: its report, and every word
 //! and byte it was lent, and a margin around each loan that it was not lent.
 
-use crate::answer::{self, Answer, Left, TABLE_WORDS, WORK_WORDS};
+use crate::answer::{Left, TABLE_WORDS, WORK_WORDS};
 use crate::chance::Chance;
+use crate::services::{wanted, Service};
 use crate::trial::Trial;
+use crate::write::write;
 use std::fmt::Debug;
 
-pub struct Loans<'a> {
+/// A call with all that is lent for it.
+pub struct Call<'a> {
+    pub service: Service,
+    pub source: &'a [u8],
     pub table: &'a mut [u32],
     pub work: &'a mut [u32],
     pub output: &'a mut [u8],
+    pub allowance: u64,
+    pub report: &'a mut [u64],
 }
 
 /// The number returned, or why there is none to be trusted.
 pub type Told = Result<u32, String>;
 
-/// The two services as they are reached from outside.
 pub trait Other {
-    fn check(&self, source: &[u8], table: &mut [u32], report: &mut [u64]) -> Told;
-    fn run(&self, source: &[u8], loans: Loans, allowance: u64, report: &mut [u64]) -> Told;
+    fn call(&self, call: Call) -> Told;
 }
 
-pub const CHECK_REPORT: usize = 3;
-pub const RUN_REPORT: usize = 6;
 const MARGIN: usize = 16;
 
 /// A memory filled at random, of which only the middle is lent.
@@ -72,78 +75,68 @@ impl Memory<u32> {
     }
 }
 
-/// Compares both services on one trial, Run against the answer given.
-pub fn compare(other: &dyn Other, trial: &Trial, answer: &Answer) -> Result<(), String> {
-    compare_check(other, trial).map_err(|e| format!("check: {e}"))?;
-    compare_run(other, trial, answer).map_err(|e| format!("run: {e}"))
-}
-
-pub fn compare_check(other: &dyn Other, trial: &Trial) -> Result<(), String> {
-    let mut chance = Chance::new(trial.fill, 0);
-    let mut table = Memory::new(trial.lent.table, || chance.next_word() as u32);
-    let mut report = Memory::new(trial.check_report, || chance.next_word());
-    let number = other.check(&trial.sheet, table.lent(), report.lent())?;
-    let answer = answer::check(&trial.sheet, trial.lent.table);
-    let complete = trial.check_report >= CHECK_REPORT;
-    if complete {
-        report.want(&[u64::from(answer.number), answer.place, answer.kind]);
-        table.want_left(answer.table, TABLE_WORDS);
+/// Holds every service on this trial, and some on the sheet written out again.
+pub fn compare(other: &dyn Other, trial: &Trial) -> Result<(), String> {
+    for service in Service::ALL {
+        hold(other, trial, service)?;
     }
-    returned(number, if complete { answer.number } else { 40 })?;
-    report.compare("report")?;
-    table.compare("table")
+    let text = write(&trial.sheet, trial.lent.table, trial.room).text;
+    if text.is_empty() || !trial.fill.is_multiple_of(3) {
+        return Ok(());
+    }
+    let back = Trial {
+        sheet: text,
+        ..trial.clone()
+    };
+    for service in [Service::Run, Service::Write] {
+        hold(other, &back, service).map_err(|e| format!("written out: {e}"))?;
+    }
+    Ok(())
 }
 
-pub fn compare_run(other: &dyn Other, trial: &Trial, answer: &Answer) -> Result<(), String> {
-    let mut chance = Chance::new(trial.fill, 1);
+/// Holds one service on this trial.
+pub fn hold(other: &dyn Other, trial: &Trial, service: Service) -> Result<(), String> {
+    differs(other, trial, service).map_err(|e| format!("{service:?}: {e}"))
+}
+
+fn differs(other: &dyn Other, trial: &Trial, service: Service) -> Result<(), String> {
+    let mut chance = Chance::new(trial.fill, service.code());
     let mut table = Memory::new(trial.lent.table, || chance.next_word() as u32);
-    let mut work = Memory::new(trial.lent.work, || chance.next_word() as u32);
-    let mut output = Memory::new(trial.lent.output, || chance.next_word() as u8);
-    let mut report = Memory::new(trial.run_report, || chance.next_word());
-    let loans = Loans {
+    let mut work = Memory::new(service.work(trial), || chance.next_word() as u32);
+    let mut output = Memory::new(service.output(trial), || chance.next_word() as u8);
+    let mut report = Memory::new(trial.report(service), || chance.next_word());
+    let number = other.call(Call {
+        service,
+        source: &trial.sheet,
         table: table.lent(),
         work: work.lent(),
         output: output.lent(),
-    };
-    let number = other.run(&trial.sheet, loans, trial.lent.allowance, report.lent())?;
-    let complete = trial.run_report >= RUN_REPORT;
-    if complete {
-        report.want(&run_words(answer));
-        table.want_left(answer.table, TABLE_WORDS);
-        work.want_left(answer.work, WORK_WORDS);
-        output.want(&answer.printed);
+        allowance: trial.lent.allowance,
+        report: report.lent(),
+    })?;
+    // A report that is too short is all that matters then.
+    let mut due = 40;
+    if trial.report(service) >= service.words() {
+        let wanted = wanted(service, trial);
+        due = wanted.number;
+        report.want(&[vec![u64::from(due)], wanted.report].concat());
+        output.want(&wanted.output);
+        table.want_left(wanted.table, TABLE_WORDS);
+        work.want_left(wanted.work, WORK_WORDS);
     }
-    returned(number, if complete { answer.number } else { 40 })?;
+    if number != due {
+        return Err(format!("returned {number}, not {due}"));
+    }
     report.compare("report")?;
     output.compare("output")?;
     table.compare("table")?;
     work.compare("work")
 }
 
-/// The report of a run, in the order of its words.
-pub fn run_words(answer: &Answer) -> [u64; RUN_REPORT] {
-    let printed = answer.printed.len() as u64;
-    let (number, value) = (u64::from(answer.number), answer.value as u64);
-    [
-        number,
-        answer.place,
-        answer.kind,
-        value,
-        answer.units,
-        printed,
-    ]
-}
-
-fn returned(number: u32, wanted: u32) -> Result<(), String> {
-    match number == wanted {
-        true => Ok(()),
-        false => Err(format!("returned {number}, not {wanted}")),
-    }
-}
-
 #[cfg(test)]
 mod tests {
     use super::*;
+    use crate::answer::Lent;
     use crate::{on_big_stack, trial};
 
     /// This interpreter behind the other's interface, with a fault at will.
@@ -155,57 +148,53 @@ mod tests {
         }
     }
 
-    impl Other for Mirror {
-        fn check(&self, source: &[u8], table: &mut [u32], report: &mut [u64]) -> Told {
-            if report.len() < CHECK_REPORT {
-                return Ok(40);
-            }
-            let answer = answer::check(source, table.len());
-            leave(table, answer.table, TABLE_WORDS);
-            report[..CHECK_REPORT].copy_from_slice(&run_words(&answer)[..CHECK_REPORT]);
-            Ok(answer.number)
-        }
-
-        fn run(&self, source: &[u8], loans: Loans, allowance: u64, report: &mut [u64]) -> Told {
-            if report.len() < RUN_REPORT {
-                return Ok(40);
-            }
-            let Loans {
-                table,
-                work,
-                output,
-            } = loans;
-            let lent = answer::Lent {
-                table: table.len(),
-                work: work.len(),
-                output: output.len(),
-                allowance,
-            };
-            let mut answer = answer::run(source, &lent);
-            leave(table, answer.table, TABLE_WORDS);
-            leave(work, answer.work, WORK_WORDS);
-            output[..answer.printed.len()].copy_from_slice(&answer.printed);
+    impl Mirror {
+        fn spoil(&self, call: &mut Call, number: u32, used: usize) {
+            let Call { work, output, .. } = call;
             match self.0 {
-                "a unit too many" if answer.number == 0 => answer.units += 1,
-                "a word not cleared" if answer.number == 20 => work[WORK_WORDS - 1] = 1,
+                "a unit too many" if call.service == Service::Run && number == 0 => {
+                    call.report[4] += 1
+                }
+                "a word not cleared" if number == 20 && !work.is_empty() => {
+                    work[WORK_WORDS - 1] = 1
+                }
                 "a word past the end" if work.len() > WORK_WORDS => work[WORK_WORDS] ^= 1,
-                "a byte too many" if output.len() > answer.printed.len() => {
-                    output[answer.printed.len()] ^= 1
+                "a byte too many" if output.len() > used => output[used] ^= 1,
+                "no line feed" if call.service == Service::Write && number == 0 => {
+                    output[used - 1] = b' '
                 }
                 _ => {}
             }
-            report[..RUN_REPORT].copy_from_slice(&run_words(&answer));
-            Ok(answer.number)
+        }
+    }
+
+    impl Other for Mirror {
+        fn call(&self, mut call: Call) -> Told {
+            if call.report.len() < call.service.words() {
+                return Ok(40);
+            }
+            let lent = Lent {
+                table: call.table.len(),
+                work: call.work.len(),
+                output: call.output.len(),
+                allowance: call.allowance,
+            };
+            let mut trial = Trial::of(call.source, lent);
+            trial.room = call.output.len();
+            let told = wanted(call.service, &trial);
+            leave(call.table, told.table, TABLE_WORDS);
+            leave(call.work, told.work, WORK_WORDS);
+            call.output[..told.output.len()].copy_from_slice(&told.output);
+            call.report[0] = u64::from(told.number);
+            call.report[1..=told.report.len()].copy_from_slice(&told.report);
+            self.spoil(&mut call, told.number, told.output.len());
+            Ok(told.number)
         }
     }
 
     fn failures(fault: &'static str) -> usize {
         on_big_stack(move || {
-            let fails = |index: &u64| {
-                let trial = trial::make(5, *index);
-                let answer = answer::run(&trial.sheet, &trial.lent);
-                compare(&Mirror(fault), &trial, &answer).is_err()
-            };
+            let fails = |index: &u64| compare(&Mirror(fault), &trial::make(5, *index)).is_err();
             (0..300).filter(fails).count()
         })
     }
@@ -222,6 +211,7 @@ mod tests {
             "a word not cleared",
             "a word past the end",
             "a byte too many",
+            "no line feed",
         ] {
             assert!(failures(fault) > 0, "{fault}");
         }

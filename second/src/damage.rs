@@ -45,6 +45,18 @@ pub fn spell(chance: &mut Chance, tokens: &[String]) -> Vec<u8> {
     text.into_bytes()
 }
 
+/// The same with a blank only where it has to be.
+pub fn closely(tokens: &[String]) -> Vec<u8> {
+    let mut text = String::new();
+    for (index, token) in tokens.iter().enumerate() {
+        if index > 0 && runs_together(&tokens[index - 1], token) {
+            text.push(' ');
+        }
+        text += token;
+    }
+    text.into_bytes()
+}
+
 /// Whether two tokens with nothing between them would be read as others.
 fn runs_together(left: &str, right: &str) -> bool {
     let (Some(first), Some(next)) = (left.bytes().next(), right.bytes().next()) else {

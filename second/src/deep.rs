@@ -7,15 +7,9 @@
 
 use crate::layers::{closed, layers, long_calls, Fit, Layer};
 use crate::nests::{sheet, Shape, LISTS};
+use crate::services::Service;
 use crate::text::MOST_TOKENS;
 use std::collections::HashMap;
-
-/// Which service is to be driven deep.
-#[derive(Clone, Copy, Debug, PartialEq, Eq)]
-pub enum Service {
-    Check,
-    Run,
-}
 
 #[derive(Clone, Debug)]
 struct Candidate {
@@ -49,8 +43,8 @@ pub struct Search<'a> {
 pub fn search(service: Service, measure: &mut dyn FnMut(&str) -> u64) -> Vec<Found> {
     let mut layers = layers();
     let fit = match service {
-        Service::Check => Fit::Read,
         Service::Run => Fit::Typed,
+        _ => Fit::Read,
     };
     if fit == Fit::Read {
         layers.extend(long_calls());
@@ -90,7 +84,6 @@ impl Search<'_> {
     /// Every layer by itself, in every shape.
     fn alone(&mut self) -> Vec<(u64, Candidate)> {
         let shapes: &[Shape] = match self.service {
-            Service::Check => &[Shape::Nested, Shape::Open],
             Service::Run => &[
                 Shape::Nested,
                 Shape::body(0, 1),
@@ -98,6 +91,7 @@ impl Search<'_> {
                 Shape::body(0, MOST_TOKENS),
                 Shape::body(8, MOST_TOKENS),
             ],
+            _ => &[Shape::Nested, Shape::Open],
         };
         let mut found = Vec::new();
         for layer in 0..self.layers.len() {

@@ -237,7 +237,7 @@ impl Reader<'_> {
     }
 
     fn atom(&mut self) -> Option<Node> {
-        let Token { kind, place } = self.here()?.clone();
+        let Token { kind, place, .. } = self.here()?.clone();
         let form = match kind {
             Kind::Fixed("{") => return self.block(),
             Kind::Fixed("(") => return self.group(),

@@ -4,6 +4,7 @@
 
 pub mod answer;
 pub mod begins;
+pub mod casefile;
 pub mod cases;
 pub mod chance;
 pub mod compare;
@@ -12,14 +13,18 @@ pub mod deep;
 pub mod follows;
 pub mod forms;
 pub mod grammar;
+pub mod laws;
 pub mod layers;
+pub mod long;
 pub mod near;
+pub mod neighbours;
 pub mod nests;
 pub mod paper;
 pub mod piped;
 pub mod quote;
 pub mod rare;
 pub mod run;
+pub mod services;
 pub mod sheets;
 pub mod shrink;
 pub mod slips;
@@ -27,6 +32,7 @@ pub mod text;
 pub mod tree;
 pub mod trial;
 pub mod types;
+pub mod write;
 
 /// A numbered end other than success, and the byte offset it points at.
 #[derive(Clone, Copy, Debug, PartialEq, Eq)]

@@ -18,11 +18,11 @@ mod bench;
 mod stack;
 
 use second::answer::{self, Answer, Lent};
-use second::cases::{self, Case};
+use second::cases;
 use second::compare::compare;
 use second::piped::Piped;
 use second::trial::Trial;
-use second::{follows, near, on_big_stack, paper, shrink, trial};
+use second::{casefile, follows, laws, near, neighbours, on_big_stack, paper, shrink, trial};
 use std::collections::BTreeMap;
 use std::io::Write;
 use std::process::ExitCode;
@@ -56,7 +56,8 @@ fn number(word: &str) -> u64 {
 }
 
 fn usage() -> u64 {
-    eprintln!("second N SEED [START] | trace N SEED START | show SEED INDEX | cases | table FILE | deep BYTES | bench FILE ALLOWANCE REPEATS");
+    eprintln!("second N SEED [START] | trace N SEED START | show SEED INDEX | cases | table FILE");
+    eprintln!("second deep BYTES | bench FILE ALLOWANCE REPEATS");
     1
 }
 
@@ -66,51 +67,12 @@ const STACK: usize = 1 << 23;
 /// The other implementation, started at its first use.
 static OTHER: LazyLock<Option<Piped>> = LazyLock::new(|| Piped::from_environment(STACK));
 
-/// Whether the trial passes, given this interpreter's answer to it.
-fn verdict(trial: &Trial, answer: &Answer) -> Result<(), String> {
+/// Whether the trial passes. Alone, an answer can only be held against what is
+/// true of all answers.
+fn verdict(trial: &Trial) -> Result<(), String> {
     match &*OTHER {
-        Some(other) => compare(other, trial, answer),
-        None => alone(trial, answer),
-    }
-}
-
-/// Alone, an answer can only be held against what is true of all answers.
-fn alone(trial: &Trial, answer: &Answer) -> Result<(), String> {
-    let check = answer::check(&trial.sheet, trial.lent.table);
-    let found = [u64::from(check.number), check.place, check.kind];
-    let follows = cases::check_from_run(answer).is_none_or(|wanted| wanted == found);
-    let stops = answer.number >= 50;
-    let laws = [
-        (follows, "check and run disagree"),
-        (
-            answer.units <= trial.lent.allowance,
-            "more units than allowed",
-        ),
-        (
-            answer.printed.len() <= trial.lent.output,
-            "more bytes than room",
-        ),
-        (answer.number != 21, "a number that is out of the table"),
-        (
-            answer.number != 50 || answer.units == trial.lent.allowance,
-            "50 with units left",
-        ),
-        (
-            answer.value == 0 || answer.number == 0,
-            "a value with a refusal",
-        ),
-        (
-            stops || answer.number == 0 || answer.kind == 0,
-            "a type with a refusal",
-        ),
-        (
-            answer.place < (trial.sheet.len() + usize::from(answer.number == 20)).max(1) as u64,
-            "a place outside",
-        ),
-    ];
-    match laws.iter().find(|(holds, _)| !holds) {
-        Some((_, law)) => Err(law.to_string()),
-        None => Ok(()),
+        Some(other) => compare(other, trial),
+        None => laws::hold(trial),
     }
 }
 
@@ -140,9 +102,9 @@ struct Tally {
 
 impl Tally {
     fn add(&mut self, title: &str, trial: Trial) {
-        let answer = answer::run(&trial.sheet, &trial.lent);
-        *self.numbers.entry(answer.number).or_default() += 1;
-        match verdict(&trial, &answer) {
+        let number = answer::run(&trial.sheet, &trial.lent).number;
+        *self.numbers.entry(number).or_default() += 1;
+        match verdict(&trial) {
             Ok(()) => self.passed += 1,
             Err(difference) => self.fail(title, trial, &difference),
         }
@@ -153,19 +115,11 @@ impl Tally {
         if self.failed > MOST_SHOWN {
             return;
         }
-        let own = |t: &Trial| answer::run(&t.sheet, &t.lent);
-        let small = shrink::shrink(trial, |t| verdict(t, &own(t)).is_err());
-        let answer = own(&small);
-        let now = verdict(&small, &answer).err().unwrap_or_default();
+        let small = shrink::shrink(trial, |t| verdict(t).is_err());
+        let now = verdict(&small).err().unwrap_or_default();
         println!("# FAILED {title}: {difference}");
-        println!(
-            "# made smaller: {now}; reports of {} and {} words",
-            small.check_report, small.run_report
-        );
-        println!(
-            "{}",
-            cases::show_case(title, &small.sheet, &small.lent, &answer)
-        );
+        println!("# made smaller: {now}; {}", reports(&small));
+        println!("{}", cases::show_case(title, &small));
     }
 
     fn close(self) -> u64 {
@@ -177,26 +131,27 @@ impl Tally {
     }
 }
 
+/// What a case does not say of a trial.
+fn reports(trial: &Trial) -> String {
+    match trial.short {
+        Some(_) => "reports too short".to_string(),
+        None => format!("reports {} words too long", trial.more),
+    }
+}
+
 fn show(seed: u64, index: u64) -> u64 {
     on_big_stack(move || {
         let trial = trial::make(seed, index);
-        let answer = answer::run(&trial.sheet, &trial.lent);
-        println!(
-            "# reports of {} and {} words",
-            trial.check_report, trial.run_report
-        );
+        println!("# {}", reports(&trial));
         let title = format!("seed {seed} trial {index}");
-        println!(
-            "{}",
-            cases::show_case(&title, &trial.sheet, &trial.lent, &answer)
-        );
+        println!("{}", cases::show_case(&title, &trial));
         0
     })
 }
 
 fn all_cases() -> u64 {
     let mut all = paper::examples();
-    match cases::read_folder(&cases::folder()) {
+    match casefile::read_folder(&casefile::folder()) {
         Ok(found) => all.extend(found),
         Err(problem) => {
             println!("{problem}");
@@ -205,9 +160,8 @@ fn all_cases() -> u64 {
     }
     let mut tally = Tally::default();
     for case in all {
-        let Case { sheet, lent, .. } = &case;
         match case.try_own() {
-            Ok(()) => tally.add(&case.title, Trial::of(sheet, *lent)),
+            Ok(()) => tally.add(&case.title, case.trial),
             Err(difference) => {
                 println!("# FAILED {difference}");
                 tally.failed += 1;
@@ -222,6 +176,9 @@ fn all_cases() -> u64 {
     }
     for (sheet, _) in near::sheets() {
         tally.add("near misses", Trial::of(&sheet, Lent::default()));
+    }
+    for sheet in neighbours::all() {
+        tally.add("neighbours", Trial::of(&sheet, Lent::default()));
     }
     tally.close()
 }

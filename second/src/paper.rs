@@ -1,7 +1,8 @@
 //! The examples of the paper, with what it leaves unsaid worked out by hand.
 
 use crate::answer::Lent;
-use crate::cases::{check_from_run, expected, Case};
+use crate::cases::{ran, Case};
+use crate::trial::Trial;
 
 /// The first program of the source document: legal, and 5 when called.
 pub const LEGAL: &str = "
@@ -47,14 +48,10 @@ fn case(
     units: u64,
     printed: &[u8],
 ) -> Case {
-    let answer = expected(number, place, kind, value, units, printed);
-    Case {
-        title: format!("paper {}", sheet.trim().lines().next().unwrap_or("(empty)")),
-        sheet: sheet.as_bytes().to_vec(),
-        lent: Lent::default(),
-        check: check_from_run(&answer),
-        answer,
-    }
+    let title = format!("paper {}", sheet.trim().lines().next().unwrap_or("(empty)"));
+    let trial = Trial::of(sheet.as_bytes(), Lent::default());
+    let run = ran(number, place, kind, value, units, printed);
+    Case::of_run(&title, trial, run)
 }
 
 fn int(sheet: &str, value: i64, units: u64) -> Case {
@@ -79,7 +76,7 @@ pub fn examples() -> Vec<Case> {
 
 fn proved() -> Vec<Case> {
     let mut endless = case("while true{tt}", 50, 6, 3, 0, 10, b"");
-    endless.lent.allowance = 10;
+    endless.trial.lent.allowance = 10;
     vec![
         int("1+2", 3, 3),
         int("-2147483647-1", -2_147_483_648, 4),

@@ -3,7 +3,7 @@
 //! may be made for another machine than this one and run under an emulator, and
 //! one that crashes is started again.
 
-use crate::compare::{Loans, Other, Told};
+use crate::compare::{Call, Other, Told};
 use std::io::{self, BufReader, BufWriter, Read, Write};
 use std::process::{Child, ChildStdin, ChildStdout, Command, Stdio};
 use std::sync::Mutex;
@@ -55,19 +55,12 @@ impl Piped {
     pub fn stack(&self) -> Stack {
         self.pipes.lock().expect("one call at a time").stack
     }
+}
 
-    fn call(
-        &self,
-        service: u64,
-        source: &[u8],
-        mut loans: Loans,
-        allowance: u64,
-        report: &mut [u64],
-    ) -> Told {
+impl Other for Piped {
+    fn call(&self, mut call: Call) -> Told {
         let mut pipes = self.pipes.lock().expect("one call at a time");
-        let told = pipes
-            .ask(service, source, &loans, allowance, report)
-            .and_then(|()| pipes.hear(&mut loans, report));
+        let told = pipes.ask(&call).and_then(|()| pipes.hear(&mut call));
         match told {
             Ok([number, 0]) => u32::try_from(number).map_err(|_| format!("returned {number}")),
             Ok([_, spilt]) => Err(format!("{spilt} bytes were changed that were not lent")),
@@ -100,42 +93,35 @@ impl Pipes {
         }
     }
 
-    fn ask(
-        &mut self,
-        service: u64,
-        source: &[u8],
-        loans: &Loans,
-        allowance: u64,
-        report: &[u64],
-    ) -> io::Result<()> {
+    fn ask(&mut self, call: &Call) -> io::Result<()> {
         let lengths = [
-            source.len(),
-            loans.table.len(),
-            loans.work.len(),
-            loans.output.len(),
-            report.len(),
+            call.source.len(),
+            call.table.len(),
+            call.work.len(),
+            call.output.len(),
+            call.report.len(),
         ];
-        self.send_long(&[service])?;
+        self.send_long(&[call.service.code()])?;
         self.send_long(&lengths.map(|n| n as u64))?;
-        self.send_long(&[allowance])?;
-        self.asked.write_all(source)?;
-        self.send_short(loans.table)?;
-        self.send_short(loans.work)?;
-        self.asked.write_all(loans.output)?;
-        self.send_long(report)?;
+        self.send_long(&[call.allowance])?;
+        self.asked.write_all(call.source)?;
+        self.send_short(call.table)?;
+        self.send_short(call.work)?;
+        self.asked.write_all(call.output)?;
+        self.send_long(call.report)?;
         self.asked.flush()
     }
 
     /// The number returned, and how many bytes were changed that were not lent.
-    fn hear(&mut self, loans: &mut Loans, report: &mut [u64]) -> io::Result<[u64; 2]> {
+    fn hear(&mut self, call: &mut Call) -> io::Result<[u64; 2]> {
         let mut told = [0; 4];
         self.hear_long(&mut told)?;
         let [number, spilt, taken, left] = told;
         self.stack = Stack { taken, left };
-        self.hear_short(loans.table)?;
-        self.hear_short(loans.work)?;
-        self.told.read_exact(loans.output)?;
-        self.hear_long(report)?;
+        self.hear_short(call.table)?;
+        self.hear_short(call.work)?;
+        self.told.read_exact(call.output)?;
+        self.hear_long(call.report)?;
         Ok([number, spilt])
     }
 
@@ -165,20 +151,5 @@ impl Pipes {
             *word = u32::from_ne_bytes(four.try_into().expect("four bytes"));
         }
         Ok(())
-    }
-}
-
-impl Other for Piped {
-    fn check(&self, source: &[u8], table: &mut [u32], report: &mut [u64]) -> Told {
-        let loans = Loans {
-            table,
-            work: &mut [],
-            output: &mut [],
-        };
-        self.call(0, source, loans, 0, report)
-    }
-
-    fn run(&self, source: &[u8], loans: Loans, allowance: u64, report: &mut [u64]) -> Told {
-        self.call(1, source, loans, allowance, report)
     }
 }

@@ -3,6 +3,7 @@
 
 use crate::chance::Chance;
 use crate::forms::SEQ;
+use crate::long;
 use crate::sheets::Writer;
 use crate::types::Type;
 
@@ -26,6 +27,8 @@ pub fn sheet(chance: &mut Chance) -> Vec<u8> {
         low_end,
         much_output,
         endless,
+        long::long_text,
+        long::many_words,
     ]);
     make(chance).into_bytes()
 }

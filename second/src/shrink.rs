@@ -2,7 +2,7 @@
 //! Dropping tokens alone gets stuck where a type is wanted, so whole parts are
 //! also replaced by constants and brackets are taken off.
 
-use crate::answer::Lent;
+use crate::answer::{Lent, MOST_BYTES};
 use crate::trial::Trial;
 
 const CONSTANTS: [&[u8]; 4] = [b"", b" 1 ", b" true ", b" tt "];
@@ -39,13 +39,14 @@ fn accept(best: &mut Trial, parts: &[Vec<u8>], fails: &mut impl FnMut(&Trial) ->
 /// Puts the usual loan in place of each one that does not matter.
 fn plain_loans(best: &mut Trial, fails: &mut impl FnMut(&Trial) -> bool) {
     let usual = Lent::default();
-    let changes: [fn(&mut Trial, Lent); 6] = [
+    let changes: [fn(&mut Trial, Lent); 7] = [
         |t, usual| t.lent.table = usual.table,
         |t, usual| t.lent.work = usual.work,
         |t, usual| t.lent.output = usual.output,
         |t, usual| t.lent.allowance = usual.allowance,
-        |t, _| t.check_report = 3,
-        |t, _| t.run_report = 6,
+        |t, _| t.room = MOST_BYTES,
+        |t, _| t.short = None,
+        |t, _| t.more = 0,
     ];
     for change in changes {
         let mut next = best.clone();

@@ -1,10 +1,11 @@
 //! The command `deep`: how much of a promised stack the worst sheet takes.
 
-use second::answer::{self, Lent};
-use second::compare::{compare_check, compare_run};
-use second::deep::{search, Found, Service};
+use second::answer::Lent;
+use second::compare::hold;
+use second::deep::{search, Found};
 use second::piped::Piped;
 use second::quote;
+use second::services::Service;
 use second::trial::Trial;
 
 /// Failures shown; later ones are only counted.
@@ -12,6 +13,9 @@ const MOST_SHOWN: u64 = 10;
 
 /// A call has to leave this much of the stack, which is the caller's share.
 const MARGIN: u64 = 16_384;
+
+/// How many of the worst sheets of Check and of Run the other services get.
+const PASSED_ON: usize = 40;
 
 /// Searches for the worst sheets and fails those that leave too little, or that
 /// are answered otherwise than here.
@@ -21,35 +25,56 @@ pub fn worst(bytes: usize) -> u64 {
         return 1;
     };
     println!("a stack of {bytes} bytes, of which {MARGIN} are to be left");
-    let mut failed = 0;
-    let mut tried = 0;
+    let mut tally = Tally::default();
+    let mut worst = Vec::new();
     for service in [Service::Check, Service::Run] {
-        let mut measure = |sheet: &str| {
-            let (verdict, taken) = one(&other, service, sheet);
-            if let Err(difference) = verdict {
-                failed += 1;
-                if failed <= MOST_SHOWN {
-                    println!("# FAILED {service:?}: {difference}\n| {sheet}");
+        let found = search(service, &mut |sheet| tally.measure(&other, service, sheet));
+        tell(service, &found);
+        worst.extend(found.into_iter().take(PASSED_ON));
+    }
+    for service in Service::ALL {
+        if ![Service::Check, Service::Run].contains(&service) {
+            let measure = |found: Found| Found {
+                taken: tally.measure(&other, service, &found.sheet),
+                ..found
+            };
+            let mut found: Vec<Found> = worst.iter().cloned().map(measure).collect();
+            found.sort_by_key(|f| std::cmp::Reverse(f.taken));
+            tell(service, &found);
+        }
+    }
+    println!("{} passed, {} failed", tally.passed, tally.failed);
+    tally.failed
+}
+
+#[derive(Default)]
+struct Tally {
+    passed: u64,
+    failed: u64,
+}
+
+impl Tally {
+    /// How much stack this sheet takes.
+    fn measure(&mut self, other: &Piped, service: Service, sheet: &str) -> u64 {
+        let (verdict, taken) = one(other, service, sheet);
+        match verdict {
+            Ok(()) => self.passed += 1,
+            Err(difference) => {
+                self.failed += 1;
+                if self.failed <= MOST_SHOWN {
+                    println!("# FAILED {difference}\n| {sheet}");
                 }
             }
-            taken
-        };
-        let found = search(service, &mut measure);
-        tried += found.len() as u64;
-        tell(service, &found);
+        }
+        taken
     }
-    println!("{} passed, {failed} failed", tried - failed);
-    failed
 }
 
 /// Whether this sheet is as it should be, and how much stack it took.
 fn one(other: &Piped, service: Service, sheet: &str) -> (Result<(), String>, u64) {
     let bytes = quote::decode(sheet).expect("a sheet in the spelling of the case files");
     let trial = Trial::of(&bytes, Lent::default());
-    let verdict = match service {
-        Service::Check => compare_check(other, &trial),
-        Service::Run => compare_run(other, &trial, &answer::run(&bytes, &trial.lent)),
-    };
+    let verdict = hold(other, &trial, service);
     let stack = other.stack();
     match verdict {
         Ok(()) if stack.left < MARGIN => {

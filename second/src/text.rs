@@ -29,6 +29,14 @@ pub enum Kind {
 pub struct Token {
     pub kind: Kind,
     pub place: usize,
+    pub length: usize,
+}
+
+impl Token {
+    /// Its bytes in the source it is of.
+    pub fn spelling<'a>(&self, source: &'a [u8]) -> &'a [u8] {
+        &source[self.place..self.place + self.length]
+    }
 }
 
 pub fn tokens(source: &[u8]) -> Result<Vec<Token>, Refusal> {
@@ -49,7 +57,11 @@ pub fn tokens(source: &[u8]) -> Result<Vec<Token>, Refusal> {
             if found.len() == MOST_TOKENS {
                 return Err(Refusal::new(14, at));
             }
-            found.push(Token { kind, place: at });
+            found.push(Token {
+                kind,
+                place: at,
+                length,
+            });
             at += length;
         }
     }

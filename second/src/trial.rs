@@ -1,16 +1,21 @@
 //! One random trial: a sheet and what is lent for it.
 
-use crate::answer::{self, Lent, MOST_UNITS, TABLE_WORDS, WORK_WORDS};
+use crate::answer::{self, Lent, MOST_BYTES, MOST_UNITS, TABLE_WORDS, WORK_WORDS};
 use crate::chance::Chance;
+use crate::services::Service;
+use crate::write::write;
 use crate::{damage, rare, sheets, slips};
 
 #[derive(Clone, Debug)]
 pub struct Trial {
     pub sheet: Vec<u8>,
     pub lent: Lent,
-    /// Words of the reports; a complete one has 3 for Check and 6 for Run.
-    pub check_report: usize,
-    pub run_report: usize,
+    /// The bytes lent to Write.
+    pub room: usize,
+    /// How many words the reports have, if they are too short.
+    pub short: Option<usize>,
+    /// How many words more than needed they have otherwise.
+    pub more: usize,
     /// Seeds what the lent memories hold beforehand.
     pub fill: u64,
 }
@@ -21,9 +26,18 @@ impl Trial {
         Trial {
             sheet: sheet.to_vec(),
             lent,
-            check_report: 3,
-            run_report: 6,
+            room: MOST_BYTES,
+            short: None,
+            more: 0,
             fill: 1,
+        }
+    }
+
+    /// The words of the report of this service.
+    pub fn report(&self, service: Service) -> usize {
+        match self.short {
+            Some(words) => words % service.words(),
+            None => service.words() + self.more,
         }
     }
 }
@@ -33,21 +47,28 @@ pub fn make(seed: u64, index: u64) -> Trial {
     let mut chance = Chance::new(seed, index);
     let sheet = make_sheet(&mut chance);
     let lent = make_loans(&mut chance, &sheet);
-    let short = chance.one_in(300);
+    let room = make_room(&mut chance, &sheet);
+    let short = chance.one_in(300).then(|| chance.below(100));
     Trial {
         sheet,
         lent,
-        check_report: if short {
-            chance.below(3)
-        } else {
-            3 + chance.pick(&[0, 0, 0, 1, 4])
-        },
-        run_report: if short {
-            chance.below(6)
-        } else {
-            6 + chance.pick(&[0, 0, 0, 1, 4])
-        },
+        room,
+        short,
+        more: chance.pick(&[0, 0, 0, 1, 4]),
         fill: chance.next_word(),
+    }
+}
+
+/// Room for what is written of the sheet, or not quite.
+fn make_room(chance: &mut Chance, sheet: &[u8]) -> usize {
+    let written = write(sheet, TABLE_WORDS, usize::MAX).text.len();
+    match chance.below(8) {
+        0 => chance.below(40),
+        1 => written.saturating_sub(1),
+        2 => written + 1,
+        3 => 0,
+        4 => MOST_BYTES + chance.below(40),
+        _ => written,
     }
 }
 

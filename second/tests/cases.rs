@@ -1,6 +1,7 @@
 //! Every case file must hold.
 
-use second::cases::{folder, read_folder, Case};
+use second::casefile::{folder, read_folder};
+use second::cases::Case;
 use second::on_big_stack;
 
 #[test]

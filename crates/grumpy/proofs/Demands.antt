@@ -1,25 +1,30 @@
--- The three demands on the box, in their own words, as theorems about whatever meets the contracts of check and run.
+-- The three demands on the box, in their own words, as theorems about whatever meets the contracts of check and run; and those
+-- on write.
 use mathlib.Core.List.{List, _++_}
 use mathlib.Core.Logic.{_↔_}
 use mathlib.Core.Option.{some}
 use mathlib.Core.Path.{_≡_, ap, _∙_}
 use Prim.Native.Nat.{ℕ, _≤_}
-use lib.ListN.{length, drop}
+use lib.ListN.{length, take, drop}
 use Rattle.language.specs.Sizes.{TABLE, WORK, ALLOWANCE}
 use Rattle.language.specs.Tokens.{Token}
 use Rattle.language.specs.Trees.{Ty, Program}
 use Rattle.language.specs.State.{Stop}
 use Rattle.language.specs.Meaning.{run, type-number}
-use Rattle.language.specs.Numbers.{Refusal, no-reading, passed, refused, stopped}
-use Rattle.language.specs.Answers.{from-text, Passes, left, Ending, ending, CheckReport, Check, Enough, RunReport, after-run, run-ended, Run}
+use Rattle.language.specs.Numbers.{Refusal, no-reading, passed, refused, stopped, long-text}
+use Rattle.language.specs.Answers.{from-text, Passes, left, Ending, ending, CheckReport, Check, Enough, RunReport, after-run, run-ended, Run, Lent}
+use Rattle.language.specs.Writing.{WriteReport, Write}
 use Rattle.language.proofs.Answers.Origins.{text-lawful}
 use Rattle.language.proofs.Answers.OneAnswer.{one-ran}
 use Rattle.language.proofs.Answers.Endings.{IsRun}
-use Rattle.language.proofs.Answers.Demand1.{Listed, ran-listed, checked-listed, check-never-stops, silent}
+use Rattle.language.proofs.Answers.Demand1.{Listed, ran-listed, checked-listed, wrote-listed, check-never-stops, write-never-stops, silent, unwritten}
 use Rattle.language.proofs.Answers.Demand3.{IsProgram, NoProgram, check-type-exactly, check-none-exactly, run-type-exactly, run-none-exactly}
-use Rattle.grumpy.specs.Reports.{checked-report, ran-report}
+use Rattle.language.proofs.Writing.OneWriting.{LongProgram, long-exactly}
+use Rattle.language.proofs.Writing.SameSheet.{SameSheet, written-sheet}
+use Rattle.grumpy.specs.Reports.{checked-report, ran-report, wrote-report}
 use Rattle.grumpy.specs.declared.answers.Checked.{Checked}
 use Rattle.grumpy.specs.declared.answers.Ran.{Ran}
+use Rattle.grumpy.specs.declared.answers.Wrote.{Wrote}
 
 -- ---- demand 1
 
@@ -90,3 +95,32 @@ module _ {source table work output : List ℕ} {allowance : ℕ} {t′ w′ o′
 
   pub run-demand-three-none : (ran-report r .told ≡ refused no-reading) ↔ NoProgram (from-text source)
   run-demand-three-none = run-none-exactly (text-lawful source) enough fair (a .answer)
+
+-- ---- write (R03)
+
+-- Whatever is lent, what write tells is a row of the table, at the place that the row sets, and memory is left as it says; and
+-- where the sheet is refused, nothing is written.
+pub record WriteDemand1 (source table output : List ℕ) (report : WriteReport ℕ) (table′ output′ : List ℕ) : Type 0 where
+  pub listed : Listed source record { table = length table; work = WORK; output = length output; allowance = 0 } (report .told) (report .place)
+  pub no-stop : (w : Stop) → report .told ≡ stopped w → ⊥
+  pub table-left : table′ ≡ left (report .told) TABLE table
+  pub unwritten : (y : Refusal) → report .told ≡ refused y → (report .written ≡ 0) × (output′ ≡ output)
+
+module _ {source table output t′ o′ : List ℕ} (r : Wrote) (a : Write (from-text source) table output (wrote-report r) t′ o′) where
+  pub write-demand-one : WriteDemand1 source table output (wrote-report r) t′ o′
+  write-demand-one = record {
+    listed = wrote-listed source _ (a .answer);
+    no-stop = write-never-stops (a .answer);
+    table-left = a .table-left;
+    unwritten = λ y e.
+        let s = unwritten (a .answer) y e in
+        (s .0, a .output-left ∙ ap (λ (bs : List ℕ). bs ++ drop (length bs) output) (s .1));
+  }
+
+  -- it says 44 exactly when the sheet passes and its text is longer than the output or than a source may be
+  pub write-long-exactly : TABLE ≤ length table → (wrote-report r .told ≡ refused long-text) ↔ LongProgram (from-text source) (length output)
+  write-long-exactly long = long-exactly (text-lawful source) long (a .answer)
+
+  -- and what it has written is the same sheet
+  pub write-same-sheet : wrote-report r .told ≡ passed → SameSheet source (take (wrote-report r .written) o′)
+  write-same-sheet e = written-sheet a e

@@ -1,18 +1,21 @@
--- The contracts determine the answers: no two answers of check or of run, and no two memories or outputs, meet them for the
--- same input. An answer can be told from its report.
+-- The contracts determine the answers: no two answers of check, of run or of write, and no two memories or outputs, meet
+-- them for the same input. An answer can be told from its report.
 use mathlib.Core.List.{List}
 use mathlib.Core.Path.{_≡_, refl, sym, ap, _∙_}
 use Prim.Native.Nat.{ℕ}
 use Rattle.language.specs.Numbers.{Told, passed, refused, stopped}
 use Rattle.language.specs.Answers.{from-text, CheckReport, Check, RunReport, Run}
+use Rattle.language.specs.Writing.{WriteReport, Write}
 use Rattle.language.proofs.Answers.Origins.{text-lawful}
 use Rattle.language.proofs.Answers.OneAnswer.{one-check, one-run}
+use Rattle.language.proofs.Writing.OneWriting.{one-write}
 use Rattle.numbers.proofs.Apart.{refusal-of, refusal-back, stop-of, stop-back}
 use Rattle.numbers.specs.declared.Refusal.{Refusal}
 use Rattle.numbers.specs.declared.Stop.{Stop}
-use Rattle.grumpy.specs.Reports.{checked-report, ran-report}
+use Rattle.grumpy.specs.Reports.{checked-report, ran-report, wrote-report}
 use Rattle.grumpy.specs.declared.answers.Checked.{Checked}
 use Rattle.grumpy.specs.declared.answers.Ran.{Ran}
+use Rattle.grumpy.specs.declared.answers.Wrote.{Wrote}
 
 -- ---- answers from reports
 
@@ -42,6 +45,19 @@ ran-back (Ran.Value t v u n) = refl
 ran-back (Ran.Stopped w i t u n) = ap (λ (w : Stop). Ran.Stopped w i t u n) (stop-back w)
 ran-back (Ran.Refused y i) = ap (λ (y : Refusal). Ran.Refused y i) (refusal-back y)
 
+-- nor does write
+abbrev wrote-by : Told → WriteReport ℕ → Wrote
+wrote-by passed r = Wrote.Written (r .written)
+wrote-by (refused y) r = Wrote.Refused (refusal-of y) (r .place)
+wrote-by (stopped w) r = Wrote.Written 0
+
+abbrev wrote-of : WriteReport ℕ → Wrote
+wrote-of r = wrote-by (r .told) r
+
+wrote-back : (r : Wrote) → wrote-of (wrote-report r) ≡ r
+wrote-back (Wrote.Written n) = refl
+wrote-back (Wrote.Refused y i) = ap (λ (y : Refusal). Wrote.Refused y i) (refusal-back y)
+
 -- ---- one answer
 
 pub check-determined : {source table t′ u′ : List ℕ} (r q : Checked) → Check (from-text source) table (checked-report r) t′
@@ -56,3 +72,10 @@ pub run-determined : {source table work output : List ℕ} {allowance : ℕ} {t�
 run-determined {source} r q a b =
     let e = one-run (text-lawful source) a b in
     (sym (ran-back r) ∙ ap ran-of (e .0) ∙ ran-back q, e .1, e .2, e .3)
+
+pub write-determined : {source table output : List ℕ} {t′ o′ t″ o″ : List ℕ} (r q : Wrote)
+    → Write (from-text source) table output (wrote-report r) t′ o′ → Write (from-text source) table output (wrote-report q) t″ o″
+    → (r ≡ q) × (t′ ≡ t″) × (o′ ≡ o″)
+write-determined {source} r q a b =
+    let e = one-write (text-lawful source) a b in
+    (sym (wrote-back r) ∙ ap wrote-of (e .0) ∙ wrote-back q, e .1, e .2)

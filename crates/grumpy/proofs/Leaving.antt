@@ -7,8 +7,9 @@ use native.Mathlib.Omega.{arith}
 use Rattle.language.specs.Sizes.{TABLE}
 use Rattle.language.specs.Meaning.{run}
 use Rattle.language.specs.Numbers.{Refusal, Told, passed, refused, stopped}
-use Rattle.language.specs.Answers.{Origin, Refused, cleared, left, CheckReport, Checked, check-short, check-refused}
-use Rattle.language.specs.Answers.{check-passed, RunReport, Lent, Enough, Ran, run-short, run-large, run-refused, run-ended}
+use Rattle.language.specs.Answers.{Origin, Refused, cleared, left, CheckReport, Checked, check-short, check-refused, check-passed, RunReport, Lent}
+use Rattle.language.specs.Answers.{Enough, Ran, run-short, run-large, run-refused, run-ended}
+use Rattle.language.specs.Writing.{WriteReport, Wrote, write-short, write-refused, write-long, write-passed}
 use Rattle.language.proofs.Answers.Endings.{IsRun, is-run}
 use Rattle.language.proofs.Answers.Origins.{Lawful, refused-clears}
 
@@ -28,6 +29,14 @@ module _ {P : Type 0} {o : Origin P} (law : Lawful o) where
   checked-left h (check-short k) n words = absurd (omega arith)
   checked-left h (check-refused k a) n words = refused-left a n words
   checked-left h (check-passed k a) n words = refl
+
+  pub wrote-left : {table room : ℕ} {r : WriteReport P} {bs : List ℕ} → TABLE ≤ table → Wrote o table room r bs
+      → (n : ℕ) (words : List ℕ) → left (r .told) n words ≡ cleared n words
+  unfolding left
+  wrote-left h (write-short k) n words = absurd (omega arith)
+  wrote-left h (write-refused k a) n words = refused-left a n words
+  wrote-left h (write-long k a f) n words = refl
+  wrote-left h (write-passed k a f) n words = refl
 
   pub ran-left : {l : Lent} {r : RunReport P} {bs : List ℕ} → Enough l → Ran o l r bs → (n : ℕ) (words : List ℕ) → left (r .told) n words ≡ cleared n words
   unfolding left

@@ -3,9 +3,11 @@ use Prim.Native.Nat.{ℕ}
 use lib.IntN.{pos}
 use Rattle.language.specs.Numbers.{passed, refused, stopped}
 use Rattle.language.specs.Answers.{CheckReport, check-report, RunReport, refusal}
+use Rattle.language.specs.Writing.{WriteReport, write-report}
 use Rattle.numbers.specs.Meanings.{refusal-meant, stop-meant}
 use Rattle.grumpy.specs.declared.answers.Checked.{Checked}
 use Rattle.grumpy.specs.declared.answers.Ran.{Ran}
+use Rattle.grumpy.specs.declared.answers.Wrote.{Wrote}
 
 abbrev pub checked-report : Checked → CheckReport ℕ
 checked-report (Checked.Passed t) = check-report passed 0 t
@@ -16,3 +18,7 @@ ran-report (Ran.Value t v u n) = record { told = passed; place = 0; type = t; va
 ran-report (Ran.Stopped y i t u n) =
     record { told = stopped (stop-meant y); place = i; type = t; value = pos 0; units = u; printed = n }
 ran-report (Ran.Refused y i) = refusal (refusal-meant y) i
+
+abbrev pub wrote-report : Wrote → WriteReport ℕ
+wrote-report (Wrote.Written n) = write-report passed 0 n
+wrote-report (Wrote.Refused y i) = write-report (refused (refusal-meant y)) i 0

@@ -26,3 +26,9 @@ pub enum Ran {
     },
     Refused(Refusal, usize),
 }
+
+// How many bytes were written, or a refusal and the byte it is told at.
+pub enum Wrote {
+    Written(usize),
+    Refused(Refusal, usize),
+}

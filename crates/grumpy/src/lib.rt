@@ -1,14 +1,17 @@
-// The two services of the box. Check reads a sheet and answers its type or a refusal; run checks it
-// again and runs it. Both take any bytes, any lent memory and any allowance, and tell what the table of
-// numbers has; what they leave in lent memory follows from that.
+// The three services of the box. Check reads a sheet and answers its type or a refusal; run checks it
+// again and runs it; write checks it and writes it out again. They take any bytes, any lent memory and any
+// allowance, and tell what the table of numbers has; what they leave in lent memory follows from that.
 ghost use Rattle.language.specs.Answers.{from-text, Check, Run};
-ghost use Rattle.grumpy.specs.Reports.{checked-report, ran-report};
+ghost use Rattle.language.specs.Writing.{Write};
+ghost use Rattle.grumpy.specs.Reports.{checked-report, ran-report, wrote-report};
 
 pub mod answers;
 mod outcomes;
+mod writings;
 
 use crate::answers::Checked;
 use crate::answers::Ran;
+use crate::answers::Wrote;
 use language::ALLOWANCE;
 use language::TABLE;
 use language::WORK;
@@ -58,6 +61,21 @@ pub fn run(
     }
     let seen = sheets::examine(source, table);
     let answer = outcomes::run_or_refuse(source, table, work, out, seen, allowance as u32);
+    memory::clear(table, 0, TABLE);
+    answer
+}
+
+// `out` gets the sheet's tokens, one space between every two and LF at the end.
+pub fn write(source: &[u8], table: &mut [u32], out: &mut [u8]) -> Wrote
+    ensures { λ r.
+        ⌜ Write (from-text (now (source .entry))) (now (table .entry)) (now (out .entry)) (wrote-report r)
+        (now (table .exit)) (now (out .exit)) ⌝ }
+{
+    if table.len() < TABLE {
+        return Wrote::Refused(Refusal::ShortMemory, 0);
+    }
+    let seen = sheets::examine(source, table);
+    let answer = writings::write_or_refuse(source, table, out, seen);
     memory::clear(table, 0, TABLE);
     answer
 }

@@ -9,16 +9,19 @@ use mir.Syntax.{w64}
 use mir.Val.{ofZ}
 use Rattle.language.specs.Numbers.{number, refusal-number, stop-number}
 use Rattle.language.specs.Answers.{from-text, CheckReport, Check, RunReport, Run}
+use Rattle.language.specs.Writing.{WriteReport, Write}
 use Rattle.language.proofs.Answers.Origins.{text-lawful}
 use Rattle.language.proofs.Answers.OneAnswer.{one-check, one-run}
+use Rattle.language.proofs.Writing.OneWriting.{one-write}
 use Rattle.numbers.specs.Meanings.{refusal-meant, stop-meant}
 use Rattle.numbers.specs.declared.Refusal.{Refusal}
 use Rattle.numbers.specs.declared.Stop.{Stop}
-use Rattle.grumpy.specs.Reports.{checked-report, ran-report}
+use Rattle.grumpy.specs.Reports.{checked-report, ran-report, wrote-report}
 use Rattle.grumpy.specs.declared.answers.Checked.{Checked}
 use Rattle.grumpy.specs.declared.answers.Ran.{Ran}
-use Rattle.grumpy_c.specs.Reports.{three, six, check-words, run-words, ToldChecked, ToldRan, CheckedC}
-use Rattle.grumpy_c.specs.Reports.{check-no-report, check-reported, RanC, run-no-report, run-reported}
+use Rattle.grumpy_c.specs.Reports.{three, six, check-words, run-words, ToldChecked, ToldRan, CheckedC, check-no-report, check-reported, RanC}
+use Rattle.grumpy_c.specs.Reports.{run-no-report, run-reported, write-words, ToldWrote, WroteC, write-no-report, write-reported}
+use Rattle.grumpy.specs.declared.answers.Wrote.{Wrote}
 
 -- ---- lengths
 
@@ -53,6 +56,14 @@ pub told-not-run : (a : Ran) (w w′ : List ℕ) (y : Refusal) (i n : ℕ) → a
 told-not-run a w w′ y i n e m h =
     subst (λ (a : Ran). ToldRan a w w′ n) (sym e) (m, h ∙ ap (λ (n : ℕ). six w n i 0 0 0 0) m)
 
+pub told-written : (a : Wrote) (w w′ : List ℕ) (k : ℕ) → a ≡ Wrote.Written k → w′ ≡ three w 0 0 k → ToldWrote a w w′ 0
+told-written a w w′ k e h = subst (λ (a : Wrote). ToldWrote a w w′ 0) (sym e) (refl, h)
+
+pub told-unwritten : (a : Wrote) (w w′ : List ℕ) (y : Refusal) (i n : ℕ) → a ≡ Wrote.Refused y i → n ≡ refusal-number (refusal-meant y)
+    → w′ ≡ three w n i 0 → ToldWrote a w w′ n
+told-unwritten a w w′ y i n e m h =
+    subst (λ (a : Wrote). ToldWrote a w w′ n) (sym e) (m, h ∙ ap (λ (n : ℕ). three w n i 0) m)
+
 -- ---- the contracts
 
 pub checked-c : (source table report table′ report′ : List ℕ) (a : Checked) (n : ℕ) → 3 ≤ length report
@@ -63,6 +74,11 @@ pub ran-c : (source table work out report table′ work′ out′ report′ : Li
     → Run (from-text source) table work out allowance (ran-report a) table′ work′ out′ → ToldRan a report report′ n
     → RanC source table work out allowance report table′ work′ out′ report′ n
 ran-c source table work out report table′ work′ out′ report′ allowance a n h c t = run-reported h c (t .0) (t .1)
+
+pub wrote-c : (source table out report table′ out′ report′ : List ℕ) (a : Wrote) (n : ℕ) → 3 ≤ length report
+    → Write (from-text source) table out (wrote-report a) table′ out′ → ToldWrote a report report′ n
+    → WroteC source table out report table′ out′ report′ n
+wrote-c source table out report table′ out′ report′ a n h c t = write-reported h c (t .0) (t .1)
 
 -- ---- no two answers
 
@@ -84,3 +100,12 @@ run-determined (run-reported h a b c) (run-no-report k f g i j l) = absurd (omeg
 run-determined {source} {report = report} (run-reported h a b c) (run-reported k d e f) =
     let x = one-run (text-lawful source) a d in
     (b ∙ ap (λ (r : RunReport ℕ). number (r .told)) (x .0) ∙ sym e, x .1, x .2, x .3, c ∙ ap (run-words report) (x .0) ∙ sym f)
+
+pub write-determined : {source table out report t′ o′ r′ t″ o″ r″ : List ℕ} {m n : ℕ} → WroteC source table out report t′ o′ r′ m
+    → WroteC source table out report t″ o″ r″ n → (m ≡ n) × (t′ ≡ t″) × (o′ ≡ o″) × (r′ ≡ r″)
+write-determined (write-no-report h a b c d) (write-no-report k e f g i) = (a ∙ sym e, b ∙ sym f, c ∙ sym g, d ∙ sym i)
+write-determined (write-no-report h a b c d) (write-reported k e f g) = absurd (omega arith)
+write-determined (write-reported h a b c) (write-no-report k e f g i) = absurd (omega arith)
+write-determined {source} {report = report} (write-reported h a b c) (write-reported k d e f) =
+    let x = one-write (text-lawful source) a d in
+    (b ∙ ap (λ (r : WriteReport ℕ). number (r .told)) (x .0) ∙ sym e, x .1, x .2, c ∙ ap (write-words report) (x .0) ∙ sym f)

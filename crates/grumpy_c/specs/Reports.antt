@@ -1,4 +1,4 @@
--- What the C interface writes into a report, and its contracts over those of check and run.
+-- What the C interface writes into a report, and its contracts over those of the services.
 use mathlib.Core.List.{List}
 use mathlib.Core.Path.{_≡_}
 use Prim.Native.Nat.{ℕ, _≤_, _<_}
@@ -7,9 +7,11 @@ use mir.Syntax.{w64}
 use mir.Val.{ofZ}
 use Rattle.language.specs.Numbers.{short-memory, refusal-number, number}
 use Rattle.language.specs.Answers.{from-text, CheckReport, Check, RunReport, Run}
-use Rattle.grumpy.specs.Reports.{checked-report, ran-report}
+use Rattle.language.specs.Writing.{WriteReport, Write}
+use Rattle.grumpy.specs.Reports.{checked-report, ran-report, wrote-report}
 use Rattle.grumpy.specs.declared.answers.Checked.{Checked}
 use Rattle.grumpy.specs.declared.answers.Ran.{Ran}
+use Rattle.grumpy.specs.declared.answers.Wrote.{Wrote}
 
 -- the first three words; the first six
 unfoldable pub three : List ℕ → ℕ → ℕ → ℕ → List ℕ
@@ -25,12 +27,18 @@ check-words w r = three w (number (r .told)) (r .place) (r .type)
 abbrev pub run-words : List ℕ → RunReport ℕ → List ℕ
 run-words w r = six w (number (r .told)) (r .place) (r .type) (ofZ w64 (r .value)) (r .units) (r .printed)
 
+abbrev pub write-words : List ℕ → WriteReport ℕ → List ℕ
+write-words w r = three w (number (r .told)) (r .place) (r .written)
+
 -- an answer, told in words and by its number
 abbrev pub ToldChecked : Checked → List ℕ → List ℕ → ℕ → Type 0
 ToldChecked a w w′ n = (n ≡ number (checked-report a .told)) × (w′ ≡ check-words w (checked-report a))
 
 abbrev pub ToldRan : Ran → List ℕ → List ℕ → ℕ → Type 0
 ToldRan a w w′ n = (n ≡ number (ran-report a .told)) × (w′ ≡ run-words w (ran-report a))
+
+abbrev pub ToldWrote : Wrote → List ℕ → List ℕ → ℕ → Type 0
+ToldWrote a w w′ n = (n ≡ number (wrote-report a .told)) × (w′ ≡ write-words w (wrote-report a))
 
 -- The contract of `grumpy_check`: where the report is long enough, the contract of check, told in words.
 pub data CheckedC (source table report table′ report′ : List ℕ) (n : ℕ) : Type 0 where
@@ -49,3 +57,10 @@ pub data RanC (source table work out : List ℕ) (allowance : ℕ)
   run-reported : {r : RunReport ℕ} → 6 ≤ length report
       → Run (from-text source) table work out allowance r table′ work′ out′ → n ≡ number (r .told)
       → report′ ≡ run-words report r → RanC source table work out allowance report table′ work′ out′ report′ n
+
+-- The contract of `grumpy_write`.
+pub data WroteC (source table out report table′ out′ report′ : List ℕ) (n : ℕ) : Type 0 where
+  write-no-report : length report < 3 → n ≡ refusal-number short-memory → table′ ≡ table → out′ ≡ out → report′ ≡ report
+      → WroteC source table out report table′ out′ report′ n
+  write-reported : {r : WriteReport ℕ} → 3 ≤ length report → Write (from-text source) table out r table′ out′ → n ≡ number (r .told)
+      → report′ ≡ write-words report r → WroteC source table out report table′ out′ report′ n

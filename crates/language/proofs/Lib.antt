@@ -4,3 +4,4 @@ pub mod Types
 pub mod Executable
 pub mod Meaning
 pub mod Answers
+pub mod Writing

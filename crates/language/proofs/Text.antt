@@ -10,6 +10,8 @@ pub mod Places
 pub mod OnePiece
 pub mod OneSplit
 pub mod Pieces
+pub mod Alone
+pub mod Spots
 pub mod Scanner
 pub mod Edition
 pub mod Examples

@@ -20,7 +20,7 @@ use Rattle.language.specs.Types.{HasType}
 use Rattle.language.specs.Faults.{Reason, HasFault}
 use Rattle.language.specs.State.{State, Outcome, value, stop, stuck}
 use Rattle.language.specs.Meaning.{run, value-number, type-number}
-use Rattle.language.specs.Numbers.{Refusal, short-memory, large-allowance, long-source, text, no-reading, types, Told, passed, refused, stopped}
+use Rattle.language.specs.Numbers.{Refusal, short-memory, large-allowance, long-source, text, no-reading, types, long-text, Told, passed, refused, stopped}
 
 -- ---- where tokens come from
 
@@ -112,6 +112,7 @@ keeps long-source = false
 keeps (text f) = false
 keeps no-reading = false
 keeps (types r) = false
+keeps long-text = false
 
 unfoldable pub cleared : ℕ → List ℕ → List ℕ
 cleared n words = replicate n 0 ++ drop n words

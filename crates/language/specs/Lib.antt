@@ -11,3 +11,4 @@ pub mod State
 pub mod Meaning
 pub mod Numbers
 pub mod Answers
+pub mod Writing

@@ -1,16 +1,18 @@
--- The table of numbers (S068 to S090, R01.2): what an answer tells, and the number of it. 21 stood for too many nodes, which no
+-- The table of numbers (S068 to S090, R01.2, R03.5): what an answer tells, and the number of it. 21 stood for too many nodes, which no
 -- reading has; it is not used again (R02.4).
 use Prim.Native.Nat.{ℕ}
 use Rattle.language.specs.Text.{Flaw, strange-byte, open-comment, large-number, many-tokens}
 use Rattle.language.specs.Faults.{Reason, no-binding, no-function, wrong-number, wrong-argument, wrong-operand, wrong-operands, not-unit, not-bool, branches-differ, wrong-body, too-many-refs, too-many-functions, too-many-parameters, function-twice, parameter-twice}
 use Rattle.language.specs.State.{Stop, no-unit, too-deep, out-of-range, zero-divisor, cell-freed, cells-full, not-a-byte, output-full}
 
--- why nothing is run
+-- why nothing is run or written
 pub data Refusal : Type 0 where
   short-memory large-allowance long-source : Refusal
   text : Flaw → Refusal
   no-reading : Refusal
   types : Reason → Refusal
+  -- what a writer would write is too long
+  long-text : Refusal
 
 -- a program passed or ran to a value, or nothing was run, or a run stopped
 pub data Told : Type 0 where
@@ -48,6 +50,7 @@ refusal-number long-source = 10
 refusal-number (text f) = flaw-number f
 refusal-number no-reading = 20
 refusal-number (types r) = reason-number r
+refusal-number long-text = 44
 
 abbrev pub stop-number : Stop → ℕ
 stop-number no-unit = 50

@@ -219,3 +219,16 @@ At ts i k = kind-at ts i ≡ k
 -- token i is of a kind that the table has, and stands for a
 abbrev pub Means : {A : Type 0} → List Token → ℕ → List (Entry ℕ A) → A → Type 0
 Means ts i rows a = entry rows (kind-at ts i) ≡ some a
+
+-- ---- places aside
+
+-- one token, wherever it stands
+pub record SameToken (t u : Token) : Type 0 where
+  pub kind : t .kind ≡ u .kind
+  pub value : t .value ≡ u .value
+  pub spelling : t .spelling ≡ u .spelling
+
+-- the same tokens one after the other, but for their places
+pub data SameButPlaces : List Token → List Token → Type 0 where
+  same-none : SameButPlaces [] []
+  same-more : {t u : Token} {ts us : List Token} → SameToken t u → SameButPlaces ts us → SameButPlaces (t ∷ ts) (u ∷ us)

@@ -77,6 +77,7 @@ refusal-of Numbers.long-source = Refusal.LongSource
 refusal-of (Numbers.text f) = Refusal.Text (flaw-of f)
 refusal-of Numbers.no-reading = Refusal.NoReading
 refusal-of (Numbers.types r) = Refusal.Types (reason-of r)
+refusal-of Numbers.long-text = Refusal.LongText
 
 pub refusal-back : (y : Refusal) → refusal-of (refusal-meant y) ≡ y
 refusal-back Refusal.ShortMemory = refl
@@ -85,6 +86,7 @@ refusal-back Refusal.LongSource = refl
 refusal-back (Refusal.Text f) = ap Refusal.Text (flaw-back f)
 refusal-back Refusal.NoReading = refl
 refusal-back (Refusal.Types r) = ap Refusal.Types (reason-back r)
+refusal-back Refusal.LongText = refl
 
 -- two that mean the same are the same
 pub same-refusal : (y z : Refusal) → refusal-meant y ≡ refusal-meant z → y ≡ z

@@ -38,6 +38,7 @@ refusal-meant Refusal.LongSource = Numbers.long-source
 refusal-meant (Refusal.Text f) = Numbers.text (flaw-meant f)
 refusal-meant Refusal.NoReading = Numbers.no-reading
 refusal-meant (Refusal.Types r) = Numbers.types (reason-meant r)
+refusal-meant Refusal.LongText = Numbers.long-text
 
 abbrev pub stop-meant : Stop → State.Stop
 stop-meant Stop.NoUnit = State.no-unit

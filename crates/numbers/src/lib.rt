@@ -32,7 +32,7 @@ pub enum Reason {
     ParameterTwice,
 }
 
-// Why nothing is run, in the order in which it is looked for.
+// Why nothing is run or written, in the order in which it is looked for.
 pub enum Refusal {
     ShortMemory,
     LargeAllowance,
@@ -40,6 +40,8 @@ pub enum Refusal {
     Text(Flaw),
     NoReading,
     Types(Reason),
+    // What would be written is too long.
+    LongText,
 }
 
 // Why a run stops before it has a value.
@@ -97,6 +99,7 @@ pub fn of_refusal(refusal: Refusal) -> u32
         Refusal::Text(flaw) => of_flaw(flaw),
         Refusal::NoReading => 20,
         Refusal::Types(reason) => of_reason(reason),
+        Refusal::LongText => 44,
     }
 }
 

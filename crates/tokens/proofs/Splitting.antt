@@ -6,6 +6,7 @@ use mathlib.Core.Path.{_≡_, refl, sym, _∙_, ap, subst, subst₂}
 use native.Mathlib.Omega.{arith}
 use Prim.Native.Nat.{ℕ, _+_, _*_, _≤_, _<_}
 use Rattle.language.proofs.Text.OnePiece.{form-bounds}
+use Rattle.language.proofs.Text.Spots.{token-end}
 use Rattle.language.specs.Sizes.{SOURCE, TOKENS, TABLE, LARGEST}
 use Rattle.language.specs.Text as Text
 use Rattle.language.specs.Text.{Piece, Reaches, Wrong, token-of}
@@ -15,7 +16,7 @@ use Rattle.language.specs.Tokens.{EDITION-1, Token}
 use Rattle.layout.proofs.TokenLaws.{lay-length, lay-more}
 use Rattle.layout.specs.Names.{lay-tokens, value-word}
 use Rattle.layout.specs.Table.{put-token}
-use Rattle.tokens.proofs.Written.{table-spans, value-word-found, token-end}
+use Rattle.tokens.proofs.Written.{table-spans, value-word-found}
 use Rattle.tokens.specs.Answer.{Laid, Whole, Broken}
 use Rattle.tokens.specs.Found.{Spans, ValueWord}
 

@@ -6,8 +6,11 @@ use Rattle.grumpy_c.proofs.report_checked.Tie as tie
 enum-known-answer : tie.Need-enum-known-answer
 enum-known-answer c = search needs
 
-write-check-report-requires : tie.Need-write-check-report-requires
-write-check-report-requires c κs = search needs
+cast-write-three : tie.Need-cast-write-three
+cast-write-three c = search needs
+
+write-three-requires : tie.Need-write-three-requires
+write-three-requires c κs = search needs
 
 enum-known-answer-2 : tie.Need-enum-known-answer-2
 enum-known-answer-2 c = search needs
@@ -15,8 +18,8 @@ enum-known-answer-2 c = search needs
 of-refusal-requires : tie.Need-of-refusal-requires
 of-refusal-requires c κs = search needs
 
-write-check-report-requires-2 : tie.Need-write-check-report-requires-2
-write-check-report-requires-2 c κs = search needs
+write-three-requires-2 : tie.Need-write-three-requires-2
+write-three-requires-2 c κs = search needs
 
 same-length : tie.Need-same-length
 same-length c = search needs
@@ -25,7 +28,7 @@ returns : tie.Need-returns
 returns c =
     let written = c .before .before in
     let answer = written .before .before .before in
-    told-passed _ _ _ _ (answer .answer .given .1) (written .write-check-report .ensures)
+    told-passed _ _ _ _ (answer .answer .given .1) (written .write-three .ensures)
 
 same-length-2 : tie.Need-same-length-2
 same-length-2 c = search needs
@@ -35,17 +38,18 @@ returns-2 c =
     let written = c .before .before in
     let of-refusal = written .before .before in
     let answer2 = of-refusal .before .before in
-    told-refused _ _ _ _ _ _ (answer2 .answer2 .given .1) (of-refusal .of-refusal .ensures) (written .write-check-report2 .ensures)
+    told-refused _ _ _ _ _ _ (answer2 .answer2 .given .1) (of-refusal .of-refusal .ensures) (written .write-three2 .ensures)
 
 pub report-checked-spec : {M : Type 1} → statement M
 report-checked-spec =
     tie.close
     (tie.spec
     enum-known-answer
-    write-check-report-requires
+    cast-write-three
+    write-three-requires
     enum-known-answer-2
     of-refusal-requires
-    write-check-report-requires-2
+    write-three-requires-2
     same-length
     returns
     same-length-2

@@ -5,6 +5,7 @@ use mathlib.Core.Logic.{_⊎_, inl}
 use mathlib.Core.Option.{Option, none, some}
 use mathlib.Core.Path.{_≡_, refl, sym, subst}
 use Prim.Native.Nat.{ℕ, _<_}
+use native.Mathlib.Omega.{arith}
 use lib.ListN.{length}
 use Rattle.language.specs.Sizes.{SOURCE, ALLOWANCE, TABLE, WORK}
 use Rattle.language.specs.Tokens.{Token}
@@ -17,8 +18,9 @@ use Rattle.language.specs.Types.{HasType}
 use Rattle.language.specs.Faults.{Reason, HasFault}
 use Rattle.language.specs.State.{Stop, State, Outcome, value, stop, stuck}
 use Rattle.language.specs.Meaning.{run}
-use Rattle.language.specs.Numbers.{Refusal, short-memory, large-allowance, long-source, text, no-reading, types, Told, passed, refused, stopped}
+use Rattle.language.specs.Numbers.{Refusal, short-memory, large-allowance, long-source, text, no-reading, types, long-text, Told, passed, refused, stopped}
 use Rattle.language.specs.Answers.{Origin, place-in, too-long, flawed, from-text, unread, faulty, Passes, Refused, by-origin, by-tokens, Ending, ending, CheckReport, Checked, check-short, check-refused, check-passed, Lent, RunReport, Ran, run-short, run-large, run-refused, run-ended}
+use Rattle.language.specs.Writing.{TooLong, WriteReport, Wrote, write-short, write-refused, write-long, write-passed}
 use Rattle.language.proofs.Answers.Endings.{IsRun, is-run}
 
 -- ---- numbers and places
@@ -38,6 +40,8 @@ module _ (source : List ℕ) (l : Lent) where
     row-20 : {ts : List Token} {i : ℕ} → Splits source ts → FirstWrong ts i → Listed (refused no-reading) (byte-of ts i)
     rows-30-to-37 : {ts : List Token} {p : Program} {r : Reason} {i : ℕ}
         → Splits source ts → Reading ts p → HasFault p r i → Listed (refused (types r)) (byte-of ts i)
+    row-44 : {ts : List Token} {p : Program} {t : Ty}
+        → Splits source ts → Reading ts p → HasType p t → TooLong ts (l .output) → Listed (refused long-text) 0
     rows-50-to-57 : {ts : List Token} {p : Program} {t : Ty} {w : Stop} {i : ℕ} {s : State}
         → Splits source ts → Reading ts p → HasType p t → run p (l .allowance) (l .output) ≡ stop w i s → Listed (stopped w) (byte-of ts i)
 
@@ -73,6 +77,13 @@ module _ (source : List ℕ) (l : Lent) where
   checked-listed (check-refused h a) = refused-listed a
   checked-listed (check-passed h a) = passed-listed a
 
+  -- and of write, which is lent table memory and output
+  pub wrote-listed : {r : WriteReport ℕ} {bs : List ℕ} → Wrote (from-text source) (l .table) (l .output) r bs → Listed (r .told) (r .place)
+  wrote-listed (write-short h) = row-40 (inl h)
+  wrote-listed (write-refused h a) = refused-listed a
+  wrote-listed (write-long h a k) = row-44 (a .given .splits) (a .proper .reads) (a .proper .typed) k
+  wrote-listed (write-passed h a k) = passed-listed a
+
 abbrev Stops : Told → Type 0
 Stops passed = ⊥
 Stops (refused r) = ⊥
@@ -94,3 +105,21 @@ module _ {P : Type 0} {o : Origin P} where
   silent (run-large e h) y x = (refl, refl)
   silent (run-refused e h a) y x = (refl, refl)
   silent {l} (run-ended {p = p} e h a z) y x = absurd (subst IsRun x (is-run (l .allowance) (run p (l .allowance) (l .output)) z))
+
+  -- ---- where a sheet is not written out nothing is written
+
+  pub unwritten : {table room : ℕ} {r : WriteReport P} {bs : List ℕ} → Wrote o table room r bs → (y : Refusal) → r .told ≡ refused y
+      → (r .written ≡ 0) × (bs ≡ [])
+  unwritten (write-short h) y x = (refl, refl)
+  unwritten (write-refused h a) y x = (refl, refl)
+  unwritten (write-long h a k) y x = (refl, refl)
+  unwritten (write-passed h a k) y x = let z : _≡_ {A = ℕ} 0 1 = cc in absurd (omega arith)
+
+  pub write-never-stops : {table room : ℕ} {r : WriteReport P} {bs : List ℕ} → Wrote o table room r bs → (w : Stop) → r .told ≡ stopped w → ⊥
+  write-never-stops a w e = go a (subst Stops (sym e) tt)
+    where
+      go : {table room : ℕ} {r : WriteReport P} {bs : List ℕ} → Wrote o table room r bs → Stops (r .told) → ⊥
+      go (write-short h) x = x
+      go (write-refused h a) x = x
+      go (write-long h a k) x = x
+      go (write-passed h a k) x = x

@@ -11,7 +11,7 @@ use Rattle.language.specs.Trees.{Program, program-nodes}
 use Rattle.language.specs.Grammar.{Reading}
 use Rattle.language.specs.Faults as Faults
 use Rattle.language.specs.State as State
-use Rattle.language.specs.Numbers.{Refusal, short-memory, large-allowance, long-source, text, no-reading, types, Told, passed, refused, stopped, number, flaw-number, reason-number, stop-number}
+use Rattle.language.specs.Numbers.{Refusal, short-memory, large-allowance, long-source, text, no-reading, types, long-text, Told, passed, refused, stopped, number, flaw-number, reason-number, stop-number}
 use Rattle.language.specs.Answers.{Origin}
 use Rattle.language.proofs.Grammar.FewNodes.{never-too-large}
 use Rattle.language.proofs.Answers.Origins.{Lawful}
@@ -62,6 +62,7 @@ not-again (refused long-source) e = omega arith
 not-again (refused (text f)) e = omega (arith, flaw-not f)
 not-again (refused no-reading) e = omega arith
 not-again (refused (types r)) e = omega (arith, reason-not r)
+not-again (refused long-text) e = omega arith
 not-again (stopped s) e = omega (arith, stop-not s)
 
 -- and none needs it

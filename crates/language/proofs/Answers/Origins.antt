@@ -11,7 +11,7 @@ use lib.ListN.{length}
 use Rattle.language.specs.Sizes.{SOURCE, TOKENS}
 use Rattle.language.specs.Tokens.{Token}
 use Rattle.language.specs.Trees.{Ty, Program}
-use Rattle.language.specs.Numbers.{Refusal, text, no-reading}
+use Rattle.language.specs.Numbers.{Refusal, text, no-reading, long-text}
 use Rattle.language.specs.Answers.{Origin, place-in, TextDenies, too-long, flawed, TextGives, from-text, Passes, Refused, by-origin, by-tokens, keeps, unread, faulty}
 use Rattle.language.proofs.Text.Marks.{laws-1}
 use Rattle.language.proofs.Text.OneSplit.{one-split, one-flaw}
@@ -30,9 +30,10 @@ pub record Lawful {P : Type 0} (o : Origin P) : Type 0 where
   pub some : ((ts : List Token) × o .gives ts) ⊎ ((r : Refusal) × (x : P) × o .denies r x)
   -- no more tokens than a source may have
   pub few : (ts : List Token) → o .gives ts → length ts ≤ TOKENS
-  -- neither short memory nor a reading is a matter of an origin's
+  -- neither short memory nor a reading nor what is written is a matter of an origin's
   pub not-memory : (r : Refusal) (x : P) → o .denies r x → keeps r ≡ false
   pub not-reading : (x : P) → o .denies no-reading x → ⊥
+  pub not-written : (x : P) → o .denies long-text x → ⊥
 
 -- ---- a text obeys them
 
@@ -68,6 +69,10 @@ module _ (source : List ℕ) where
   text-not-reading r x (too-long h) e = let z : _≡_ {A = ℕ} 0 1 = cc in omega arith
   text-not-reading r x (flawed h a) e = let z : _≡_ {A = ℕ} 0 1 = cc in omega arith
 
+  pub text-not-written : (r : Refusal) (x : ℕ) → TextDenies source r x → r ≡ long-text → ⊥
+  text-not-written r x (too-long h) e = let z : _≡_ {A = ℕ} 0 1 = cc in omega arith
+  text-not-written r x (flawed h a) e = let z : _≡_ {A = ℕ} 0 1 = cc in omega arith
+
   unfoldable pub text-lawful : Lawful (from-text source)
   unfolding text-some
   text-lawful = record {
@@ -78,6 +83,7 @@ module _ (source : List ℕ) where
     few = λ ts a. a .splits .few;
     not-memory = text-not-memory;
     not-reading = λ x a. text-not-reading no-reading x a refl;
+    not-written = λ x a. text-not-written long-text x a refl;
   }
 
 -- ---- what an origin comes to

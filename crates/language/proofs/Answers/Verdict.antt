@@ -39,6 +39,11 @@ unfoldable pub verdict : List Token → Verdict
 unfolding by-type by-reading check
 verdict ts = by-reading (comes-to ts)
 
+-- it is settled by what the parser comes to
+pub by-comes : (ts us : List Token) → comes-to ts ≡ comes-to us → verdict ts ≡ verdict us
+unfolding verdict
+by-comes ts us e = ap by-reading e
+
 module _ (ts : List Token) where
   abbrev pub Says : Verdict → Type 0
   Says (denied r s) = Denied ts r s

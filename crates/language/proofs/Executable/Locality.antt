@@ -1,5 +1,6 @@
 -- The parser looks no further than the token at which it fails, or the one behind what it got; and it comes to its answer
--- with as much fuel as there are tokens to pass. So two lists that are the same up to there have the same answer.
+-- with as much fuel as there are tokens to pass. So two lists that are the same up to there have the same answer. It does not
+-- look at places at all.
 use mathlib.Core.Path.{_≡_, refl, ap, _∙_}
 use mathlib.Core.Bool.{Bool, true, false}
 use mathlib.Core.List.{List}
@@ -8,7 +9,7 @@ use Prim.Native.Nat.{ℕ, _+_, _≤_}
 use native.Mathlib.Omega.{arith}
 use lib.ListN.{length, getD}
 use lib.Dec.{eqb}
-use Rattle.language.specs.Tokens.{Token, Entry, past, entry, kind-at, value-at, spelling-at}
+use Rattle.language.specs.Tokens.{Token, Entry, past, entry, kind-at, value-at, spelling-at, SameToken}
 use Rattle.language.proofs.Executable.Parser.{is}
 use Rattle.language.proofs.Executable.ParserSound.{at}
 use Rattle.language.proofs.Grammar.Prefixes.{inside}
@@ -19,10 +20,18 @@ abbrev pub reach : {A : Type 0} → Result A → ℕ
 reach (failed k) = k
 reach (got x j) = j
 
+-- a token is the same as itself
+pub one-token : {t u : Token} → t ≡ u → SameToken t u
+one-token e = record {
+  kind = ap (λ (t : Token). t .kind) e;
+  value = ap (λ (t : Token). t .value) e;
+  spelling = ap (λ (t : Token). t .spelling) e;
+}
+
 module _ (ts us : List Token) where
-  -- the lists are the same up to e, token e included
+  -- the lists are the same up to e, token e included, but for places
   pub record Agree (e : ℕ) : Type 0 where
-    pub same : (k : ℕ) → k ≤ e → getD ts k past ≡ getD us k past
+    pub same : (k : ℕ) → k ≤ e → SameToken (getD ts k past) (getD us k past)
 
   -- a result of each, from i on: the first did not stop before i, and as far as it has looked both are one
   pub record From {A : Type 0} (i : ℕ) (r q : Result A) : Type 0 where
@@ -38,15 +47,15 @@ module _ {ts us : List Token} where
   module _ {e : ℕ} (a : Agree ts us e) (i : ℕ) (h : i ≤ e) where
     pub same-kind : kind-at ts i ≡ kind-at us i
     unfolding kind-at
-    same-kind = ap (λ (t : Token). t .kind) (a .same i h)
+    same-kind = a .same i h .kind
 
     pub same-value : value-at ts i ≡ value-at us i
     unfolding value-at
-    same-value = ap (λ (t : Token). t .value) (a .same i h)
+    same-value = a .same i h .value
 
     pub same-spelling : spelling-at ts i ≡ spelling-at us i
     unfolding spelling-at
-    same-spelling = ap (λ (t : Token). t .spelling) (a .same i h)
+    same-spelling = a .same i h .spelling
 
   -- ---- each way of going on
 

@@ -19,7 +19,7 @@ use Rattle.language.proofs.Executable.Parses.{Result, failed, got, then
 use Rattle.language.proofs.Executable.Parser.{read, entire, step, parse}
 use Rattle.language.proofs.Executable.ParserComplete.{run}
 use Rattle.language.proofs.Executable.Settles.{Settles, settled-reading, settled-none}
-use Rattle.language.proofs.Executable.Locality.{Agree, From}
+use Rattle.language.proofs.Executable.Locality.{one-token, Agree, From}
 use Rattle.language.proofs.Executable.Agreement.{agrees}
 use Rattle.language.proofs.Executable.Fresh.{Stand, stand-end, stand-next}
 use Rattle.language.proofs.Executable.Failing.{Fails, fails, Stop}
@@ -111,7 +111,7 @@ prefix-agrees : (ts us : List Token) (e : ℕ) → e < length ts → Agree ts (t
 prefix-agrees ts us e h = record {
   same = λ k l.
       let n = length-take-le (suc e) ts h in
-      sym (List·getD-append (take (suc e) ts) us past k (omega arith) ∙ getD-take (suc e) ts k past (omega arith));
+      one-token (sym (List·getD-append (take (suc e) ts) us past k (omega arith) ∙ getD-take (suc e) ts k past (omega arith)));
 }
 
 cut-off : (ts : List Token) {e : ℕ} → Settles ts entire 0 (failed e) → e < length ts → Starts (take (suc e) ts) → ⊥
@@ -156,7 +156,7 @@ module _ (ts : List Token) where
     holds = λ f h.
         run ts entire 0 f _ (omega arith) λ n z.
         let c = agrees ts ts (plenty ts) n (omega arith) (read program) tt 0 (omega arith) (omega arith) in
-        ap (whole ts) (sym (c .one record { same = λ k l. refl }));
+        ap (whole ts) (sym (c .one record { same = λ k l. one-token refl }));
   }
 
 -- ---- there is one where there is no reading, and only one

@@ -1,9 +1,9 @@
 -- Where the bytes of each class lie, and that a byte is of at most one of the classes blank, letter and digit.
-use mathlib.Core.Bool.{true, false}
+use mathlib.Core.Bool.{true, false, _||_}
 use mathlib.Core.Logic.{⊎-elim, _⊎_, inl, inr}
 use mathlib.Core.Path.{_≡_}
 use native.Mathlib.Omega.{arith}
-use borrow.Author.Tests.{ne-eqb, leb-true}
+use borrow.Author.Tests.{ne-eqb, eqb-true, leb-true}
 use lib.Dec.{eqb, leb}
 use Prim.Native.Char.{Char, code}
 use Prim.Native.Nat.{ℕ, _≤_}
@@ -31,7 +31,8 @@ digit-bounds b e = between-bounds "0" "9" b e
 letter-least : (b : ℕ) → is-letter b ≡ true → 65 ≤ b
 letter-least b e = ⊎-elim (λ x. x .0) (λ x. omega arith) (letter-bounds b e)
 
-high-not-blank : (b : ℕ) → 33 ≤ b → is-blank b ≡ false
+-- all above the space is no blank
+pub high-not-blank : (b : ℕ) → 33 ≤ b → is-blank b ≡ false
 unfolding is-blank
 high-not-blank b h =
     rw (ne-eqb b 32 (λ e. omega arith), ne-eqb b 9 (λ e. omega arith), ne-eqb b 13 (λ e. omega arith), ne-eqb b 10 (λ e. omega arith))
@@ -70,3 +71,13 @@ name-digit b e = rw (digit-not-letter b e, e)
 pub name-last : (b : ℕ) → is-letter b ≡ false → is-digit b ≡ false → eqb b 95 ≡ is-name-byte b
 unfolding is-name-byte
 name-last b e d = rw (e, d)
+
+-- ---- blanks
+
+-- a name byte is no blank
+pub name-not-blank : (b : ℕ) → is-name-byte b ≡ true → is-blank b ≡ false
+unfolding is-name-byte
+name-not-blank b e =
+    ⊎-elim (λ x. ⊎-elim (letter-not-blank b) (digit-not-blank b) (or-either (is-letter b) (is-digit b) x))
+    (λ x. high-not-blank b (omega (arith, eqb-true b 95 x)))
+    (or-either (is-letter b || is-digit b) (eqb b 95) e)

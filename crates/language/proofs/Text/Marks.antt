@@ -57,36 +57,45 @@ unfolding alone
 alone-none a [] e h = refl
 alone-none a (b ∷ s) e h = absurd (clash (eq-eqb a 47 h) (not-true (eqb a 47) e))
 
+-- no byte is a blank
+unfoldable pub unbroken : Spelling → Bool
+unbroken [] = true
+unbroken (a ∷ s) = not (is-blank a) && unbroken s
+
 -- what the laws ask of a mark
 unfoldable pub shaped : Spelling → Bool
-unfolding is-plain positive alone
+unfolding is-plain positive alone unbroken
 shaped [] = false
-shaped (a ∷ s) = is-plain a && (positive (a ∷ s) && alone a s)
+shaped (a ∷ s) = is-plain a && (positive (a ∷ s) && (alone a s && unbroken (a ∷ s)))
 
 -- what is then true of a mark that begins with a and goes on with s
 pub record Shape (a : ℕ) (s : Spelling) : Type 0 where
   pub first : Plain a
   pub bytes : positive (a ∷ s) ≡ true
   pub slash : a ≡ 47 → length s ≡ 0
+  pub whole : unbroken (a ∷ s) ≡ true
 
 -- ---- the laws
 
--- each mark begins with a byte that is no blank, letter or digit, has no byte 0, and is that byte alone where it is `/`
+-- each mark begins with a byte that is no letter or digit, has no byte 0 and no blank, and is its first byte alone where that
+-- is `/`
 pub record Laws (voc : Vocabulary) : Type 0 where
   pub shapes : every (λ r. shaped (spelling-of r)) (voc .marks) ≡ true
 
 -- those of today
 pub laws-1 : Laws EDITION-1
-unfolding shaped every is-plain is-blank is-letter is-digit between
+unfolding shaped every is-plain unbroken is-blank is-letter is-digit between
 laws-1 = record { shapes = refl }
 
 module _ {voc : Vocabulary} (laws : Laws voc) where
   pub mark-shape : (a : ℕ) (s : Spelling) (k : ℕ) → spelled (voc .marks) (a ∷ s) ≡ some k → Shape a s
   unfolding shaped
   mark-shape a s k e =
-      let x = and-both (is-plain a) (positive (a ∷ s) && alone a s) (passes shaped (voc .marks) (a ∷ s) k (laws .shapes) e) in
-      let y = and-both (positive (a ∷ s)) (alone a s) (x .1) in
-      record { first = plain a (x .0); bytes = y .0; slash = alone-none a s (y .1) }
+      let end = alone a s && unbroken (a ∷ s) in
+      let x = and-both (is-plain a) (positive (a ∷ s) && end) (passes shaped (voc .marks) (a ∷ s) k (laws .shapes) e) in
+      let y = and-both (positive (a ∷ s)) end (x .1) in
+      let z = and-both (alone a s) (unbroken (a ∷ s)) (y .1) in
+      record { first = plain a (x .0); bytes = y .0; slash = alone-none a s (z .0); whole = z .1 }
 
   -- a mark has a byte
   pub mark-some : (k : ℕ) → spelled (voc .marks) [] ≡ some k → ⊥

@@ -3,8 +3,8 @@ use borrow.Author.Needs.{needs}
 use mathlib.Core.Path.{refl}
 use lib.ListN.{length-set}
 use Rattle.grumpy_c.specs.Reports.{three}
-use Rattle.grumpy_c.proofs.write_check_report.Statement.{statement}
-use Rattle.grumpy_c.proofs.write_check_report.Tie as tie
+use Rattle.grumpy_c.proofs.write_three.Statement.{statement}
+use Rattle.grumpy_c.proofs.write_three.Tie as tie
 
 slice-write-report : tie.Need-slice-write-report
 slice-write-report c = search needs
@@ -22,7 +22,7 @@ returns : tie.Need-returns
 unfolding three
 returns c = refl
 
-pub write-check-report-spec : {M : Type 1} → statement M
-write-check-report-spec =
+pub write-three-spec : {M : Type 1} → statement M
+write-three-spec =
     tie.close
     (tie.spec slice-write-report slice-write-report-2 slice-write-report-3 same-length returns)

@@ -1,0 +1,88 @@
+-- From a sheet that was examined to the answer of write.
+use mathlib.Core.List.{List, []}
+use mathlib.Core.Path.{_≡_, refl, sym, ap, subst, _∙_}
+use Prim.Native.Nat.{ℕ, _≤_, _<_}
+use lib.ListN.{length}
+use Rattle.language.specs.Sizes.{TABLE}
+use Rattle.language.specs.Numbers.{refused, short-memory}
+use Rattle.language.specs.Answers.{from-text, left}
+use Rattle.language.specs.Writing as Writing
+use Rattle.language.specs.Writing.{written-out, write-report, write-short, write-refused, write-long, write-passed, Write}
+use Rattle.language.proofs.Answers.Origins.{text-lawful}
+use Rattle.numbers.specs.declared.Refusal.{Refusal}
+use Rattle.layout.specs.Table.{zeros}
+use Rattle.layout.specs.declared.Held.{Held}
+use Rattle.layout.proofs.Wiped.{zeros-cleared}
+use Rattle.writer.specs.Texts.{Writable, WritesOut}
+use Rattle.writer.specs.declared.Text.{Text}
+use Rattle.sheets.specs.Sheets.{OfSource, Examined}
+use Rattle.sheets.specs.declared.Seen.{Seen}
+use Rattle.grumpy.specs.Reports.{wrote-report}
+use Rattle.grumpy.specs.Writings.{Reported, Rewrote, Readable, Rewritten}
+use Rattle.grumpy.specs.declared.answers.Wrote.{Wrote}
+use Rattle.grumpy.proofs.Leaving.{wrote-left}
+
+-- ---- a sheet that passes
+
+module _ (source out out′ : List ℕ) (a : Text) (x : WritesOut source out out′ a) where
+  pub rewrote-written : (n : ℕ) → a ≡ Text.Written n → Rewrote source out out′ (Wrote.Written n)
+  rewrote-written n e = record {
+    told = λ ts p t table h y.
+        let z = subst (WritesOut source out out′) e x .told ts (y .given .splits) in
+        record { text = written-out ts; wrote = rw (z .1) (write-passed h y (z .0)); output = z .2 };
+  }
+
+  pub rewrote-long : a ≡ Text.TooLong → Rewrote source out out′ (Wrote.Refused Refusal.LongText 0)
+  rewrote-long e = record {
+    told = λ ts p t table h y.
+        let z = subst (WritesOut source out out′) e x .told ts (y .given .splits) in
+        record { text = []; wrote = write-long h y (z .0); output = z .1 };
+  }
+
+-- ---- any sheet
+
+-- an examined sheet can be written
+pub examined-readable : (source w w₁ : List ℕ) (s : Seen) → Examined source w w₁ s → Readable source w₁ s
+examined-readable source w w₁ (Seen.Passes h t) x =
+    let p = x .told in
+    record {
+      tokens = p .tokens;
+      stand = p .holds .stand;
+      room = p .holds .long;
+      short = p .passes .given .short;
+      splits = p .passes .given .splits;
+    }
+examined-readable source w w₁ (Seen.Refused y i) x = tt
+
+pub readable-sheet : (source w : List ℕ) (h : Held) (t : ℕ) (s : Seen) → Readable source w s → s ≡ Seen.Passes h t → Writable source w (h .count)
+readable-sheet source w h t s x z = subst (Readable source w) z x
+
+pub rewritten-sheet : (source w out out′ : List ℕ) (h : Held) (t : ℕ) (s : Seen) (r : Wrote) → Rewrote source out out′ r → s ≡ Seen.Passes h t
+    → Rewritten source w out out′ s r
+rewritten-sheet source w out out′ h t s r x z = record {
+  told = λ table l y.
+      let p = subst (OfSource source w) z y in
+      x .told (p .tokens) (p .program) (p .type) table l (p .passes);
+}
+
+pub rewritten-refused : (source w out : List ℕ) (y : Refusal) (i : ℕ) (s : Seen) → s ≡ Seen.Refused y i → Rewritten source w out out s (Wrote.Refused y i)
+rewritten-refused source w out y i s z = record {
+  told = λ table h a. record { text = []; wrote = write-refused h (subst (OfSource source w) z a); output = refl };
+}
+
+-- ---- write
+
+pub write-is-short : (source w out : List ℕ) → length w < TABLE → Write (from-text source) w out (write-report (refused short-memory) 0 0) w out
+unfolding left
+write-is-short source w out h = record { text = []; answer = write-short h; table-left = refl; output-left = refl }
+
+pub write-is-answered : (source w out w₁ w₂ out′ : List ℕ) (s : Seen) (r : Wrote) → TABLE ≤ length w → Examined source w w₁ s
+    → Rewritten source w₁ out out′ s r → w₂ ≡ zeros w₁ 0 TABLE → Write (from-text source) w out (wrote-report r) w₂ out′
+write-is-answered source w out w₁ w₂ out′ s r h x y e =
+    let z = y .told (length w) h (x .told) in
+    record {
+      text = z .text;
+      answer = z .wrote;
+      table-left = e ∙ x .rest ∙ zeros-cleared TABLE w h ∙ sym (wrote-left (text-lawful source) h (z .wrote) TABLE w);
+      output-left = z .output;
+    }

@@ -1,0 +1,34 @@
+-- What is written of a sheet that was examined: the contracts of `writings`.
+use mathlib.Core.List.{List, _++_}
+use mathlib.Core.Path.{_≡_}
+use Prim.Native.Nat.{ℕ, _≤_}
+use lib.ListN.{length, drop}
+use Rattle.language.specs.Sizes.{TABLE}
+use Rattle.language.specs.Tokens.{Token}
+use Rattle.language.specs.Trees.{Ty, Program}
+use Rattle.language.specs.Answers.{from-text, Passes}
+use Rattle.language.specs.Writing as Writing
+use Rattle.writer.specs.Texts.{Writable}
+use Rattle.sheets.specs.Sheets.{OfSource}
+use Rattle.sheets.specs.declared.Seen.{Seen}
+use Rattle.grumpy.specs.Reports.{wrote-report}
+use Rattle.grumpy.specs.declared.answers.Wrote.{Wrote}
+
+-- the answer, with so many words of table memory, and what is left in the output
+pub record Reported (source : List ℕ) (table : ℕ) (out out′ : List ℕ) (r : Wrote) : Type 0 where
+  pub text : List ℕ
+  pub wrote : Writing.Wrote (from-text source) table (length out) (wrote-report r) text
+  pub output : out′ ≡ text ++ drop (length text) out
+
+-- of a sheet that passes
+pub record Rewrote (source out out′ : List ℕ) (r : Wrote) : Type 0 where
+  pub told : (ts : List Token) (p : Program) (t : Ty) (table : ℕ) → TABLE ≤ table → Passes (from-text source) ts p t → Reported source table out out′ r
+
+-- a sheet that passes can be written from its table
+abbrev pub Readable : List ℕ → List ℕ → Seen → Type 0
+Readable source w (Seen.Passes p t) = Writable source w (p .count)
+Readable source w (Seen.Refused y i) = Unit {0}
+
+-- of any sheet
+pub record Rewritten (source w out out′ : List ℕ) (s : Seen) (r : Wrote) : Type 0 where
+  pub told : (table : ℕ) → TABLE ≤ table → OfSource source w s → Reported source table out out′ r

@@ -1,0 +1,168 @@
+-- A token's spelling is a token by itself: wherever its bytes stand with a blank or the end of the text behind them, they are
+-- a piece of the same kind and value. A form is said once here, by what it asks of its own bytes; all else follows.
+use lib.ListN.{length, getD, take}
+use lib.Seq.{slice, length-slice, getD-take, getD-drop}
+use mathlib.Core.Bool.{Bool, true, false, not, _&&_}
+use mathlib.Core.List.{List, [], _∷_}
+use mathlib.Core.Logic.{⊎-elim, _⊎_, inl, inr}
+use mathlib.Core.Option.{some}
+use mathlib.Core.Path.{_≡_, refl, sym, ap, subst, _∙_}
+use native.Mathlib.Nat.{le-refl}
+use native.Mathlib.Omega.{arith}
+use borrow.Author.Tests.{not-true}
+use Prim.Native.Nat.{ℕ, zero, suc, _+_, _-_, _≤_, _<_}
+use Rattle.language.proofs.Text.Choices.{either, clash, and-both}
+use Rattle.language.proofs.Text.Classes.{high-not-blank, name-not-blank, digit-not-blank}
+use Rattle.language.proofs.Text.Marks.{Laws, Shape, mark-shape, mark-some, unbroken}
+use Rattle.language.proofs.Text.OnePiece.{form-bounds}
+use Rattle.language.proofs.Text.Places.{Sort, sort, sort-line, sort-open, Opened, Slashed, View, view}
+use Rattle.language.proofs.Text.Places.Opened.{closed, left}
+use Rattle.language.proofs.Text.Places.Sort.{lines, opens}
+use Rattle.language.proofs.Text.Spellings.{byte-inside}
+use Rattle.language.specs.Text.{byte, Each, Stands, is-blank, is-letter, is-digit, is-name-byte}
+use Rattle.language.specs.Text.{Opens, Content, Within, Form, Piece, word-kind, number-from}
+use Rattle.language.specs.Text.Content.{space, unclosed, token}
+use Rattle.language.specs.Text.Form.{blank, line, comment, unended, name, number, mark}
+use Rattle.language.specs.Tokens.{Spelling, spell, Vocabulary, NUMBER, spelled}
+
+-- ---- bytes of a slice
+
+-- a byte between p and q, as one of the slice
+pub byte-slice : (t : List ℕ) (p q i : ℕ) → p ≤ i → i < q → byte t i ≡ getD (slice p q t) (i - p) 0
+byte-slice t p q i h l =
+    let e : p + (i - p) ≡ i = omega arith in
+    sym (getD-drop p (take q t) (i - p) 0 ∙ ap (λ (k : ℕ). getD (take q t) k 0) e ∙ getD-take q t i 0 l)
+
+-- the same bytes in two texts
+pub record Copied (t : List ℕ) (p q : ℕ) (u : List ℕ) (m n : ℕ) : Type 0 where
+  pub within : Within t p q
+  pub there : Within u m n
+  pub same : slice m n u ≡ slice p q t
+
+module _ {t : List ℕ} {p q : ℕ} {u : List ℕ} {m n : ℕ} (c : Copied t p q u m n) where
+  -- are as many
+  pub copied-long : n - m ≡ q - p
+  copied-long =
+      omega (arith, length-slice m n u (c .there .inside), length-slice p q t (c .within .inside), ap length (c .same))
+
+  copied-byte : (i : ℕ) → m ≤ i → i < n → byte u i ≡ byte t (p + (i - m))
+  copied-byte i h l =
+      let w = c .within .some in
+      let e : p + (i - m) - p ≡ i - m = omega arith in
+      let z = byte-slice t p q (p + (i - m)) (omega arith) (omega (arith, copied-long)) in
+      byte-slice u m n i h l ∙ ap (λ (s : List ℕ). getD s (i - m) 0) (c .same) ∙ ap (λ (k : ℕ). getD (slice p q t) k 0) (sym e) ∙ sym z
+
+  -- and of the same classes
+  pub copied-each : (f : ℕ → Bool) → Each f t p q → Each f u m n
+  copied-each f e i l h =
+      let w = c .within .some in
+      rw (copied-byte i h l) (e (p + (i - m)) (omega (arith, copied-long)) (omega arith))
+
+  copied-first : byte u m ≡ byte t p
+  copied-first =
+      let e : p + (m - m) ≡ p = omega arith in
+      copied-byte m (le-refl m) (c .there .some) ∙ ap (byte t) e
+
+-- ---- a token's form
+
+-- it comes to a token
+abbrev pub IsToken : Content → Type 0
+IsToken space = ⊥
+IsToken unclosed = ⊥
+IsToken (token k v) = Unit {0}
+
+not-space : (c : Content) → IsToken c → c ≡ space → ⊥
+not-space c i e = subst IsToken e i
+
+not-unclosed : (c : Content) → IsToken c → c ≡ unclosed → ⊥
+not-unclosed c i e = subst IsToken e i
+
+-- no blank among some bytes
+solid : (s : Spelling) → unbroken s ≡ true → (i : ℕ) → i < length s → is-blank (getD s i 0) ≡ false
+unfolding unbroken
+solid [] e i h = absurd (omega arith)
+solid (a ∷ s) e zero h = not-true (is-blank a) (and-both (not (is-blank a)) (unbroken s) e .0)
+solid (a ∷ s) e (suc i) h = solid s (and-both (not (is-blank a)) (unbroken s) e .1) i (omega arith)
+
+module _ {voc : Vocabulary} (laws : Laws voc) where
+  mark-whole : (s : Spelling) (k : ℕ) → spelled (voc .marks) s ≡ some k → unbroken s ≡ true
+  mark-whole [] k e = absurd (mark-some laws k e)
+  mark-whole (a ∷ s) k e = mark-shape laws a s k e .whole
+
+  -- the same bytes elsewhere have it too
+  pub form-copied : {t : List ℕ} {p q : ℕ} {u : List ℕ} {m n : ℕ} (c : Content) → IsToken c → Copied t p q u m n → Form voc t p q c → Form voc u m n c
+  form-copied c i w (blank h b e) = absurd i
+  form-copied c i w (line s a b e) = absurd i
+  form-copied c i w (comment d) = absurd i
+  form-copied c i w (unended s n e) = absurd i
+  form-copied {t} {p} {q} {u} {m} {n} c i w (name a l e) =
+      subst (λ (s : Spelling). Form voc u m n (token (word-kind voc s) 0)) (w .same)
+      (name (w .there) (rw (copied-first w) l) (copied-each w is-name-byte e))
+  form-copied {t} {p} {q} {u} {m} {n} c i w (number a e) =
+      subst (λ (s : Spelling). Form voc u m n (token NUMBER (number-from 0 s))) (w .same)
+      (number (w .there) (copied-each w is-digit e))
+  form-copied {t} {p} {q} {u} {m} {n} c i w (mark {k = k} a e) = mark {k = k} (w .there) (rw (w .same) e)
+
+  -- none of its bytes is a blank
+  pub form-solid : {t : List ℕ} {p q : ℕ} (c : Content) → IsToken c → Form voc t p q c → (i : ℕ) → p ≤ i → i < q → is-blank (byte t i) ≡ false
+  form-solid c x (blank a b e) i h l = absurd x
+  form-solid c x (line s a b e) i h l = absurd x
+  form-solid c x (comment d) i h l = absurd x
+  form-solid c x (unended s n e) i h l = absurd x
+  form-solid {t} c x (name a b e) i h l = name-not-blank (byte t i) (e i l h)
+  form-solid {t} c x (number a e) i h l = digit-not-blank (byte t i) (e i l h)
+  form-solid {t} {p} {q} c x (mark {k = k} a e) i h l =
+      rw (byte-slice t p q i h l)
+      (solid (slice p q t) (mark-whole (slice p q t) k e) (i - p) (omega (arith, length-slice p q t (a .inside))))
+
+  -- ---- and nothing longer
+
+  -- a blank or the end stands at n
+  abbrev pub Over : List ℕ → ℕ → Type 0
+  Over u n = n < length u → is-blank (byte u n) ≡ true
+
+  module _ {u : List ℕ} {m n : ℕ} (c : Content) (i : IsToken c) (f : Form voc u m n c) (over : Over u n) where
+    -- a token's form is one byte where two bytes begin a comment, so the second of them is the blank
+    short : (b : ℕ) → 33 ≤ b → byte u (m + 1) ≡ b → n ≡ m + 1 → ⊥
+    short b h e z =
+        let l : m + 1 < length u = byte-inside u (m + 1) b e (omega arith) in
+        let w : is-blank (byte u (m + 1)) ≡ true = subst (λ (k : ℕ). Over u k) z over l in
+        clash w (rw e (high-not-blank b h))
+
+    no-line : Stands u m (spell "//") → ⊥
+    no-line s = go (rw (sort-line u m s) at (view laws u m n c f))
+      where
+        go : View voc u m n c lines → ⊥
+        go (inl x) = not-space c i (x .1 .1)
+        go (inr x) = short 47 (omega arith) (s .1 .0) (x .0)
+
+    no-comment : Opens u m → ⊥
+    no-comment s = go (rw (sort-open u m s) at (view laws u m n c f))
+      where
+        go : View voc u m n c opens → ⊥
+        go (inl (h, closed x e)) = not-space c i e
+        go (inl (h, left x y e)) = not-unclosed c i e
+        go (inr x) = short 42 (omega arith) (s .1 .0) (x .0)
+
+    longer : (e : ℕ) (d : Content) → IsToken d → Form voc u m e d → e ≤ n
+    longer e d j x =
+        let b = form-bounds u m n c f in
+        let g = form-bounds u m e d x in
+        ⊎-elim (λ l. absurd (clash (over (omega arith)) (form-solid d j x n (omega arith) l))) (λ l. l) (either n e)
+
+    -- no form there is longer
+    pub longest : (e : ℕ) (d : Content) → Form voc u m e d → e ≤ n
+    longest e d (blank h b z) = omega (arith, form-bounds u m n c f .0)
+    longest e d (line s a b z) = absurd (no-line s)
+    longest e d (comment z) = absurd (no-comment (z .opens))
+    longest e d (unended s z w) = absurd (no-comment s)
+    longest e d (name a b z) = longer e _ tt (name a b z)
+    longest e d (number a z) = longer e _ tt (number a z)
+    longest e d (mark {k = k} a z) = longer e _ tt (mark {k = k} a z)
+
+  -- so the bytes of a token are that token wherever they stand alone
+  pub alone : {t : List ℕ} {p q : ℕ} {u : List ℕ} {m n : ℕ} (k v : ℕ) → Form voc t p q (token k v) → Copied t p q u m n → Over u n
+      → Piece voc u m n (token k v)
+  alone k v f w over =
+      let g = form-copied (token k v) tt w f in
+      record { form = g; longest = longest (token k v) tt g over }

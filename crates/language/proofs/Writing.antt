@@ -1,0 +1,7 @@
+-- What is true of a sheet that is written out again.
+pub mod Spelled
+pub mod LastByte
+pub mod ReadBack
+pub mod OneWriting
+pub mod SameSheet
+pub mod Examples

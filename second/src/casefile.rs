@@ -1,0 +1,195 @@
+//! Case files. A case looks like
+//!
+//! ```text
+//! * a title, which starts the case
+//! allowance 10
+//! output 0
+//! table 12288
+//! work 16384
+//! room 8192
+//! | the sheet, one line
+//! | and another, with an LF between the two
+//! ? number place type
+//! > number place "text"
+//! = number place type value units printed "bytes"
+//! ```
+//!
+//! The loans may be left out where they are the usual ones; `room` is what is
+//! lent to Write. The `?` line is the answer of Check and may be left out where
+//! it follows from the `=` line, which is the answer of Run and ends the case.
+//! The `>` line is the answer of Write, if that is laid down. Lines that start
+//! with `#` and empty lines are nothing. See `quote` for the escapes.
+
+use crate::answer::Lent;
+use crate::cases::{check_from_run, ran, told, Case};
+use crate::quote;
+use crate::services::{Service, Wanted};
+use crate::trial::Trial;
+use std::fs;
+use std::path::{Path, PathBuf};
+
+/// All cases of all files in the folder, in the order of the files' names.
+pub fn read_folder(folder: &Path) -> Result<Vec<Case>, String> {
+    let entries = fs::read_dir(folder).map_err(|e| e.to_string())?;
+    let mut paths: Vec<PathBuf> = entries.flatten().map(|e| e.path()).collect();
+    paths.retain(|p| p.extension().is_some_and(|e| e == "txt"));
+    paths.sort();
+    let mut cases = Vec::new();
+    for path in paths {
+        let name = path
+            .file_name()
+            .unwrap_or_default()
+            .to_string_lossy()
+            .into_owned();
+        let text = fs::read_to_string(&path).map_err(|e| format!("{name}: {e}"))?;
+        cases.extend(read_file(&name, &text)?);
+    }
+    Ok(cases)
+}
+
+pub fn read_file(name: &str, text: &str) -> Result<Vec<Case>, String> {
+    let mut cases = Vec::new();
+    let mut open: Option<Draft> = None;
+    for (index, line) in text.lines().enumerate() {
+        let at = format!("{name} line {}", index + 1);
+        let complaint = |problem: String| format!("{at}: {problem}");
+        if line.is_empty() || line.starts_with('#') {
+            continue;
+        }
+        if let Some(title) = line.strip_prefix("* ") {
+            if open.is_some() {
+                return Err(complaint("the case before has no answer".to_string()));
+            }
+            open = Some(Draft::new(format!("{at}: {title}")));
+            continue;
+        }
+        let mut draft = open
+            .take()
+            .ok_or_else(|| complaint("no case begun".to_string()))?;
+        match draft.line(line).map_err(complaint)? {
+            true => cases.push(draft.close().map_err(complaint)?),
+            false => open = Some(draft),
+        }
+    }
+    match open {
+        Some(draft) => Err(format!("{}: no answer", draft.title)),
+        None => Ok(cases),
+    }
+}
+
+/// A case of which not all lines have been read.
+struct Draft {
+    title: String,
+    sheet: Option<Vec<u8>>,
+    trial: Trial,
+    wanted: Vec<(Service, Wanted)>,
+}
+
+impl Draft {
+    fn new(title: String) -> Draft {
+        Draft {
+            title,
+            sheet: None,
+            trial: Trial::of(b"", Lent::default()),
+            wanted: Vec::new(),
+        }
+    }
+
+    /// Takes in one line; says if it was the last line of a case.
+    fn line(&mut self, line: &str) -> Result<bool, String> {
+        let (word, rest) = line.split_once(' ').unwrap_or((line, ""));
+        let Trial { lent, room, .. } = &mut self.trial;
+        match word {
+            "|" => self.sheet_line(rest)?,
+            "allowance" => lent.allowance = number(rest)?,
+            "output" => lent.output = number(rest)?,
+            "table" => lent.table = number(rest)?,
+            "work" => lent.work = number(rest)?,
+            "room" => *room = number(rest)?,
+            "?" => self.wanted.push((Service::Check, check_line(rest)?)),
+            ">" => self.wanted.push((Service::Write, write_line(rest)?)),
+            "=" => self.wanted.push((Service::Run, run_line(rest)?)),
+            _ => return Err(format!("unknown line: {line}")),
+        }
+        Ok(word == "=")
+    }
+
+    fn sheet_line(&mut self, text: &str) -> Result<(), String> {
+        let bytes = quote::decode(text)?;
+        match &mut self.sheet {
+            Some(sheet) => {
+                sheet.push(b'\n');
+                sheet.extend(bytes);
+            }
+            None => self.sheet = Some(bytes),
+        }
+        Ok(())
+    }
+
+    fn close(self) -> Result<Case, String> {
+        let Draft {
+            title,
+            sheet,
+            mut trial,
+            mut wanted,
+        } = self;
+        trial.sheet = sheet.ok_or("the case has no sheet")?;
+        if wanted.iter().all(|(service, _)| *service != Service::Check) {
+            let run = wanted.iter().find(|(s, _)| *s == Service::Run);
+            let check = run.and_then(|(_, run)| check_from_run(run));
+            wanted.extend(check.map(|check| (Service::Check, check)));
+        }
+        Ok(Case {
+            title,
+            trial,
+            wanted,
+        })
+    }
+}
+
+fn number<T: std::str::FromStr>(text: &str) -> Result<T, String> {
+    text.parse().map_err(|_| format!("no number: {text}"))
+}
+
+fn quoted(text: &str) -> Result<Vec<u8>, String> {
+    let inside = text.strip_prefix('"').and_then(|b| b.strip_suffix('"'));
+    quote::decode(inside.ok_or("the last part is a text in quotes")?)
+}
+
+fn check_line(text: &str) -> Result<Wanted, String> {
+    let parts: Vec<&str> = text.split(' ').collect();
+    let [no, place, kind] = parts[..] else {
+        return Err("three numbers are wanted".to_string());
+    };
+    let report = vec![number(place)?, number(kind)?];
+    Ok(told(number(no)?, report, b""))
+}
+
+fn write_line(text: &str) -> Result<Wanted, String> {
+    let parts: Vec<&str> = text.splitn(3, ' ').collect();
+    let [no, place, text] = parts[..] else {
+        return Err("two numbers and a quoted text are wanted".to_string());
+    };
+    let text = quoted(text)?;
+    let report = vec![number(place)?, text.len() as u64];
+    Ok(told(number(no)?, report, &text))
+}
+
+fn run_line(text: &str) -> Result<Wanted, String> {
+    let parts: Vec<&str> = text.splitn(7, ' ').collect();
+    let [no, place, kind, value, units, count, bytes] = parts[..] else {
+        return Err("six numbers and a quoted text are wanted".to_string());
+    };
+    let printed = quoted(bytes)?;
+    if printed.len() != number::<usize>(count)? {
+        return Err("the count of bytes is not that of the text".to_string());
+    }
+    let (no, place, kind) = (number(no)?, number(place)?, number(kind)?);
+    let (value, units) = (number(value)?, number(units)?);
+    Ok(ran(no, place, kind, value, units, &printed))
+}
+
+/// Where the case files of this package lie.
+pub fn folder() -> PathBuf {
+    Path::new(env!("CARGO_MANIFEST_DIR")).join("cases")
+}

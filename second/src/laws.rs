@@ -1,0 +1,81 @@
+//! What is true of all answers: all that this interpreter can be held against
+//! when it is alone.
+
+use crate::answer::{self, Answer, Lent};
+use crate::cases::check_from_run;
+use crate::services::{wanted, Service};
+use crate::text::{self, Kind};
+use crate::trial::Trial;
+use crate::write::{self, Written};
+
+type Law = (bool, &'static str);
+
+pub fn hold(trial: &Trial) -> Result<(), String> {
+    let answer = answer::run(&trial.sheet, &trial.lent);
+    let mut laws = run_laws(trial, &answer);
+    laws.extend(write_laws(trial, &answer));
+    match laws.iter().find(|(holds, _)| !holds) {
+        Some((_, law)) => Err(law.to_string()),
+        None => Ok(()),
+    }
+}
+
+fn run_laws(trial: &Trial, answer: &Answer) -> Vec<Law> {
+    let follows = check_from_run(&wanted(Service::Run, trial));
+    let check = wanted(Service::Check, trial);
+    let Lent {
+        allowance, output, ..
+    } = trial.lent;
+    let (stops, passes) = (answer.number >= 50, answer.number == 0);
+    let places = trial.sheet.len() + usize::from(answer.number == 20);
+    vec![
+        (follows.is_none_or(|f| f == check), "check and run disagree"),
+        (answer.units <= allowance, "more units than allowed"),
+        (answer.printed.len() <= output, "more bytes than room"),
+        (answer.number != 21, "a number that is out of the table"),
+        (
+            answer.number != 50 || answer.units == allowance,
+            "50 with units left",
+        ),
+        (answer.value == 0 || passes, "a value with a refusal"),
+        (stops || passes || answer.kind == 0, "a type with a refusal"),
+        (answer.place < places.max(1) as u64, "a place outside"),
+    ]
+}
+
+/// R03.3 and R03.4.
+fn write_laws(trial: &Trial, answer: &Answer) -> Vec<Law> {
+    let told = write::write(&trial.sheet, trial.lent.table, trial.room);
+    let passes = answer.number == 0 || answer.number >= 50;
+    let Written { number, text, .. } = told;
+    if number != 0 {
+        let same = (number, told.place) == (answer.number, answer.place);
+        let due = match number {
+            44 => passes || answer.number == 40 || answer.number == 41,
+            _ => same || answer.number == 40 || answer.number == 41,
+        };
+        return vec![(due, "written otherwise than refused")];
+    }
+    let again = write::write(&text, trial.lent.table, trial.room);
+    let back = answer::run(&text, &trial.lent);
+    let places_aside = |a: &Answer| Answer {
+        place: 0,
+        ..a.clone()
+    };
+    vec![
+        (again.text == text, "written twice is another text"),
+        (
+            kinds(&text) == kinds(&trial.sheet),
+            "other tokens read back",
+        ),
+        (
+            places_aside(&back) == places_aside(answer),
+            "another answer read back",
+        ),
+    ]
+}
+
+fn kinds(source: &[u8]) -> Vec<Kind> {
+    let tokens = text::tokens(source).unwrap_or_default();
+    tokens.into_iter().map(|token| token.kind).collect()
+}

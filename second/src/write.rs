@@ -1,0 +1,50 @@
+//! The writer: a sheet that passes, written out again with one space between
+//! two tokens and an LF at the end.
+
+use crate::answer::{prepare, Left, MOST_BYTES, TABLE_WORDS};
+use crate::text;
+use crate::Refusal;
+
+#[derive(Clone, Debug, PartialEq, Eq)]
+pub struct Written {
+    pub number: u32,
+    pub place: u64,
+    /// What the first bytes of the output are then; none if it is refused.
+    pub text: Vec<u8>,
+    pub table: Left,
+}
+
+pub fn write(source: &[u8], table: usize, room: usize) -> Written {
+    if table < TABLE_WORDS {
+        return refused(Refusal::new(40, 0), Left::AsBefore);
+    }
+    if let Err(refusal) = prepare(source) {
+        return refused(refusal, Left::RequiredZero);
+    }
+    let text = tokens_apart(source);
+    if text.len() > room || text.len() > MOST_BYTES {
+        return refused(Refusal::new(44, 0), Left::RequiredZero);
+    }
+    Written {
+        text,
+        ..refused(Refusal::new(0, 0), Left::RequiredZero)
+    }
+}
+
+/// The tokens as they are spelled, of a source that has some.
+pub fn tokens_apart(source: &[u8]) -> Vec<u8> {
+    let tokens = text::tokens(source).expect("a sheet that passes has tokens");
+    let spelled: Vec<&[u8]> = tokens.iter().map(|t| t.spelling(source)).collect();
+    let mut text = spelled.join(&b' ');
+    text.push(b'\n');
+    text
+}
+
+fn refused(refusal: Refusal, table: Left) -> Written {
+    Written {
+        number: refusal.number,
+        place: refusal.place as u64,
+        text: Vec::new(),
+        table,
+    }
+}
