@@ -6,5 +6,7 @@ pub mod OneAnswer
 pub mod Demand1
 pub mod Demand3
 pub mod NotAgain
+pub mod OldSheets
 pub mod Examples
 pub mod FurtherExamples
+pub mod LetAfterElse

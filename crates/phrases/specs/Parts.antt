@@ -10,9 +10,9 @@ use lib.ListN.{length}
 use Rattle.language.specs.Sizes.{TOKENS, NODES, TABLE}
 use Rattle.language.specs.Tokens.{Token, Row, entry}
 use Rattle.language.specs.Trees.{Exp, Exps}
-use Rattle.language.specs.Grammar.{un, seq, bound, item, assign, atom, tier}
+use Rattle.language.specs.Grammar.{un, seq, bound, assign, atom, tier}
 use Rattle.language.proofs.Executable.Parses.{Result, failed, got}
-use Rattle.language.proofs.Executable.Parser.{read, until, closed}
+use Rattle.language.proofs.Executable.Parser.{read, clause, until, closed}
 use Rattle.language.proofs.Executable.Settles.{Settles}
 use Rattle.language.proofs.Executable.Climbing.{tier-of, More}
 use Rattle.layout.specs.Table.{without-rows}
@@ -38,11 +38,12 @@ Told A = List Token → Result A → Type 0
 abbrev pub Seq : ℕ → Told Exp
 Seq n = λ ts. Settles ts (read seq) n
 
+-- a Tail or an Item
+abbrev pub Clause : ℕ → Told Exp
+Clause n = λ ts. Settles ts clause n
+
 abbrev pub Let : ℕ → Told Exp
 Let n = λ ts. Settles ts (read bound) n
-
-abbrev pub Item : ℕ → Told Exp
-Item n = λ ts. Settles ts (read item) n
 
 abbrev pub Assign : ℕ → Told Exp
 Assign n = λ ts. Settles ts (read assign) n

@@ -4,8 +4,8 @@ use Prim.Native.Nat.{ℕ}
 use native.Mathlib.Omega.{arith}
 use borrow.Author.Needs.{needs}
 use Rattle.phrases.proofs.items.let_in.Reads as items·let-in
-use Rattle.phrases.proofs.+items-if_else+items-item+items-let_in+items-seq+items-until+items-while_block+names-arguments+names-name_or_call+operands-assign+operands-atom+operands-rest+operands-tier+operands-un.Lts-items-let_in as lts
-use Rattle.phrases.proofs.+items-if_else+items-item+items-let_in+items-seq+items-until+items-while_block+names-arguments+names-name_or_call+operands-assign+operands-atom+operands-rest+operands-tier+operands-un.Proof.Setup.{items·let-in-claims, items·let-in-at}
+use Rattle.phrases.proofs.+items-clause+items-if_else+items-let_in+items-seq+items-until+items-while_block+names-arguments+names-name_or_call+operands-assign+operands-atom+operands-rest+operands-tier+operands-un.Lts-items-let_in as lts
+use Rattle.phrases.proofs.+items-clause+items-if_else+items-let_in+items-seq+items-until+items-while_block+names-arguments+names-name_or_call+operands-assign+operands-atom+operands-rest+operands-tier+operands-un.Proof.Setup.{items·let-in-claims, items·let-in-at}
 use Rattle.phrases.proofs.Moving.{ask, top-fits, later, later-with}
 use Rattle.phrases.proofs.Standing.{within}
 use Rattle.phrases.proofs.Answering.{known}
@@ -51,7 +51,7 @@ pub until-requires : (t : ℕ) → lts.Need-until-requires (items·let-in-claims
 until-requires t c κs =
     let p = c .before .before .before .before .before .before .before .before .pre .1 .0 in
     let i = within _ _ _ _ (sym (c .before .before .kind2 .ensures) ∙ c .before .if2 .left) (omega arith) in
-    later-with p 7 9 (c .before .before .before .before .before .before .before .before .pre .0) refl (omega arith) (omega arith)
+    later-with p 6 9 (c .before .before .before .before .before .before .before .before .pre .0) refl (omega arith) (omega arith)
     (omega arith) (omega arith) (omega arith)
 
 pub enum-known-value : (t : ℕ) → lts.Need-enum-known-value (items·let-in-claims t) (items·let-in-at t) items·let-in.Post
@@ -67,7 +67,7 @@ pub seq-requires : (t : ℕ) → lts.Need-seq-requires (items·let-in-claims t) 
 seq-requires t c κs =
     let p = c .before .before .before .before .before .before .before .before .before .before .before .before .before .before .before .pre .1 .0 in
     let o = (known (c .before .before .before .before .before .before .until .ensures) (c .before .before .value .given .1)) .ahead in
-    later p 7 8
+    later p 6 8
     (c .before .before .before .before .before .before .before .before .before .before .before .before .before .before .before .pre .0)
     (c .before .before .before .before .before .before .until .kept .0) (omega arith) (omega arith) (omega arith) (omega arith)
 
