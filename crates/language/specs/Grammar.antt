@@ -1,5 +1,5 @@
--- The grammar (S022 to S043, R05.2), as a relation: `Reads ts s i j x` says that the tokens of ts from i up to j, j not among
--- them, are read by the symbol s as x. One constructor for each production, in the order of the paper.
+-- The grammar (S022 to S043, with R05.2), as a relation: `Reads ts s i j x` says that the tokens of ts from i up to j,
+-- j not among them, are read by the symbol s as x. One constructor for each production, in the order of the paper.
 use mathlib.Core.Bool.{true, false}
 use mathlib.Core.List.{List, [], _∷_}
 use Prim.Native.Nat.{ℕ, _+_}

@@ -1,11 +1,13 @@
--- The grammar as document 01 has it (S022 to S035), in which no Let follows `else` (R05.1). It is kept for one theorem: what it
--- reads is read now as the same tree (R05.4). What has no Seq in it is as it is now, and is not said again.
+-- The grammar as the paper first has it (S022 to S035), in which no Let follows `else` (R05.1). It is kept for two theorems: what
+-- it reads is read now as the same tree (R05.4), and where no `let` stands directly behind an `else` nothing else is read now.
+-- What has no Seq in it is as it is now, and is not said again.
 use mathlib.Core.List.{List, []}
+use mathlib.Core.Logic.{_↔_}
 use Prim.Native.Nat.{ℕ, _+_}
 use lib.ListN.{length}
 use Rattle.language.specs.Tokens.{Token, At, Means, value-at, spelling-at, NAME, NUMBER, DEF, LET, IN, WHILE, IF, THEN, ELSE, BECOMES, IS, SEMI, COMMA, COLON, LPAR, RPAR, LBRACE, RBRACE}
 use Rattle.language.specs.Trees.{Ty, Literal, whole, Unary, Binary, Exp, name, literal, unary, binary, follow, group, block, call, bind, branch, loop, Exps, last, more, Param, Def, Program}
-use Rattle.language.specs.Grammar.{Level, or, sum, cmp, un, chain, Sym, Of, tier, program, def, formals, type, seq, bound, item, assign, atom, actuals, args, part, operators, comparisons, prefixes, constants, define, before, Reads, Reading}
+use Rattle.language.specs.Grammar.{Level, or, sum, cmp, un, chain, Sym, Of, tier, program, def, formals, params, type, seq, tail, bound, item, assign, atom, actuals, args, part, operators, comparisons, prefixes, constants, define, before, Reads, Reading}
 use Rattle.language.specs.Grammar as Now
 
 pub data OldReads (ts : List Token) : (s : Sym) → ℕ → ℕ → Of s → Type 0 where
@@ -95,6 +97,78 @@ module _ {ts : List Token} where
   old-reads (args-one p) = Now.args-one (old-reads p)
   old-reads (args-more p h q) = Now.args-more (old-reads p) h (old-reads q)
 
+-- ---- and back, where no `let` stands directly behind an `else`
+
+abbrev pub NoElseLet : List Token → Type 0
+NoElseLet ts = (k : ℕ) → At ts k ELSE → At ts (k + 1) LET → ⊥
+
+-- a Tail was a Let
+abbrev Was : (ts : List Token) (s : Sym) → ℕ → ℕ → Of s → Type 0
+Was ts program = OldReads ts program
+Was ts def = OldReads ts def
+Was ts formals = λ i j x. Unit {0}
+Was ts params = λ i j x. Unit {0}
+Was ts type = λ i j x. Unit {0}
+Was ts seq = OldReads ts seq
+Was ts tail = OldReads ts bound
+Was ts bound = OldReads ts bound
+Was ts item = OldReads ts item
+Was ts assign = OldReads ts assign
+Was ts (tier t) = OldReads ts (tier t)
+Was ts atom = OldReads ts atom
+Was ts actuals = OldReads ts actuals
+Was ts args = OldReads ts args
+
+module _ {ts : List Token} (none : NoElseLet ts) where
+  no-tail : (k : ℕ) {j : ℕ} {x : Exp} → At ts k ELSE → Reads ts tail (k + 1) j x → ⊥
+  no-tail k h (Now.tail-let (Now.let-in a b c p d q)) = none k h a
+  no-tail k h (Now.tail-if {k = n} a p b q c r) = no-tail n c r
+
+  was : {s : Sym} {i j : ℕ} {x : Of s} → Reads ts s i j x → Was ts s i j x
+  was (Now.program-seq p) = program-seq (was p)
+  was (Now.program-def p q) = program-def (was p) (was q)
+  was (Now.def-is a b c p d q e r f) = def-is a b c p d q e (was r) f
+  was (Now.formals-none a) = tt
+  was (Now.formals-some p a) = tt
+  was (Now.params-one a b p) = tt
+  was (Now.params-more a b p c q) = tt
+  was (Now.type-basic a) = tt
+  was (Now.type-ref p a) = tt
+  was (Now.seq-tail p) = seq-let (was p)
+  was (Now.seq-item p) = seq-item (was p)
+  was (Now.seq-more p h q) = seq-more (was p) h (was q)
+  was (Now.tail-let p) = was p
+  was (Now.tail-if {k = k} a p b q c r) = absurd (no-tail k c r)
+  was (Now.let-in a b c p d q) = let-in a b c (was p) d (was q)
+  was (Now.item-if a p b q c r) = item-if a (was p) b (was q) c (was r)
+  was (Now.item-while a p b q c) = item-while a (was p) b (was q) c
+  was (Now.item-assign p) = item-assign (was p)
+  was (Now.assign-one p) = assign-one (was p)
+  was (Now.assign-to p h q) = assign-to (was p) h (was q)
+  was (Now.chain-one p) = chain-one (was p)
+  was (Now.chain-more p h q) = chain-more (was p) h (was q)
+  was (Now.cmp-one p) = cmp-one (was p)
+  was (Now.cmp-two p h q) = cmp-two (was p) h (was q)
+  was (Now.un-prefix h p) = un-prefix h (was p)
+  was (Now.un-atom p) = un-atom (was p)
+  was (Now.atom-name a) = atom-name a
+  was (Now.atom-call a b p) = atom-call a b (was p)
+  was (Now.atom-number a) = atom-number a
+  was (Now.atom-constant a) = atom-constant a
+  was (Now.atom-group a p b) = atom-group a (was p) b
+  was (Now.atom-block a p b) = atom-block a (was p) b
+  was (Now.actuals-none a) = actuals-none a
+  was (Now.actuals-some p a) = actuals-some (was p) a
+  was (Now.args-one p) = args-one (was p)
+  was (Now.args-more p h q) = args-more (was p) h (was q)
+
+-- ---- whole lists
+
+module _ {ts : List Token} {p : Program} where
   -- an old reading is a reading
-  pub old-reading-reads : {p : Program} → OldReading ts p → Reading ts p
+  pub old-reading-reads : OldReading ts p → Reading ts p
   old-reading-reads r = old-reads r
+
+  -- and there is no other, but where a `let` stands directly behind an `else`
+  pub nothing-else : NoElseLet ts → OldReading ts p ↔ Reading ts p
+  nothing-else none = (λ r. old-reads r, λ r. was none r)
