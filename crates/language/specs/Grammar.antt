@@ -18,8 +18,8 @@ pub data Tier : Type 0 where
   chain : Level → Tier
   cmp un : Tier
 
--- Formals and Actuals are what Def and a call have between their parentheses, the closing one included; Params and Args
--- are these where there is one at least
+-- Formals and Actuals are what Def and a call have between their parentheses, the closing one included; Params and
+-- Args are these where there is one at least
 pub data Sym : Type 0 where
   program def formals params type seq tail bound item assign atom actuals args : Sym
   tier : Tier → Sym

@@ -1,6 +1,6 @@
--- What the readers of an expression require and ensure. A reader begins at token n with the table w, whose first free row is
--- f, and answers g with the table w′. Numbers are told of for themselves; what was read is told of every token list that the
--- table stands for.
+-- What the readers of an expression require and ensure. A reader begins at token n with the table w, whose first free
+-- row is f, and answers g with the table w′. Numbers are told of for themselves; what was read is told of every token
+-- list that the table stands for.
 use mathlib.Core.Bool.{Bool, true, false}
 use mathlib.Core.List.{List}
 use mathlib.Core.Option.{Option, none, some}
@@ -75,7 +75,8 @@ pub record Room (count : ℕ) (w : List ℕ) (n f : ℕ) : Type 0 where
   pub inside : n ≤ count
   pub owned : f ≤ n
 
--- from token n and row f to token m and row k, the last row being r; m lies from lo up to hi, and no row is without a token
+-- from token n and row f to token m and row k, the last row being r; m lies from lo up to hi, and no row is without
+-- a token
 pub record On (n f lo hi r m k : ℕ) : Type 0 where
   pub least : lo ≤ m
   pub most : m < hi

@@ -5,7 +5,7 @@ use mathlib.Core.Path.{_≡_, refl, subst}
 use Prim.Native.Nat.{ℕ}
 use native.Mathlib.Decide.{decLe, decLt, ℕ-discrete}
 use Rattle.language.specs.Tokens.{Token, spell, same, spelled, entry, kind-at, value-at, spelling-at}
-use Rattle.language.specs.Trees.{unit, whole, truth, trivial, literal, follow, bind, branch, Program, refs, size, nearest, nodes, def-nodes, program-nodes}
+use Rattle.language.specs.Trees.{unit, whole, truth, trivial, literal, follow, bind, branch, Program, refs, size, nearest}
 use Rattle.language.specs.Answers.{from-text, Passes}
 use Rattle.language.proofs.Executable.Parses as Parses
 use Rattle.language.proofs.Executable.Parser as Parser
@@ -27,8 +27,7 @@ tree = record {
 worked-out : (ts : List Token) × (fate (text-lawful sheet) ≡ passes ts tree unit)
 unfolding fate text-lawful decLe decLt ℕ-discrete Parser.answer Parser.parse Parser.step Parses.then Parses.test
     Parses.look Parses.need kind-at value-at spelling-at entry same spelled check check-from infer literal-type unbound
-    same-types join unop binop if-yes both nearest size refs Checks.after Checks.told Checks.need nodes def-nodes
-    program-nodes
+    same-types join unop binop if-yes both nearest size refs Checks.after Checks.told Checks.need
 worked-out = (_, refl)
 
 pub one-if : (ts : List Token) × Passes (from-text sheet) ts tree unit

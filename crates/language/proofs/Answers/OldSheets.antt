@@ -1,4 +1,4 @@
--- A sheet that passed under the grammar of document 01 passes as the same tree with the same type (R05.4), and check and run tell
+-- A sheet that passed under the paper's first grammar passes as the same tree with the same type (R05.4), and check and run tell
 -- of it what they told: types and meaning are of trees, and trees are what they were.
 use mathlib.Core.List.{List}
 use mathlib.Core.Option.{some}

@@ -18,7 +18,7 @@ pub data Goal : Type 0 where
   -- the rest of a level, with an expression to the left of the next operator; the rest of a type
   rest : Level → Exp → Goal
   refs : Ty → Goal
-  -- what a Seq begins with, a Tail or an Item: which of them it is only its end tells
+  -- what a Seq begins with, a Tail or an Item: which of them it is only its end tells, so both are looked for so
   clause : Goal
   -- a Seq and a token of this kind behind it, at which it stops
   until : ℕ → Goal

@@ -60,7 +60,8 @@ clause-requires t c κs =
 
 pub choice-requires : (t : ℕ) → lts.Need-choice-requires (items·if-else-claims t) (items·if-else-at t) items·if-else.Post
 choice-requires t c κs =
-    let at-clause = c .before .before .before in
+    let here = c .before .before .before in
+    let at-clause = here in
     let at-yes = at-clause .before .before .before in
     let at-until2 = at-yes .before .before .before .before in
     let at-test = at-until2 .before .before .before in
@@ -70,8 +71,8 @@ choice-requires t c κs =
     let o = (known (at-until .until .ensures) (at-test .test .given .1)) .ahead in
     let q = (known (at-until2 .until2 .ensures) (at-yes .yes .given .1)) .ahead in
     let i = within _ _ _ _ (start .pre .1 .1) (omega arith) in
-    top-fits p _ (at-clause .clause .ensures) (omega arith) (omega arith) (at-clause .clause .kept .0 ∙ at-until2 .until2 .kept .0 ∙ at-until .until .kept .0)
-    i
+    top-fits p _ (at-clause .clause .ensures) (omega arith) (omega arith)
+    (at-clause .clause .kept .0 ∙ at-until2 .until2 .kept .0 ∙ at-until .until .kept .0) i
 
 pub enum-known-yes-2 : (t : ℕ) → lts.Need-enum-known-yes-2 (items·if-else-claims t) (items·if-else-at t) items·if-else.Post
 enum-known-yes-2 t c = search needs

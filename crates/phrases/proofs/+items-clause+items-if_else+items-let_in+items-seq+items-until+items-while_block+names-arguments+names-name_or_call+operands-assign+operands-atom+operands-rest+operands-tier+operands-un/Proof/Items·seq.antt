@@ -76,7 +76,10 @@ returns t c =
     (at-seq .seq .ensures) (c .before .before .pair .ensures)
 
 pub same-length-2 : (t : ℕ) → lts.Need-same-length-2 (items·seq-claims t) (items·seq-at t) items·seq.Post
-same-length-2 t c = c .before .before .before .before .before .before .before .before .clause .kept .0
+same-length-2 t c =
+    let earlier = c .before .before .before .before .before .before .before in
+    let at-clause = earlier .before in
+    at-clause .clause .kept .0
 
 pub returns-2 : (t : ℕ) → lts.Need-returns-2 (items·seq-claims t) (items·seq-at t) items·seq.Post
 returns-2 t c =

@@ -25,42 +25,40 @@ enum-known-test t c = search needs
 
 pub add-until-2 : (t : ℕ) → lts.Need-add-until-2 (items·while-block-claims t) (items·while-block-at t) items·while-block.Post
 add-until-2 t c =
-    let p = c .before .before .before .before .before .before .before .before .before .pre .1 .0 in
-    let o = (known (c .before .before .before .before .before .before .until .ensures) (c .before .before .test .given .1)) .ahead in
-    omega arith
+    let at-until = c .before .before .before .before .before .before in
+    let start = at-until .before .before .before in
+    let p = start .pre .1 .0 in let o = (known (at-until .until .ensures) (c .before .before .test .given .1)) .ahead in omega arith
 
 pub until-requires-2 : (t : ℕ) → lts.Need-until-requires-2 (items·while-block-claims t) (items·while-block-at t) items·while-block.Post
 until-requires-2 t c κs =
-    let p = c .before .before .before .before .before .before .before .before .before .pre .1 .0 in
-    let o = (known (c .before .before .before .before .before .before .until .ensures) (c .before .before .test .given .1)) .ahead in
-    later-with p 6 9 (c .before .before .before .before .before .before .before .before .before .pre .0)
-    (c .before .before .before .before .before .before .until .kept .0) (omega arith) (omega arith) (omega arith) (omega arith)
-    (omega arith)
+    let at-until = c .before .before .before .before .before .before in
+    let start = at-until .before .before .before in
+    let p = start .pre .1 .0 in
+    let o = (known (at-until .until .ensures) (c .before .before .test .given .1)) .ahead in
+    later-with p 6 9 (start .pre .0) (at-until .until .kept .0) (omega arith) (omega arith) (omega arith) (omega arith) (omega arith)
 
 pub around-requires : (t : ℕ) → lts.Need-around-requires (items·while-block-claims t) (items·while-block-at t) items·while-block.Post
 around-requires t c κs =
-    let p = c .before .before .before .before .before .before .before .before .before .before .before .before .before .pre .1 .0 in
-    let o = (known (c .before .before .before .before .before .before .before .before .before .before .until .ensures)
-    (c .before .before .before .before .before .before .test .given .1)) .ahead in
-    top-fits p _ (c .before .before .before .until2 .ensures) (omega arith) (omega arith)
-    (c .before .before .before .until2 .kept .0
-    ∙ c .before .before .before .before .before .before .before .before .before .before .until .kept .0) (omega arith)
+    let at-until2 = c .before .before .before in
+    let at-test = at-until2 .before .before .before in
+    let at-until = at-test .before .before .before .before in
+    let start = at-until .before .before .before in
+    let p = start .pre .1 .0 in
+    let o = (known (at-until .until .ensures) (at-test .test .given .1)) .ahead in
+    top-fits p _ (at-until2 .until2 .ensures) (omega arith) (omega arith) (at-until2 .until2 .kept .0 ∙ at-until .until .kept .0) (omega arith)
 
 pub pair-requires : (t : ℕ) → lts.Need-pair-requires (items·while-block-claims t) (items·while-block-at t) items·while-block.Post
 pair-requires t c κs =
-    let p = c .before .before .before .before .before .before .before .before .before .before .before .before .before .before .before .before .before .pre .1 .0 in
-    let o = (known
-    (c .before .before .before .before .before .before .before .before .before .before .before .before .before .before .until .ensures)
-    (c .before .before .before .before .before .before .before .before .before .before .test .given .1)) .ahead in
-    let i = within _ _ _ _
-    (c .before .before .before .before .before .before .before .before .before .before .before .before .before .before .before .before .before .pre .1 .1)
-    (omega arith) in
-    top-fits p _
-    (body (c .before .before .before .before .before .before .before .until2 .ensures) (c .before .before .before .around .ensures))
-    (omega arith) (omega arith)
-    (c .before .before .before .around .kept .0 ∙ c .before .before .before .before .before .before .before .until2 .kept .0
-    ∙ c .before .before .before .before .before .before .before .before .before .before .before .before .before .before .until .kept .0)
-    i
+    let at-around = c .before .before .before in
+    let at-until2 = at-around .before .before .before .before in
+    let at-test = at-until2 .before .before .before in
+    let at-until = at-test .before .before .before .before in
+    let start = at-until .before .before .before in
+    let p = start .pre .1 .0 in
+    let o = (known (at-until .until .ensures) (at-test .test .given .1)) .ahead in
+    let i = within _ _ _ _ (start .pre .1 .1) (omega arith) in
+    top-fits p _ (body (at-until2 .until2 .ensures) (at-around .around .ensures)) (omega arith) (omega arith)
+    (at-around .around .kept .0 ∙ at-until2 .until2 .kept .0 ∙ at-until .until .kept .0) i
 
 pub enum-known-test-2 :
     (t : ℕ) → lts.Need-enum-known-test-2 (items·while-block-claims t) (items·while-block-at t) items·while-block.Post
@@ -68,24 +66,26 @@ enum-known-test-2 t c = search needs
 
 pub same-length : (t : ℕ) → lts.Need-same-length (items·while-block-claims t) (items·while-block-at t) items·while-block.Post
 same-length t c =
-    c .before .before .pair .kept .0 ∙ c .before .before .before .before .before .before .around .kept .0
-    ∙ c .before .before .before .before .before .before .before .before .before .before .until2 .kept .0
-    ∙ c .before .before .before .before .before .before .before .before .before .before .before .before .before .before .before .before .before .until .kept .0
+    let at-around = c .before .before .before .before .before .before in
+    let at-until2 = at-around .before .before .before .before in
+    let at-until = at-until2 .before .before .before .before .before .before .before in
+    c .before .before .pair .kept .0 ∙ at-around .around .kept .0 ∙ at-until2 .until2 .kept .0 ∙ at-until .until .kept .0
 
 pub returns : (t : ℕ) → lts.Need-returns (items·while-block-claims t) (items·while-block-at t) items·while-block.Post
 returns t c =
-    while-all
-    (c .before .before .before .before .before .before .before .before .before .before .before .before .before .before .before .before .before .before .before .before .pre .1 .1)
-    (known
-    (c .before .before .before .before .before .before .before .before .before .before .before .before .before .before .before .before .before .until .ensures)
-    (c .before .before .before .before .before .before .before .before .before .before .before .before .before .test .given .1))
-    (body (c .before .before .before .before .before .before .before .before .before .before .until2 .ensures)
-    (c .before .before .before .before .before .before .around .ensures)) (c .before .before .pair .ensures)
+    let at-around = c .before .before .before .before .before .before in
+    let at-until2 = at-around .before .before .before .before in
+    let at-test = at-until2 .before .before .before in
+    let at-until = at-test .before .before .before .before in
+    let start = at-until .before .before .before in
+    while-all (start .pre .1 .1) (known (at-until .until .ensures) (at-test .test .given .1))
+    (body (at-until2 .until2 .ensures) (at-around .around .ensures)) (c .before .before .pair .ensures)
 
 pub same-length-2 : (t : ℕ) → lts.Need-same-length-2 (items·while-block-claims t) (items·while-block-at t) items·while-block.Post
 same-length-2 t c = c .before .before .before .before .before .until .kept .0
 
 pub returns-2 : (t : ℕ) → lts.Need-returns-2 (items·while-block-claims t) (items·while-block-at t) items·while-block.Post
 returns-2 t c =
-    while-none (c .before .before .before .before .before .before .before .before .pre .1 .1)
-    (known (c .before .before .before .before .before .until .ensures) (c .before .test2 .given .1))
+    let at-until = c .before .before .before .before .before in
+    let start = at-until .before .before .before in
+    while-none (start .pre .1 .1) (known (at-until .until .ensures) (c .before .test2 .given .1))

@@ -62,78 +62,83 @@ enum-known-right t c = search needs
 
 pub cast-put : (t : ℕ) → lts.Need-cast-put (operands·rest-claims t) (operands·rest-at t) operands·rest.Post
 cast-put t c =
-    let p = c .before .before .before .before .before .before .before .before .before .before .before .before .before .before .pre .1 .0 in
-    omega arith
+    let earlier = c .before .before .before .before .before .before .before in
+    let start = earlier .before .before .before .before .before .before .before in
+    let p = start .pre .1 .0 in omega arith
 
 pub put-requires : (t : ℕ) → lts.Need-put-requires (operands·rest-claims t) (operands·rest-at t) operands·rest.Post
 put-requires t c κs =
-    let p = c .before .before .before .before .before .before .before .before .before .before .before .before .before .before .pre .1 .0 in
-    let o = (known (c .before .before .before .before .before .before .tier .ensures) (c .before .before .right .given .1)) .ahead in
-    row-fits p (c .before .before .before .before .before .before .tier .kept .0) (omega arith)
+    let at-tier = c .before .before .before .before .before .before in
+    let earlier = at-tier .before .before .before .before .before .before .before in
+    let start = earlier .before in
+    let p = start .pre .1 .0 in
+    let o = (known (at-tier .tier .ensures) (c .before .before .right .given .1)) .ahead in row-fits p (at-tier .tier .kept .0) (omega arith)
 
 pub after-requires : (t : ℕ) → lts.Need-after-requires (operands·rest-claims t) (operands·rest-at t) operands·rest.Post
 after-requires t c κs = search needs
 
 pub add-rest : (t : ℕ) → lts.Need-add-rest (operands·rest-claims t) (operands·rest-at t) operands·rest.Post
 add-rest t c =
-    let p = c .before .before .before .before .before .before .before .before .before .before .before .before .before .before .before .before .before .before .before .pre .1 .0 in
-    let o = (known (c .before .before .before .before .before .before .before .before .before .before .before .tier .ensures)
-    (c .before .before .before .before .before .before .before .right .given .1)) .ahead in
-    omega arith
+    let at-right = c .before .before .before .before .before .before .before in
+    let at-tier = at-right .before .before .before .before in
+    let earlier = at-tier .before .before .before .before .before .before .before in
+    let start = earlier .before in
+    let p = start .pre .1 .0 in let o = (known (at-tier .tier .ensures) (at-right .right .given .1)) .ahead in omega arith
 
 pub cast-rest : (t : ℕ) → lts.Need-cast-rest (operands·rest-claims t) (operands·rest-at t) operands·rest.Post
 cast-rest t c =
-    let p = c .before .before .before .before .before .before .before .before .before .before .before .before .before .before .before .before .before .before .before .pre .1 .0 in
-    let o = (known (c .before .before .before .before .before .before .before .before .before .before .before .tier .ensures)
-    (c .before .before .before .before .before .before .before .right .given .1)) .ahead in
-    omega arith
+    let at-right = c .before .before .before .before .before .before .before in
+    let at-tier = at-right .before .before .before .before in
+    let earlier = at-tier .before .before .before .before .before .before .before in
+    let start = earlier .before in
+    let p = start .pre .1 .0 in let o = (known (at-tier .tier .ensures) (at-right .right .given .1)) .ahead in omega arith
 
 pub rest-requires : (t : ℕ) → lts.Need-rest-requires (operands·rest-claims t) (operands·rest-at t) operands·rest.Post
 rest-requires t c κs =
-    let p = c .before .before .before .before .before .before .before .before .before .before .before .before .before .before .before .before .before .before .before .pre .1 .0 in
-    let o = (known (c .before .before .before .before .before .before .before .before .before .before .before .tier .ensures)
-    (c .before .before .before .before .before .before .before .right .given .1)) .ahead in
-    let b = c .before .before .before .before .before .before .before .before .before .before .before .before .before .before .before .before .before .before .before .pre .1 .1 .1 in
-    let y = c .before .before .before .before .before .before .before .before .before .before .before .before .before .before .if1 .left in
-    let z = c .before .before .before .before .before .before .before .before .before .before .before .before .before .if2 .left in
-    let x = binding _ _ _ _ _
-    (c .before .before .before .before .before .before .before .before .before .before .before .before .before .before .before .before .kind .ensures)
-    (c .before .before .before .before .before .before .before .before .before .before .before .before .before .before .before .tightness .ensures)
-    (omega arith) in
+    let at-put = c .before .before .before .before in
+    let at-right = at-put .before .before .before in
+    let at-tier = at-right .before .before .before .before in
+    let at-if2 = at-tier .before .before in
+    let at-if1 = at-if2 .before in
+    let at-tightness = at-if1 .before in
+    let at-kind = at-tightness .before in
+    let start = at-kind .before .before .before in
+    let p = start .pre .1 .0 in
+    let o = (known (at-tier .tier .ensures) (at-right .right .given .1)) .ahead in
+    let b = start .pre .1 .1 .1 in
+    let y = at-if1 .if1 .left in
+    let z = at-if2 .if2 .left in
+    let x = binding _ _ _ _ _ (at-kind .kind .ensures) (at-tightness .tightness .ensures) (omega arith) in
     let v = follows _ _ _ (c .before .after .ensures) y (b .3) (x .1) in
-    later-with p 0 0
-    (c .before .before .before .before .before .before .before .before .before .before .before .before .before .before .before .before .before .before .before .pre .0)
-    (c .before .before .before .before .put .kept .0
-    ∙ c .before .before .before .before .before .before .before .before .before .before .before .tier .kept .0) (omega arith)
-    (omega arith) (omega arith) (omega arith) (refl, (b .0, v .0, v .1, b .3))
+    later-with p 0 0 (start .pre .0) (at-put .put .kept .0 ∙ at-tier .tier .kept .0) (omega arith) (omega arith) (omega arith) (omega arith)
+    (refl, (b .0, v .0, v .1, b .3))
 
 pub enum-known-right-2 : (t : ℕ) → lts.Need-enum-known-right-2 (operands·rest-claims t) (operands·rest-at t) operands·rest.Post
 enum-known-right-2 t c = search needs
 
 pub same-length-3 : (t : ℕ) → lts.Need-same-length-3 (operands·rest-claims t) (operands·rest-at t) operands·rest.Post
 same-length-3 t c =
-    c .before .before .rest .kept .0 ∙ c .before .before .before .before .before .before .before .put .kept .0
-    ∙ c .before .before .before .before .before .before .before .before .before .before .before .before .before .before .tier .kept .0
+    let at-put = c .before .before .before .before .before .before .before in
+    let at-tier = at-put .before .before .before .before .before .before .before in
+    c .before .before .rest .kept .0 ∙ at-put .put .kept .0 ∙ at-tier .tier .kept .0
 
 pub returns-3 : (t : ℕ) → lts.Need-returns-3 (operands·rest-claims t) (operands·rest-at t) operands·rest.Post
 returns-3 t c =
-    let p = c .before .before .before .before .before .before .before .before .before .before .before .before .before .before .before .before .before .before .before .before .before .before .pre .1 .0 in
-    let o = (known
-    (c .before .before .before .before .before .before .before .before .before .before .before .before .before .before .tier .ensures)
-    (c .before .before .before .before .before .before .before .before .before .before .right .given .1)) .ahead in
-    let y = c .before .before .before .before .before .before .before .before .before .before .before .before .before .before .before .before .before .if1 .left in
-    let z = c .before .before .before .before .before .before .before .before .before .before .before .before .before .before .before .before .if2 .left in
-    rest-more _ _ _ _ _ _ _ _ _
-    (c .before .before .before .before .before .before .before .before .before .before .before .before .before .before .before .before .before .before .before .before .before .before .pre .1 .1 .1 .0)
-    (c .before .before .before .before .before .before .before .before .before .before .before .before .before .before .before .before .before .before .before .kind .ensures)
-    (c .before .before .before .before .before .before .before .before .before .before .before .before .before .before .before .before .before .before .tightness .ensures)
-    y z
-    (c .before .before .before .before .before .before .before .before .before .before .before .before .before .before .before .before .before .before .before .before .before .before .pre .1 .1 .0)
-    (omega arith)
-    (known
-    (c .before .before .before .before .before .before .before .before .before .before .before .before .before .before .tier .ensures)
-    (c .before .before .before .before .before .before .before .before .before .before .right .given .1))
-    (c .before .before .before .before .before .before .before .put .ensures) _ (c .before .before .before .before .after .ensures)
+    let at-after = c .before .before .before .before in
+    let at-put = at-after .before .before .before in
+    let at-right = at-put .before .before .before in
+    let at-tier = at-right .before .before .before .before in
+    let at-if2 = at-tier .before .before in
+    let at-if1 = at-if2 .before in
+    let at-tightness = at-if1 .before in
+    let at-kind = at-tightness .before in
+    let start = at-kind .before .before .before in
+    let p = start .pre .1 .0 in
+    let o = (known (at-tier .tier .ensures) (at-right .right .given .1)) .ahead in
+    let y = at-if1 .if1 .left in
+    let z = at-if2 .if2 .left in
+    rest-more _ _ _ _ _ _ _ _ _ (start .pre .1 .1 .1 .0) (at-kind .kind .ensures) (at-tightness .tightness .ensures) y z (start .pre .1 .1 .0)
+    (omega arith) (known (at-tier .tier .ensures) (at-right .right .given .1)) (at-put .put .ensures) _ (at-after .after .ensures)
     (c .before .before .rest .ensures)
 
 pub same-length-4 : (t : ℕ) → lts.Need-same-length-4 (operands·rest-claims t) (operands·rest-at t) operands·rest.Post
@@ -141,10 +146,13 @@ same-length-4 t c = c .before .before .before .before .before .tier .kept .0
 
 pub returns-4 : (t : ℕ) → lts.Need-returns-4 (operands·rest-claims t) (operands·rest-at t) operands·rest.Post
 returns-4 t c =
-    let y = c .before .before .before .before .before .before .before .before .if1 .left in
-    let z = c .before .before .before .before .before .before .before .if2 .left in
-    rest-none _ _ _ _ _ _ _ _ _
-    (c .before .before .before .before .before .before .before .before .before .before .before .before .before .pre .1 .1 .1 .0)
-    (c .before .before .before .before .before .before .before .before .before .before .kind .ensures)
-    (c .before .before .before .before .before .before .before .before .before .tightness .ensures) y z
-    (known (c .before .before .before .before .before .tier .ensures) (c .before .right2 .given .1))
+    let at-tier = c .before .before .before .before .before in
+    let at-if2 = at-tier .before .before in
+    let at-if1 = at-if2 .before in
+    let at-tightness = at-if1 .before in
+    let at-kind = at-tightness .before in
+    let start = at-kind .before .before .before in
+    let y = at-if1 .if1 .left in
+    let z = at-if2 .if2 .left in
+    rest-none _ _ _ _ _ _ _ _ _ (start .pre .1 .1 .1 .0) (at-kind .kind .ensures) (at-tightness .tightness .ensures) y z
+    (known (at-tier .tier .ensures) (c .before .right2 .given .1))

@@ -190,7 +190,16 @@ items·if-else-claims t =
     (items·until-below t, items·until.Post, items·clause-below t, items·clause.Post, choice-reads.Asked, choice-reads.Learnt)
 
 abbrev pub items·let-in-claims : ℕ → items·let-in-lts.Claims
-items·let-in-claims t = (kind-reads.Asked, kind-reads.Learnt, items·until-below t, items·until.Post, items·seq-below t, items·seq.Post, pair-reads.Asked, pair-reads.Learnt)
+items·let-in-claims t = (
+  kind-reads.Asked,
+  kind-reads.Learnt,
+  items·until-below t,
+  items·until.Post,
+  items·seq-below t,
+  items·seq.Post,
+  pair-reads.Asked,
+  pair-reads.Learnt,
+)
 
 abbrev pub items·seq-claims : ℕ → items·seq-lts.Claims
 items·seq-claims t = (
