@@ -24,7 +24,10 @@ Type -> Type ref
 Seq -> Let
 Seq -> Item
 Seq -> Item ; Seq
+Seq -> Last
 Let -> let name = Seq in Seq
+Last -> if Seq then Seq else Let
+Last -> if Seq then Seq else Last
 Item -> if Seq then Seq else Item
 Item -> while Seq { Seq }
 Item -> Assign

@@ -3,9 +3,9 @@
 
 use crate::text::{MARKS, RESERVED};
 
-/// What begins an operand, what begins an item too, what a sequence, a program.
+/// What begins an operand, a sequence, a program. A last branch begins as a
+/// sequence does.
 const OPERAND: &str = "- not ! ref x 1 true false tt ( {";
-const ITEM: &str = "if while - not ! ref x 1 true false tt ( {";
 const SEQ: &str = "let if while - not ! ref x 1 true false tt ( {";
 const PROGRAM: &str = "def let if while - not ! ref x 1 true false tt ( {";
 
@@ -47,11 +47,36 @@ const TABLE: &[(&str, &[&str])] = &[
     ("if 1", &[MORE, "then"]),
     ("if 1 then", &[SEQ]),
     ("if 1 then 1", &[MORE, "else"]),
-    ("if 1 then 1 else", &[ITEM]),
+    ("if 1 then 1 else", &[SEQ]),
     ("if 1 then 1 else 1", &[MORE]),
     ("if 1 then if 1 then 1 else 1", &[MORE, "else"]),
     ("if 1 then 1 else if 1 then 1", &[MORE, "else"]),
-    ("if 1 then 1 else if 1 then 1 else", &[ITEM]),
+    ("if 1 then 1 else if 1 then 1 else", &[SEQ]),
+    ("if 1 then 1 else let", &["x"]),
+    ("if 1 then 1 else let x", &["="]),
+    ("if 1 then 1 else let x=", &[SEQ]),
+    ("if 1 then 1 else let x=1", &[MORE, "in"]),
+    ("if 1 then 1 else let x=1 in", &[SEQ]),
+    ("if 1 then 1 else let x=1 in 1", &[MORE]),
+    ("if 1 then 1 else let x=1 in 1;", &[SEQ]),
+    ("if 1 then 1 else if 1 then 1 else let x=1 in 1", &[MORE]),
+    ("if if 1 then 1 else let x=1 in 1", &[MORE, "then"]),
+    ("if 1 then if 1 then 1 else let x=1 in 1", &[MORE, "else"]),
+    ("if 1 then if 1 then 1 else let x=1 in 1 else", &[SEQ]),
+    ("let x=if 1 then 1 else let y=1 in 1", &[MORE, "in"]),
+    ("(if 1 then 1 else let x=1 in 1", &[MORE, ")"]),
+    ("{if 1 then 1 else let x=1 in 1", &[MORE, "}"]),
+    ("f(if 1 then 1 else let x=1 in 1", &[MORE, ", )"]),
+    ("f(1,if 1 then 1 else let x=1 in 1", &[MORE, ", )"]),
+    ("while if 1 then 1 else let x=1 in 1", &[MORE, "{"]),
+    ("while 1{if 1 then 1 else let x=1 in 1", &[MORE, "}"]),
+    ("def f():int{if 1 then 1 else let x=1 in 1", &[MORE, "}"]),
+    ("1;if 1 then 1 else let x=1 in 1", &[MORE]),
+    (
+        "if 1 then 1 else let x=1 in 1:=1",
+        &["+ - * / < == && || ;"],
+    ),
+    ("if 1 then 1 else let x=1 in while 1{1}", &[";"]),
     ("if 1 then let x=1 in 1", &[MORE, "else"]),
     ("if 1 then 1 else while 1{1}", &[";"]),
     ("while", &[SEQ]),

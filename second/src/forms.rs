@@ -43,19 +43,19 @@ impl Writer<'_> {
         }
         for _ in 0..6 {
             let form = self.chance.below(13) as u8;
-            if form >= level && self.form(form, kind) {
+            if form >= level && self.form(form, kind, level) {
                 return;
             }
         }
         self.leaf(kind, level);
     }
 
-    /// Writes this form if it can have the type. Numbers past the levels are
-    /// further ways to write an atom.
-    fn form(&mut self, form: u8, kind: &Type) -> bool {
+    /// Writes this form if it can have the type, for a place of this level.
+    /// Numbers past the levels are further ways to write an atom.
+    fn form(&mut self, form: u8, kind: &Type, level: u8) -> bool {
         match form {
             SEQ => self.seq(kind),
-            ITEM => self.item(kind),
+            ITEM => self.item(kind, level == SEQ),
             ASSIGN if *kind == Type::Unit => self.write(),
             OR if *kind == Type::Bool => self.pair(kind, OR, "||", AND),
             AND if *kind == Type::Bool => self.pair(kind, AND, "&&", CMP),
@@ -102,6 +102,10 @@ impl Writer<'_> {
         if self.chance.one_in(4) && self.loops < 2 {
             return self.counted_loop(kind);
         }
+        self.binding(kind);
+    }
+
+    fn binding(&mut self, kind: &Type) {
         let plain = self.kind();
         let bound = if self.chance.one_in(3) {
             cell_of(&plain)
@@ -132,7 +136,9 @@ impl Writer<'_> {
         self.expression(kind, SEQ);
     }
 
-    fn item(&mut self, kind: &Type) {
+    /// An `if` or a loop; whether it is the last of its sequence matters, as
+    /// only then its last branch may be a let.
+    fn item(&mut self, kind: &Type, last: bool) {
         if *kind == Type::Unit && self.chance.one_in(12) {
             self.put("while");
             self.expression(&Type::Bool, SEQ);
@@ -143,7 +149,11 @@ impl Writer<'_> {
         self.put("then");
         self.expression(kind, SEQ);
         self.put("else");
-        self.expression(kind, ITEM);
+        match self.chance.below(4) {
+            0 if last => self.binding(kind),
+            1 if last && self.fuel > 0 => self.item(kind, true),
+            _ => self.expression(kind, ITEM),
+        }
     }
 
     fn write(&mut self) {

@@ -152,7 +152,7 @@ impl Reader<'_> {
             self.take("then")?;
             let yes = Box::new(self.seq()?);
             self.take("else")?;
-            let no = Box::new(self.item()?);
+            let no = Box::new(self.last_branch()?);
             return Some(Node {
                 place,
                 form: Form::If(test, yes, no),
@@ -167,6 +167,15 @@ impl Reader<'_> {
             });
         }
         self.assign()
+    }
+
+    /// A let here reaches as far right as it can, so nothing of the sequence
+    /// is left for the `if` to be followed by.
+    fn last_branch(&mut self) -> Option<Node> {
+        match self.sees("let") {
+            true => self.binding(),
+            false => self.item(),
+        }
     }
 
     fn assign(&mut self) -> Option<Node> {

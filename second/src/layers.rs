@@ -121,6 +121,7 @@ fn operators() -> Vec<Layer> {
 
 fn of_any_kind(kind: Kind) -> Vec<Layer> {
     let (same, leaf) = ([kind, kind], kind.leaf());
+    let choice = format!("if false then {leaf} else ");
     let mut all = vec![
         layer("(", ")", same, [ATOM, SEQ]),
         layer("{", "}", same, [ATOM, SEQ]),
@@ -134,11 +135,13 @@ fn of_any_kind(kind: Kind) -> Vec<Layer> {
             [ITEM, SEQ],
         ),
         layer("if true then ", &format!(" else {leaf}"), same, [ITEM, SEQ]),
+        layer(&choice, "", same, [ITEM, ITEM]),
+        layer(&format!("{choice}let x=1 in "), "", same, [SEQ, SEQ]),
         layer(
-            &format!("if false then {leaf} else "),
-            "",
+            &format!("{choice}{choice}let x="),
+            &format!(" in {leaf}"),
             same,
-            [ITEM, ITEM],
+            [SEQ, SEQ],
         ),
     ];
     for bound in KINDS {

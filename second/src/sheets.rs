@@ -155,6 +155,13 @@ impl<'a> Writer<'a> {
         self.fuel /= 2;
         self.expression(&known.result, SEQ);
         self.put("else");
+        if self.chance.one_in(4) {
+            let name = self.chance.pick(&NAMES);
+            self.put(&format!("let {name} ="));
+            self.expression(&Type::Int, SEQ);
+            self.put("in");
+            self.variables.push((name.to_string(), Type::Int));
+        }
         match &known.result {
             Type::Int if self.chance.one_in(2) => self.expression(&Type::Int, PROD),
             Type::Bool if self.chance.one_in(2) => self.expression(&Type::Bool, CMP),

@@ -7,5 +7,7 @@ pub mod Demand1
 pub mod Demand3
 pub mod NotAgain
 pub mod PlacesAside
+pub mod OldSheets
 pub mod Examples
 pub mod FurtherExamples
+pub mod LetAfterElse

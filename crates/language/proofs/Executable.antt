@@ -7,6 +7,7 @@
 pub mod Parses
 pub mod Parser
 pub mod ParserSound
+pub mod ParserClaims
 pub mod ParserComplete
 pub mod Settles
 pub mod SettlesExpressions

@@ -2,7 +2,9 @@
 pub mod Entries
 pub mod FirstTokens
 pub mod Association
+pub mod Reaching
 pub mod OneReading
+pub mod OldGrammar
 pub mod FewNodes
 pub mod OwnTokens
 pub mod OwnOnce

@@ -1,5 +1,5 @@
--- The grammar (S022 to S043), as a relation: `Reads ts s i j x` says that the tokens of ts from i up to j, j not among
--- them, are read by the symbol s as x. One constructor for each production, in the order of the paper.
+-- The grammar (S022 to S043, with R05.2), as a relation: `Reads ts s i j x` says that the tokens of ts from i up to j,
+-- j not among them, are read by the symbol s as x. One constructor for each production, in the order of the paper.
 use mathlib.Core.Bool.{true, false}
 use mathlib.Core.List.{List, [], _∷_}
 use Prim.Native.Nat.{ℕ, _+_}
@@ -18,10 +18,10 @@ pub data Tier : Type 0 where
   chain : Level → Tier
   cmp un : Tier
 
--- Formals and Actuals are what Def and a call have between their parentheses, the closing one included; Params and Args
--- are these where there is one at least
+-- Formals and Actuals are what Def and a call have between their parentheses, the closing one included; Params and
+-- Args are these where there is one at least
 pub data Sym : Type 0 where
-  program def formals params type seq bound item assign atom actuals args : Sym
+  program def formals params type seq tail bound item assign atom actuals args : Sym
   tier : Tier → Sym
 
 -- what a symbol is read as
@@ -32,6 +32,7 @@ Of formals = List Param
 Of params = List Param
 Of type = Ty
 Of seq = Exp
+Of tail = Exp
 Of bound = Exp
 Of item = Exp
 Of assign = Exp
@@ -100,11 +101,16 @@ pub data Reads (ts : List Token) : (s : Sym) → ℕ → ℕ → Of s → Type 0
   -- Type (S024)
   type-basic : {i : ℕ} {t : Ty} → Means ts i basics t → Reads ts type i (i + 1) t
   type-ref : {i m : ℕ} {t : Ty} → Reads ts type i m t → At ts m REF → Reads ts type i (m + 1) (ref t)
-  -- Seq (S025): `;` associates to the right
-  seq-let : {i j : ℕ} {e : Exp} → Reads ts bound i j e → Reads ts seq i j e
+  -- Seq (S025, R05.2): `;` associates to the right
+  seq-tail : {i j : ℕ} {e : Exp} → Reads ts tail i j e → Reads ts seq i j e
   seq-item : {i j : ℕ} {e : Exp} → Reads ts item i j e → Reads ts seq i j e
   seq-more : {i m j : ℕ} {e f : Exp}
       → Reads ts item i m e → At ts m SEMI → Reads ts seq (m + 1) j f → Reads ts seq i j (follow m e f)
+  -- Tail (R05.2): what ends in a Let, which ends its Seq
+  tail-let : {i j : ℕ} {e : Exp} → Reads ts bound i j e → Reads ts tail i j e
+  tail-if : {i m k j : ℕ} {c e f : Exp}
+      → At ts i IF → Reads ts seq (i + 1) m c → At ts m THEN → Reads ts seq (m + 1) k e
+      → At ts k ELSE → Reads ts tail (k + 1) j f → Reads ts tail i j (branch i c e f)
   -- Let (S026)
   let-in : {i m j : ℕ} {e f : Exp}
       → At ts i LET → At ts (i + 1) NAME → At ts (i + 2) IS → Reads ts seq (i + 3) m e

@@ -5,9 +5,9 @@ use native.Mathlib.Omega.{arith}
 use lib.ListN.{length}
 use Rattle.language.specs.Tokens.{Token}
 use Rattle.language.specs.Trees.{Def, Program}
-use Rattle.language.specs.Grammar.{Sym, program, def, formals, params, type, seq, bound, item, assign, atom, actuals, args, tier, Of}
+use Rattle.language.specs.Grammar.{Sym, program, def, formals, params, type, seq, tail, bound, item, assign, atom, actuals, args, tier, Of}
 use Rattle.language.specs.Grammar.{Reads, Reading, program-seq, program-def, def-is, formals-none, formals-some, params-one, params-more}
-use Rattle.language.specs.Grammar.{type-basic, type-ref, seq-let, seq-item, seq-more, let-in, item-if, item-while, item-assign, assign-one}
+use Rattle.language.specs.Grammar.{type-basic, type-ref, seq-tail, seq-item, seq-more, tail-let, tail-if, let-in, item-if, item-while, item-assign, assign-one}
 use Rattle.language.specs.Grammar.{assign-to, chain-one, chain-more, cmp-one, cmp-two, un-prefix, un-atom, atom-name, atom-call}
 use Rattle.language.specs.Grammar.{atom-number, atom-constant, atom-group, atom-block, actuals-none, actuals-some, args-one, args-more}
 use Rattle.layout.specs.Rows.{below, under, def-rows, defs-rows}
@@ -20,6 +20,7 @@ rows formals ps = length ps
 rows params ps = length ps
 rows type t = 1
 rows seq e = below e + 1
+rows tail e = below e + 1
 rows bound e = below e + 1
 rows item e = below e + 1
 rows assign e = below e + 1
@@ -35,6 +36,7 @@ spare formals = 0
 spare params = 0
 spare type = 0
 spare seq = 0
+spare tail = 0
 spare bound = 0
 spare item = 0
 spare assign = 0
@@ -55,9 +57,11 @@ module _ (ts : List Token) where
   few (params-more a b p c q) = omega (arith, few p, few q)
   few (type-basic a) = omega arith
   few (type-ref p a) = omega (arith, few p)
-  few (seq-let p) = few p
+  few (seq-tail p) = few p
   few (seq-item p) = few p
   few (seq-more p h q) = omega (arith, few p, few q)
+  few (tail-let p) = few p
+  few (tail-if a p b q c r) = omega (arith, few p, few q, few r)
   few (let-in a b c p d q) = omega (arith, few p, few q)
   few (item-if a p b q c r) = omega (arith, few p, few q, few r)
   few (item-while a p b q c) = omega (arith, few p, few q)

@@ -8,9 +8,9 @@ use lib.Dec.{eqb}
 use Rattle.language.specs.Tokens.{Token, At, kind-at, entry, value-at, spelling-at, NAME, NUMBER, TRUE, FALSE, TT}
 use Rattle.language.specs.Trees.{Literal, whole, truth, trivial, Exp, name, literal, unary, binary, follow}
 use Rattle.language.specs.Trees.{group, block, call, bind, branch, loop, Exps, last, more, Param, Def, Program}
-use Rattle.language.specs.Grammar.{Sym, program, def, formals, params, type, seq, bound, item, assign, atom, actuals, args, tier, Of}
+use Rattle.language.specs.Grammar.{Sym, program, def, formals, params, type, seq, tail, bound, item, assign, atom, actuals, args, tier, Of}
 use Rattle.language.specs.Grammar.{constants, Reads, Reading, program-seq, program-def, def-is, formals-none, formals-some, params-one}
-use Rattle.language.specs.Grammar.{params-more, type-basic, type-ref, seq-let, seq-item, seq-more, let-in, item-if, item-while, item-assign}
+use Rattle.language.specs.Grammar.{params-more, type-basic, type-ref, seq-tail, seq-item, seq-more, tail-let, tail-if, let-in, item-if, item-while, item-assign}
 use Rattle.language.specs.Grammar.{assign-one, assign-to, chain-one, chain-more, cmp-one, cmp-two, un-prefix, un-atom, atom-name, atom-call}
 use Rattle.language.specs.Grammar.{atom-number, atom-constant, atom-group, atom-block, actuals-none, actuals-some, args-one, args-more}
 
@@ -69,6 +69,7 @@ OwnedBy ts formals ps = OwnedParams ts ps
 OwnedBy ts params ps = OwnedParams ts ps
 OwnedBy ts type t = Unit {0}
 OwnedBy ts seq e = Owned ts e
+OwnedBy ts tail e = Owned ts e
 OwnedBy ts bound e = Owned ts e
 OwnedBy ts item e = Owned ts e
 OwnedBy ts assign e = Owned ts e
@@ -112,9 +113,11 @@ module _ (ts : List Token) where
   owns (params-more a b p c q) = owned-param a refl (owns q)
   owns (type-basic a) = tt
   owns (type-ref p a) = tt
-  owns (seq-let p) = owns p
+  owns (seq-tail p) = owns p
   owns (seq-item p) = owns p
   owns (seq-more p h q) = owned-follow (owns p) (owns q)
+  owns (tail-let p) = owns p
+  owns (tail-if a p b q c r) = owned-branch (owns p) (owns q) (owns r)
   owns (let-in a b c p d q) = owned-bind b refl (owns p) (owns q)
   owns (item-if a p b q c r) = owned-branch (owns p) (owns q) (owns r)
   owns (item-while a p b q c) = owned-loop (owns p) (owned-block (owns q))

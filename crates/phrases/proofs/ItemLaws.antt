@@ -1,45 +1,49 @@
--- The ways through `item`, `if_else` and `while_block`.
+-- The ways through `clause`, `if_else` and `while_block`.
 use mathlib.Core.List.{List}
 use mathlib.Core.Path.{_≡_, refl, _∙_}
 use Prim.Native.Nat.{ℕ, _+_}
 use native.Mathlib.Omega.{arith}
-use Rattle.language.specs.Tokens.{Token, At, WHILE, IF, THEN, ELSE, LBRACE, RBRACE}
+use Rattle.language.specs.Tokens.{Token, At, LET, WHILE, IF, THEN, ELSE, LBRACE, RBRACE}
 use Rattle.language.specs.Trees.{Exp, block, branch, loop}
-use Rattle.language.specs.Grammar.{item}
 use Rattle.language.proofs.Executable.Parses.{Result, failed, got}
-use Rattle.language.proofs.Executable.Parser.{read, until}
+use Rattle.language.proofs.Executable.Parser.{clause, until}
 use Rattle.language.proofs.Executable.Settles.{Settles}
 use Rattle.language.proofs.Executable.SettlesExpressions as S
 use Rattle.layout.specs.Table.{kind-of, put-row}
 use Rattle.layout.specs.Rows.{below, lay}
-use Rattle.phrases.specs.Parts.{Told, Yields, Halts, Topped, Item, Assign, Until}
+use Rattle.phrases.specs.Parts.{Told, Yields, Halts, Topped, Clause, Let, Assign, Until}
 use Rattle.phrases.specs.declared.parts.Part.{Part}
 use Rattle.phrases.proofs.Standing.{at, not-at}
 use Rattle.phrases.proofs.Answering.{after, fails-first, fails-second, same, tops, over-one, over-two}
 
--- ---- item
+-- ---- clause
 
--- an Assign or none
-pub item-assign : {count n f : ℕ} {w w₁ : List ℕ} {g : Part} → (kind-of w count n ≡ IF → ⊥) → (kind-of w count n ≡ WHILE → ⊥)
-    → Yields (Assign n) count w n f g w₁ → Yields (Item n) count w n f g w₁
-item-assign {n = n} {g = g} h i a = same g a (λ ts s r x. S.item-assign (not-at n s h) (not-at n s i) x)
+module _ {count n f : ℕ} {w w₁ : List ℕ} {g : Part} where
+  -- a Let or none
+  pub clause-let : kind-of w count n ≡ LET → Yields (Let n) count w n f g w₁ → Yields (Clause n) count w n f g w₁
+  clause-let h a = same g a (λ ts s r x. S.clause-let (at n s h) x)
+
+  -- an Assign or none
+  pub clause-assign : (kind-of w count n ≡ LET → ⊥) → (kind-of w count n ≡ IF → ⊥) → (kind-of w count n ≡ WHILE → ⊥)
+      → Yields (Assign n) count w n f g w₁ → Yields (Clause n) count w n f g w₁
+  clause-assign h i j a = same g a (λ ts s r x. S.clause-assign (not-at n s h) (not-at n s i) (not-at n s j) x)
 
 -- ---- if
 
 module _ {count n f : ℕ} {w w₁ : List ℕ} (h : kind-of w count n ≡ IF) where
   -- no test, or no `then` behind it
-  pub if-none : {e : ℕ} → Halts (Until THEN (n + 1)) count w (n + 1) f (Part.None e) w₁ → Yields (Item n) count w n f (Part.None e) w₁
+  pub if-none : {e : ℕ} → Halts (Until THEN (n + 1)) count w (n + 1) f (Part.None e) w₁ → Yields (Clause n) count w n f (Part.None e) w₁
   if-none a = fails-first a (λ ts s x. S.if-failed (at n s h) x)
 
   module _ {r m k : ℕ} {w₂ : List ℕ} (a : Halts (Until THEN (n + 1)) count w (n + 1) f (Part.Tree r m k) w₁) where
     -- no part behind `then`, or no `else` behind that
-    pub then-none : {e : ℕ} → Halts (Until ELSE (m + 1)) count w₁ (m + 1) k (Part.None e) w₂ → Yields (Item n) count w n f (Part.None e) w₂
+    pub then-none : {e : ℕ} → Halts (Until ELSE (m + 1)) count w₁ (m + 1) k (Part.None e) w₂ → Yields (Clause n) count w n f (Part.None e) w₂
     then-none b = fails-second a b (λ ts s x p q. S.then-failed (at n s h) p q)
 
-    -- both, and an Item or none behind `else`
+    -- both, and another clause or none behind `else`
     pub if-all : {r₂ m₂ k₂ : ℕ} {w₃ w₄ : List ℕ} {g z : Part} → Halts (Until ELSE (m + 1)) count w₁ (m + 1) k (Part.Tree r₂ m₂ k₂) w₂
-        → Yields (Item (m₂ + 1)) count w₂ (m₂ + 1) k₂ g w₃ → Topped (λ u i j. put-row u i IF n r r₂ j) (λ l. l) g w₃ z w₄
-        → Yields (Item n) count w n f z w₄
+        → Yields (Clause (m₂ + 1)) count w₂ (m₂ + 1) k₂ g w₃ → Topped (λ u i j. put-row u i IF n r r₂ j) (λ l. l) g w₃ z w₄
+        → Yields (Clause n) count w n f z w₄
     unfolding lay below
     if-all {r₂} {m₂} {k₂} {g = g} b d t =
         let y₁ = a .ahead in
@@ -86,21 +90,21 @@ body {m = m} a t =
 -- ---- while
 
 looped : (ts : List Token) {n m l : ℕ} {x y : Exp} → At ts n WHILE → Settles ts (until LBRACE) (n + 1) (got x m) → Braced ts m (got y l)
-    → Settles ts (read item) n (got (loop n x y) l)
+    → Settles ts clause n (got (loop n x y) l)
 looped ts a p (braced q) = S.while-block a p q
 
 unlooped : (ts : List Token) {n m e : ℕ} {x : Exp} → At ts n WHILE → Settles ts (until LBRACE) (n + 1) (got x m) → Braced ts m (failed e)
-    → Settles ts (read item) n (failed e)
+    → Settles ts clause n (failed e)
 unlooped ts a p (unbraced q) = S.while-block a p q
 
 module _ {count n f : ℕ} {w w₁ : List ℕ} (h : kind-of w count n ≡ WHILE) where
   -- no test, or no `{` behind it
-  pub while-none : {e : ℕ} → Halts (Until LBRACE (n + 1)) count w (n + 1) f (Part.None e) w₁ → Yields (Item n) count w n f (Part.None e) w₁
+  pub while-none : {e : ℕ} → Halts (Until LBRACE (n + 1)) count w (n + 1) f (Part.None e) w₁ → Yields (Clause n) count w n f (Part.None e) w₁
   while-none a = fails-first a (λ ts s x. S.while-failed (at n s h) x)
 
   -- a test, `{`, and a body or none
   pub while-all : {r m k : ℕ} {w₂ w₃ : List ℕ} {g z : Part} → Halts (Until LBRACE (n + 1)) count w (n + 1) f (Part.Tree r m k) w₁
-      → Yields (Block m) count w₁ m k g w₂ → Topped (λ u i j. put-row u i WHILE n r j 0) (λ l. l) g w₂ z w₃ → Yields (Item n) count w n f z w₃
+      → Yields (Block m) count w₁ m k g w₂ → Topped (λ u i j. put-row u i WHILE n r j 0) (λ l. l) g w₂ z w₃ → Yields (Clause n) count w n f z w₃
   unfolding lay below
   while-all {m = m} a b t =
       let d = a .ahead in

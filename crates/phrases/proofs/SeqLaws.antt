@@ -8,10 +8,10 @@ use Rattle.language.specs.Trees.{follow, bind}
 use Rattle.language.proofs.Executable.SettlesExpressions as S
 use Rattle.layout.specs.Table.{kind-of, put-row}
 use Rattle.layout.specs.Rows.{below, lay}
-use Rattle.phrases.specs.Parts.{Yields, Halts, Topped, Seq, Let, Item, Until}
+use Rattle.phrases.specs.Parts.{Yields, Halts, Topped, Seq, Clause, Let, Until}
 use Rattle.phrases.specs.declared.parts.Part.{Part}
 use Rattle.phrases.proofs.Standing.{at, not-at, within}
-use Rattle.phrases.proofs.Answering.{fails, fails-first, fails-behind, keeps, same, over-two}
+use Rattle.phrases.proofs.Answering.{fails, fails-first, fails-behind, keeps, over-two}
 
 module _ {count n f : ℕ} {w w₁ : List ℕ} where
   -- ---- until
@@ -35,29 +35,24 @@ module _ {count n f : ℕ} {w w₁ : List ℕ} where
 
   -- ---- seq
 
-  -- a Let
-  pub seq-let : {g : Part} → kind-of w count n ≡ LET → Yields (Let n) count w n f g w₁ → Yields (Seq n) count w n f g w₁
-  seq-let {g} h a = same g a (λ ts s r x. S.seq-let (at n s h) x)
+  -- no clause
+  pub seq-none : {e : ℕ} → Yields (Clause n) count w n f (Part.None e) w₁ → Yields (Seq n) count w n f (Part.None e) w₁
+  seq-none a = fails-first a (λ ts s x. S.seq-failed x)
 
-  module _ (h : kind-of w count n ≡ LET → ⊥) where
-    -- no Item
-    pub seq-none : {e : ℕ} → Yields (Item n) count w n f (Part.None e) w₁ → Yields (Seq n) count w n f (Part.None e) w₁
-    seq-none a = fails-first a (λ ts s x. S.seq-failed (not-at n s h) x)
+  module _ {r m k : ℕ} (a : Yields (Clause n) count w n f (Part.Tree r m k) w₁) where
+    -- a clause, and no `;`
+    pub seq-one : (kind-of w₁ count m ≡ SEMI → ⊥) → Yields (Seq n) count w n f (Part.Tree r m k) w₁
+    seq-one i = keeps a (a .ahead) (λ ts s v x y. S.seq-one y (not-at m v i))
 
-    module _ {r m k : ℕ} (a : Yields (Item n) count w n f (Part.Tree r m k) w₁) where
-      -- an Item, and no `;`
-      pub seq-one : (kind-of w₁ count m ≡ SEMI → ⊥) → Yields (Seq n) count w n f (Part.Tree r m k) w₁
-      seq-one i = keeps a (a .ahead) (λ ts s v x y. S.seq-item (not-at n s h) y (not-at m v i))
-
-      -- an Item, `;`, and another Seq or none
-      pub seq-more : {w₂ w₃ : List ℕ} {g z : Part} → kind-of w₁ count m ≡ SEMI → Yields (Seq (m + 1)) count w₁ (m + 1) k g w₂
-          → Topped (λ u i j. put-row u i SEMI m r j 0) (λ l. l) g w₂ z w₃ → Yields (Seq n) count w n f z w₃
-      unfolding lay below
-      seq-more i b t =
-          let d = a .ahead in
-          over-two SEMI m (λ ts. follow m) (λ ts v x y. (refl, refl))
-          (λ ts s v x p. (λ y l q. S.seq-more (not-at n s h) p (at m v i) q, λ e q. S.seq-more (not-at n s h) p (at m v i) q))
-          a b t (λ q l j o. record { least = omega arith; most = o .most; owned = omega arith; end = refl })
+    -- a clause, `;`, and another Seq or none
+    pub seq-more : {w₂ w₃ : List ℕ} {g z : Part} → kind-of w₁ count m ≡ SEMI → Yields (Seq (m + 1)) count w₁ (m + 1) k g w₂
+        → Topped (λ u i j. put-row u i SEMI m r j 0) (λ l. l) g w₂ z w₃ → Yields (Seq n) count w n f z w₃
+    unfolding lay below
+    seq-more i b t =
+        let d = a .ahead in
+        over-two SEMI m (λ ts. follow m) (λ ts v x y. (refl, refl))
+        (λ ts s v x p. (λ y l q. S.seq-more p (at m v i) q, λ e q. S.seq-more p (at m v i) q))
+        a b t (λ q l j o. record { least = omega arith; most = o .most; owned = omega arith; end = refl })
 
   -- ---- let
 

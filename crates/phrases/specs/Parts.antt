@@ -1,6 +1,6 @@
--- What the readers of an expression require and ensure. A reader begins at token n with the table w, whose first free row is
--- f, and answers g with the table w′. Numbers are told of for themselves; what was read is told of every token list that the
--- table stands for.
+-- What the readers of an expression require and ensure. A reader begins at token n with the table w, whose first free
+-- row is f, and answers g with the table w′. Numbers are told of for themselves; what was read is told of every token
+-- list that the table stands for.
 use mathlib.Core.Bool.{Bool, true, false}
 use mathlib.Core.List.{List}
 use mathlib.Core.Option.{Option, none, some}
@@ -10,9 +10,9 @@ use lib.ListN.{length}
 use Rattle.language.specs.Sizes.{TOKENS, NODES, TABLE}
 use Rattle.language.specs.Tokens.{Token, Entry, entry}
 use Rattle.language.specs.Trees.{Exp, Exps}
-use Rattle.language.specs.Grammar.{un, seq, bound, item, assign, atom, tier}
+use Rattle.language.specs.Grammar.{un, seq, bound, assign, atom, tier}
 use Rattle.language.proofs.Executable.Parses.{Result, failed, got}
-use Rattle.language.proofs.Executable.Parser.{read, until, closed}
+use Rattle.language.proofs.Executable.Parser.{read, clause, until, closed}
 use Rattle.language.proofs.Executable.Settles.{Settles}
 use Rattle.language.proofs.Executable.Climbing.{tier-of, More}
 use Rattle.layout.specs.Table.{without-rows}
@@ -38,11 +38,12 @@ Told A = List Token → Result A → Type 0
 abbrev pub Seq : ℕ → Told Exp
 Seq n = λ ts. Settles ts (read seq) n
 
+-- a Tail or an Item
+abbrev pub Clause : ℕ → Told Exp
+Clause n = λ ts. Settles ts clause n
+
 abbrev pub Let : ℕ → Told Exp
 Let n = λ ts. Settles ts (read bound) n
-
-abbrev pub Item : ℕ → Told Exp
-Item n = λ ts. Settles ts (read item) n
 
 abbrev pub Assign : ℕ → Told Exp
 Assign n = λ ts. Settles ts (read assign) n
@@ -74,7 +75,8 @@ pub record Room (count : ℕ) (w : List ℕ) (n f : ℕ) : Type 0 where
   pub inside : n ≤ count
   pub owned : f ≤ n
 
--- from token n and row f to token m and row k, the last row being r; m lies from lo up to hi, and no row is without a token
+-- from token n and row f to token m and row k, the last row being r; m lies from lo up to hi, and no row is without
+-- a token
 pub record On (n f lo hi r m k : ℕ) : Type 0 where
   pub least : lo ≤ m
   pub most : m < hi

@@ -1,10 +1,10 @@
-// Seq, Let and Item. These readers, those of `operands` and those of `names` call each other. Each call
+// Seq, Tail, Let and Item. These readers, those of `operands` and those of `names` call each other. Each call
 // goes to a later token, or to a lower rule at the same one.
 ghost use mathlib.Core.Path.{_≡_};
 ghost use Prim.Native.Nat.{_≤_};
 ghost use Rattle.language.specs.Tokens.{LET, IF, WHILE};
 ghost use Rattle.layout.specs.Table.{kind-of};
-ghost use Rattle.phrases.specs.Parts.{Room, Yields, Halts, Seq, Let, Item, Until};
+ghost use Rattle.phrases.specs.Parts.{Room, Yields, Halts, Seq, Clause, Let, Until};
 use crate::operands::assign;
 use crate::parts::Part;
 use crate::parts::around;
@@ -40,15 +40,12 @@ pub fn until(table: &mut [u32], count: usize, at: usize, free: usize, mark: u32)
     }
 }
 
-// `;` associates to the right.
+// `;` associates to the right. Behind a Tail there is none: the body of its let has taken it.
 pub fn seq(table: &mut [u32], count: usize, at: usize, free: usize) -> Part
     requires { ⌜ Room count (now table) at free ⌝ }
     ensures { λ g. ⌜ Yields (Seq at) count (now (table .entry)) at free g (now (table .exit)) ⌝ }
 {
-    if kind(table, count, at) == kinds::LET {
-        return let_in(table, count, at, free);
-    }
-    let first = item(table, count, at, free);
+    let first = clause(table, count, at, free);
     match first {
         Part::Tree {
             root,
@@ -68,6 +65,24 @@ pub fn seq(table: &mut [u32], count: usize, at: usize, free: usize) -> Part
         }
         Part::None { at: e } => Part::None { at: e },
     }
+}
+
+// A Tail or an Item, which the first token does not tell: an `if` is a Tail where its last part is one.
+fn clause(table: &mut [u32], count: usize, at: usize, free: usize) -> Part
+    requires { ⌜ Room count (now table) at free ⌝ }
+    ensures { λ g. ⌜ Yields (Clause at) count (now (table .entry)) at free g (now (table .exit)) ⌝ }
+{
+    let k = kind(table, count, at);
+    if k == kinds::LET {
+        return let_in(table, count, at, free);
+    }
+    if k == kinds::IF {
+        return if_else(table, count, at, free);
+    }
+    if k == kinds::WHILE {
+        return while_block(table, count, at, free);
+    }
+    assign(table, count, at, free)
 }
 
 // At a `let`, whose body is a Seq, and so reaches as far as one can.
@@ -96,26 +111,11 @@ fn let_in(table: &mut [u32], count: usize, at: usize, free: usize) -> Part
     }
 }
 
-// A test of the first token tells which of the three it is.
-pub fn item(table: &mut [u32], count: usize, at: usize, free: usize) -> Part
-    requires { ⌜ Room count (now table) at free ⌝ }
-    ensures { λ g. ⌜ Yields (Item at) count (now (table .entry)) at free g (now (table .exit)) ⌝ }
-{
-    let k = kind(table, count, at);
-    if k == kinds::IF {
-        return if_else(table, count, at, free);
-    }
-    if k == kinds::WHILE {
-        return while_block(table, count, at, free);
-    }
-    assign(table, count, at, free)
-}
-
-// At an `if`, whose last part is an Item, so that a `;` behind it ends it.
+// At an `if`, whose last part is a Tail or an Item: a `;` is taken by the let in it, or ends it.
 fn if_else(table: &mut [u32], count: usize, at: usize, free: usize) -> Part
     requires { ⌜ Room count (now table) at free ⌝ }
     requires { ⌜ kind-of (now table) count at ≡ IF ⌝ }
-    ensures { λ g. ⌜ Yields (Item at) count (now (table .entry)) at free g (now (table .exit)) ⌝ }
+    ensures { λ g. ⌜ Yields (Clause at) count (now (table .entry)) at free g (now (table .exit)) ⌝ }
 {
     let test = until(table, count, at + 1, free, kinds::THEN);
     match test {
@@ -131,7 +131,7 @@ fn if_else(table: &mut [u32], count: usize, at: usize, free: usize) -> Part
                     next: else_at,
                     free: yes_rows,
                 } => {
-                    let no = item(table, count, else_at + 1, yes_rows);
+                    let no = clause(table, count, else_at + 1, yes_rows);
                     choice(table, at, test_root, yes_root, no)
                 }
                 Part::None { at: e } => Part::None { at: e },
@@ -145,7 +145,7 @@ fn if_else(table: &mut [u32], count: usize, at: usize, free: usize) -> Part
 fn while_block(table: &mut [u32], count: usize, at: usize, free: usize) -> Part
     requires { ⌜ Room count (now table) at free ⌝ }
     requires { ⌜ kind-of (now table) count at ≡ WHILE ⌝ }
-    ensures { λ g. ⌜ Yields (Item at) count (now (table .entry)) at free g (now (table .exit)) ⌝ }
+    ensures { λ g. ⌜ Yields (Clause at) count (now (table .entry)) at free g (now (table .exit)) ⌝ }
 {
     let test = until(table, count, at + 1, free, kinds::LBRACE);
     match test {

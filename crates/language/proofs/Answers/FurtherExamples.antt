@@ -72,6 +72,21 @@ sequences =
     ∷ example "let x=ref 2 in while 0<!x{x:=!x-1};!x" 100 0 0 1 (pos 0) 33 []
     ∷ []
 
+-- a let behind `else`: R05.2, R05.3
+abbrev pub lets-after-else : List Example
+lets-after-else =
+    example "if true then tt else let x=1 in tt; tt" 100 0 0 3 (pos 0) 3 []
+    ∷ example "if false then tt else let x=1 in tt; tt" 100 0 0 3 (pos 0) 7 []
+    ∷ example "if true then tt else let x=1 in tt;5" 100 33 0 0 (pos 0) 0 []
+    ∷ example "if false then 1 else if false then 2 else let x=3 in x" 100 0 0 1 (pos 3) 7 []
+    ∷ example "(if false then 1 else let x=2 in x)+1" 100 0 0 1 (pos 3) 8 []
+    ∷ example "tt;if false then 1 else let x=tt in x;2" 100 0 0 1 (pos 2) 9 []
+    ∷ example "if false then 1 else (let x=tt in x);2" 100 33 0 0 (pos 0) 0 []
+    ∷ example "def f(b:bool):int{if b then 1 else let x=2 in x}f(false)" 100 0 0 1 (pos 2) 8 []
+    ∷ example "putchar(if false then 65 else let x=66 in x)" 100 0 0 1 (pos 66) 6 (66 ∷ [])
+    ∷ example "while if false then true else let x=false in x{tt}" 100 0 0 3 (pos 0) 6 []
+    ∷ []
+
 -- cells: S040, S060 to S064, S066, S067
 abbrev pub cells : List Example
 cells =
@@ -220,7 +235,8 @@ sizes =
 -- ---- the statement
 
 abbrev pub further : List Example
-further = arithmetic ++ truths ++ sequences ++ cells ++ calls ++ texts ++ readings ++ names ++ types ++ sizes
+further =
+    arithmetic ++ truths ++ sequences ++ lets-after-else ++ cells ++ calls ++ texts ++ readings ++ names ++ types ++ sizes
 
 pub all-further : All further
 unfolding worked-out

@@ -6,9 +6,9 @@ use native.Mathlib.Omega.{arith}
 use lib.ListN.{length}
 use Rattle.language.specs.Tokens.{Token, NAME, NUMBER, DEF, LET, IN, WHILE, IF, THEN, ELSE, REF, BECOMES, IS, SEMI, COMMA, COLON, LPAR, RPAR, LBRACE, RBRACE}
 use Rattle.language.specs.Trees.{ref, whole, name, literal, binary, block, call, bind}
-use Rattle.language.specs.Grammar.{Tier, Level, or, and, sum, prod, cmp, un, chain, Sym, tier, program, def, formals, params, type, seq, bound, item, assign, atom, actuals, args, part, operators, comparisons, prefixes, constants, basics}
-use Rattle.language.proofs.Executable.Parser.{Goal, read, rest, refs, until, closed, result, entire, step, parse}
-use Rattle.language.proofs.Executable.ParserSound.{right}
+use Rattle.language.specs.Grammar.{Tier, Level, or, and, sum, prod, cmp, un, chain, Sym, tier, program, def, formals, params, type, seq, tail, bound, item, assign, atom, actuals, args, part, operators, comparisons, prefixes, constants, basics}
+use Rattle.language.proofs.Executable.Parser.{Goal, read, rest, refs, clause, until, closed, result, entire, step, parse}
+use Rattle.language.proofs.Executable.ParserSound.{right, clause-seq}
 use Rattle.language.proofs.Executable.Locality.{From, same-value, same-spelling, from-down, from-failed, from-got, from-then, from-made, from-past, from-test, from-look, from-need, is-same, means-same, there}
 use Rattle.language.proofs.Grammar.Entries.{every}
 use Rattle.language.proofs.Grammar.FirstTokens.{grows}
@@ -19,6 +19,7 @@ abbrev pub Inner : Goal → Type 0
 Inner (read s) = Unit {0}
 Inner (rest l e) = Unit {0}
 Inner (refs t) = Unit {0}
+Inner clause = Unit {0}
 Inner (until k) = Unit {0}
 Inner closed = Unit {0}
 Inner result = Unit {0}
@@ -40,8 +41,9 @@ sym-level formals = 2
 sym-level params = 1
 sym-level type = 1
 sym-level seq = 10
+sym-level tail = 10
 sym-level bound = 1
-sym-level item = 9
+sym-level item = 10
 sym-level assign = 8
 sym-level (tier t) = tier-level t
 sym-level atom = 1
@@ -52,6 +54,7 @@ abbrev pub level : Goal → ℕ
 level (read s) = sym-level s
 level (rest l e) = 1
 level (refs t) = 1
+level clause = 9
 level (until k) = 11
 level closed = 12
 level result = 1
@@ -121,14 +124,14 @@ module _ (ts us : List Token) where
         (λ t a. from-down (omega arith) (ih (refs t) tt (i + 1) (omega (arith, in-table ts i basics tt a)) (omega arith)))
         λ _. from-failed (omega arith)
     step-agrees (read seq) u i l f =
-        from-test _ _ _ _ _ (is-same i LET) (λ a. ih (read bound) tt i l (omega arith)) λ _.
-        from-then _ _ _ (ih (read item) tt i l (omega arith)) λ e m d.
-        let p = right ts h (read item) i d in
+        from-then _ _ _ (ih clause tt i l (omega arith)) λ e m d.
+        let p = clause-seq ts (right ts h clause i d) in
         from-test _ _ _ _ _ (is-same m SEMI)
         (λ a.
         from-down (omega arith) (from-made _ _ _
         (ih (read seq) tt (m + 1) (there ts m SEMI a (omega arith)) (omega (arith, grows ts p))) λ x j n z. refl))
         λ _. from-got (omega arith) λ z. refl
+    step-agrees (read tail) u i l f = ih clause tt i l (omega arith)
     step-agrees (read bound) u i l f =
         from-need _ i _ _ (is-same i LET) λ a.
         from-down (omega arith) (from-need _ (i + 1) _ _ (is-same (i + 1) NAME) λ b.
@@ -140,29 +143,7 @@ module _ (ts us : List Token) where
         from-down (omega arith) (from-made _ _ _
         (ih (read seq) tt (m + 1) (omega (arith, inside ts m (p .1) (omega arith))) (omega arith)) λ x j n z.
         ap (λ (s : List ℕ). bind i s e x) (same-spelling z (i + 1) (omega arith))))))
-    step-agrees (read item) u i l f =
-        from-test _ _ _ _ _ (is-same i IF)
-        (λ a.
-        from-down {j = i + 1} (omega arith) (from-then _ _ _
-        (ih (until THEN) tt (i + 1) (there ts i IF a (omega arith)) (omega arith)) λ c m d.
-        let p = right ts h (until THEN) (i + 1) d in
-        let x = grows ts (p .0) in
-        from-down {j = m + 1} (omega arith) (from-then _ _ _
-        (ih (until ELSE) tt (m + 1) (omega (arith, inside ts m (p .1) (omega arith))) (omega arith)) λ e k b.
-        let q = right ts h (until ELSE) (m + 1) b in
-        let y = grows ts (q .0) in
-        from-down (omega arith) (from-made _ _ _
-        (ih (read item) tt (k + 1) (omega (arith, inside ts k (q .1) (omega arith))) (omega arith)) λ x j n z. refl))))
-        λ _.
-        from-test _ _ _ _ _ (is-same i WHILE)
-        (λ a.
-        from-down {j = i + 1} (omega arith) (from-then _ _ _
-        (ih (until LBRACE) tt (i + 1) (there ts i WHILE a (omega arith)) (omega arith)) λ c m d.
-        let p = right ts h (until LBRACE) (i + 1) d in
-        let x = grows ts (p .0) in
-        from-down (omega arith) (from-past _ _ _
-        (ih (until RBRACE) tt (m + 1) (omega (arith, inside ts m (p .1) (omega arith))) (omega arith)) λ x j n z. refl)))
-        λ _. ih (read assign) tt i l (omega arith)
+    step-agrees (read item) u i l f = ih clause tt i l (omega arith)
     step-agrees (read assign) u i l f =
         from-then _ _ _ (ih (read (tier (chain or))) tt i l (omega arith)) λ e m d.
         let p = right ts h (read (tier (chain or))) i d in
@@ -212,7 +193,7 @@ module _ (ts us : List Token) where
         from-test _ _ _ _ _ (is-same i RPAR) (λ a. from-got (omega arith) λ z. refl) λ _. ih closed tt i l (omega arith)
     step-agrees (read args) u i l f =
         from-then _ _ _ (ih (read seq) tt i l (omega arith)) λ e m d.
-        let p = right ts h (read seq) i d in
+        let p = right ts h (read seq) i d .0 in
         from-test _ _ _ _ _ (is-same m COMMA)
         (λ a.
         from-down (omega arith) (from-made _ _ _
@@ -230,6 +211,30 @@ module _ (ts us : List Token) where
         from-test _ _ _ _ _ (is-same i REF)
         (λ a. from-down (omega arith) (ih (refs (ref t)) tt (i + 1) (there ts i REF a (omega arith)) (omega arith)))
         λ _. from-got (omega arith) λ z. refl
+    step-agrees clause u i l f =
+        from-test _ _ _ _ _ (is-same i LET) (λ a. ih (read bound) tt i l (omega arith)) λ _.
+        from-test _ _ _ _ _ (is-same i IF)
+        (λ a.
+        from-down {j = i + 1} (omega arith) (from-then _ _ _
+        (ih (until THEN) tt (i + 1) (there ts i IF a (omega arith)) (omega arith)) λ c m d.
+        let p = right ts h (until THEN) (i + 1) d in
+        let x = grows ts (p .0) in
+        from-down {j = m + 1} (omega arith) (from-then _ _ _
+        (ih (until ELSE) tt (m + 1) (omega (arith, inside ts m (p .1) (omega arith))) (omega arith)) λ e k b.
+        let q = right ts h (until ELSE) (m + 1) b in
+        let y = grows ts (q .0) in
+        from-down (omega arith) (from-made _ _ _
+        (ih clause tt (k + 1) (omega (arith, inside ts k (q .1) (omega arith))) (omega arith)) λ x j n z. refl))))
+        λ _.
+        from-test _ _ _ _ _ (is-same i WHILE)
+        (λ a.
+        from-down {j = i + 1} (omega arith) (from-then _ _ _
+        (ih (until LBRACE) tt (i + 1) (there ts i WHILE a (omega arith)) (omega arith)) λ c m d.
+        let p = right ts h (until LBRACE) (i + 1) d in
+        let x = grows ts (p .0) in
+        from-down (omega arith) (from-past _ _ _
+        (ih (until RBRACE) tt (m + 1) (omega (arith, inside ts m (p .1) (omega arith))) (omega arith)) λ x j n z. refl)))
+        λ _. ih (read assign) tt i l (omega arith)
     step-agrees (until k) u i l f =
         from-then _ _ _ (ih (read seq) tt i l (omega arith)) λ e m d.
         from-need _ m _ _ (is-same m k) λ a.

@@ -3,11 +3,11 @@ use mathlib.Core.List.{List}
 use Prim.Native.Nat.{ℕ, zero, suc, _≤_}
 use lib.ListN.{length}
 use Rattle.language.specs.Tokens.{Token}
-use Rattle.language.specs.Grammar.{cmp, un, chain, tier, program, def, formals, params, type, seq, bound, item, assign, atom, actuals, args}
-use Rattle.language.proofs.Executable.Parser.{Goal, read, rest, refs, until, closed, result, entire, step, parse}
+use Rattle.language.specs.Grammar.{cmp, un, chain, tier, program, def, formals, params, type, seq, tail, bound, item, assign, atom, actuals, args}
+use Rattle.language.proofs.Executable.Parser.{Goal, read, rest, refs, clause, until, closed, result, entire, step, parse}
 use Rattle.language.proofs.Executable.Failing.{Fails, fails, Stop, Able, anew}
 use Rattle.language.proofs.Executable.FailingPrograms.{at-program, at-def, at-formals, at-params, at-type, at-refs, at-result, at-entire}
-use Rattle.language.proofs.Executable.FailingExpressions.{at-seq, at-bound, at-item, at-assign, at-chain, at-cmp, at-un, at-rest, at-until}
+use Rattle.language.proofs.Executable.FailingExpressions.{at-seq, at-tail, at-bound, at-item, at-clause, at-assign, at-chain, at-cmp, at-un, at-rest, at-until}
 use Rattle.language.proofs.Executable.FailingAtoms.{at-atom, at-actuals, at-args, at-closed}
 
 module _ (ts : List Token) where
@@ -21,6 +21,7 @@ module _ (ts : List Token) where
   step-able h ih result i l = at-result ts h ih i l
   step-able h ih entire i l = at-entire ts h ih i l
   step-able h ih (read seq) i l = at-seq ts h ih i l
+  step-able h ih (read tail) i l = at-tail ts h ih i l
   step-able h ih (read bound) i l = at-bound ts h ih i l
   step-able h ih (read item) i l = at-item ts h ih i l
   step-able h ih (read assign) i l = at-assign ts h ih i l
@@ -28,6 +29,7 @@ module _ (ts : List Token) where
   step-able h ih (read (tier cmp)) i l = at-cmp ts h ih i l
   step-able h ih (read (tier un)) i l = at-un ts h ih i l
   step-able h ih (rest v e) i l = at-rest ts h ih v e i l
+  step-able h ih clause i l = at-clause ts h ih i l
   step-able h ih (until c) i l = at-until ts h ih c i l
   step-able h ih (read atom) i l = at-atom ts h ih i l
   step-able h ih (read actuals) i l = at-actuals ts h ih i l

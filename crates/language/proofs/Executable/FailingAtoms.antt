@@ -56,7 +56,7 @@ module _ (ts : List Token) (h : ℕ) (ih : Able ts h) where
   at-args i l =
       fails-then _ (ih (read seq) i l) (λ k s. last ts (read args) i s (omega arith) λ us j z p. (_, args-one (p .1)))
       λ e m d.
-      let p = right ts h (read seq) i d in
+      let p = right ts h (read seq) i d .0 in
       let x = grows ts p in
       fails-test _ _ _
       (λ a.

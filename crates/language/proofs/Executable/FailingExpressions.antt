@@ -5,34 +5,33 @@ use native.Mathlib.Omega.{arith}
 use lib.ListN.{length}
 use Rattle.language.specs.Tokens.{Token, NAME, NUMBER, LET, IN, WHILE, IF, THEN, ELSE, BECOMES, IS, SEMI, LBRACE, RBRACE}
 use Rattle.language.specs.Trees.{Exp, binary}
-use Rattle.language.specs.Grammar.{Level, or, sum, cmp, un, chain, tier, seq, bound, item, assign, atom, part, operators, comparisons, prefixes, seq-let, seq-item, seq-more, item-assign, assign-one, assign-to, chain-one, chain-more, cmp-one, cmp-two, un-prefix, un-atom}
+use Rattle.language.specs.Grammar.{Level, or, sum, cmp, un, chain, tier, seq, tail, bound, item, assign, atom, part, operators, comparisons, prefixes, seq-more, assign-one, assign-to, chain-one, chain-more, cmp-one, cmp-two, un-prefix, un-atom}
 use Rattle.language.proofs.Grammar.Entries.{every}
 use Rattle.language.proofs.Grammar.FirstTokens.{grows}
 use Rattle.language.proofs.Grammar.Prefixes.{inside, in-table, operator-there, within, kept-at, kept-means, kept}
-use Rattle.language.proofs.Executable.Parser.{read, rest, until, step, parse}
-use Rattle.language.proofs.Executable.ParserSound.{right, at}
+use Rattle.language.proofs.Executable.Parser.{read, rest, clause, until, step, parse}
+use Rattle.language.proofs.Executable.ParserSound.{right, at, clause-seq, clause-item}
 use Rattle.language.proofs.Executable.Locality.{there}
-use Rattle.language.proofs.Executable.Fresh.{split, ended, to-let, to-if, to-while, close, fresh-until, fresh-is, fresh-let, fresh-fits}
+use Rattle.language.proofs.Executable.Fresh as Fresh
+use Rattle.language.proofs.Executable.Fresh.{split, ended, to-let, clause-let, clause-assign, to-if, to-while, close, fresh-until, fresh-is, fresh-let, fresh-fits}
 use Rattle.language.proofs.Executable.Failing.{Fails, fine, fails-same, fails-made, fails-past, fails-then, fails-test, fails-look, fails-need, Stop, Able, stop, anew, last, more}
 
 module _ (ts : List Token) (h : ℕ) (ih : Able ts h) where
   pub at-seq : (i : ℕ) → i ≤ length ts → Fails (Stop ts (read seq) i) (step ts (parse ts h) (read seq) i)
   unfolding step every
   at-seq i l =
-      fails-test _ _ _
-      (λ _. fails-same (ih (read bound) i l) λ k s. last ts (read seq) i s (omega arith) λ us j z p. (_, seq-let (p .1)))
-      λ _.
-      fails-then _ (ih (read item) i l) (λ k s. last ts (read seq) i s (omega arith) λ us j z p. (_, seq-item (p .1)))
+      fails-then _ (ih clause i l) (λ k s. last ts (read seq) i s (omega arith) λ us j z p. Fresh.clause-seq us p)
       λ e m d.
-      let p = right ts h (read item) i d in
-      let x = grows ts p in
+      let p = right ts h clause i d in
+      let x = grows ts (clause-seq ts p) in
       fails-test _ _ _
       (λ a.
       fails-made _ (ih (read seq) (m + 1) (there ts m SEMI a (omega arith)))
       λ k s.
       let o = s .after in
+      let b = at ts m SEMI a in
       last ts (read seq) i s (omega arith) λ us j z q.
-      (_, seq-more (kept z p (omega arith) .1) (kept-at z m (at ts m SEMI a) (omega arith)) (q .1)))
+      (_, seq-more (kept z (clause-item ts p b) (omega arith) .1) (kept-at z m b (omega arith)) (q .1)))
       λ _. fine
 
   pub at-bound : (i : ℕ) → i ≤ length ts → Fails (Stop ts (read bound) i) (step ts (parse ts h) (read bound) i)
@@ -70,9 +69,11 @@ module _ (ts : List Token) (h : ℕ) (ih : Able ts h) where
       to-let us (kept-at z i a (omega arith)) (kept-at z (i + 1) b (omega arith)) (kept-at z (i + 2) c (omega arith))
       (ended (kept z (p .0) (omega arith)) (kept-at z m (p .1) (omega arith))) q
 
-  pub at-item : (i : ℕ) → i ≤ length ts → Fails (Stop ts (read item) i) (step ts (parse ts h) (read item) i)
+  pub at-clause : (i : ℕ) → i ≤ length ts → Fails (Stop ts clause i) (step ts (parse ts h) clause i)
   unfolding step every
-  at-item i l =
+  at-clause i l =
+      fails-test _ _ _ (λ _. fails-same (ih (read bound) i l) λ k s. last ts clause i s (omega arith) λ us j z p. clause-let us p)
+      λ _.
       fails-test _ _ _
       (λ d.
       let a = at ts i IF d in
@@ -80,25 +81,25 @@ module _ (ts : List Token) (h : ℕ) (ih : Able ts h) where
       fails-then _ (ih (until THEN) (i + 1) a′)
       (λ k s.
       let o = s .after in
-      more ts (read item) i (NUMBER ∷ ELSE ∷ NUMBER ∷ []) s (omega arith) λ us n j z p t.
+      more ts clause i (NUMBER ∷ ELSE ∷ NUMBER ∷ []) s (omega arith) λ us n j z p t.
       let y = split (NUMBER ∷ ELSE ∷ []) (NUMBER ∷ []) t in
-      to-if us (kept-at z i a (omega arith)) p (fresh-until us ELSE (y .1)) (fresh-fits us (read item) (y .2)))
+      to-if us (kept-at z i a (omega arith)) p (fresh-until us ELSE (y .1)) (fresh-fits us clause (y .2)))
       λ c m u.
       let p = right ts h (until THEN) (i + 1) u in
       let x = grows ts (p .0) in
       fails-then _ (ih (until ELSE) (m + 1) (omega (arith, inside ts m (p .1) (omega arith))))
       (λ k s.
       let o = s .after in
-      more ts (read item) i (NUMBER ∷ []) s (omega arith) λ us n j z q t.
+      more ts clause i (NUMBER ∷ []) s (omega arith) λ us n j z q t.
       to-if us (kept-at z i a (omega arith)) (ended (kept z (p .0) (omega arith)) (kept-at z m (p .1) (omega arith))) q
-      (fresh-fits us (read item) t))
+      (fresh-fits us clause t))
       λ e k v.
       let q = right ts h (until ELSE) (m + 1) v in
       let y = grows ts (q .0) in
-      fails-made _ (ih (read item) (k + 1) (omega (arith, inside ts k (q .1) (omega arith))))
+      fails-made _ (ih clause (k + 1) (omega (arith, inside ts k (q .1) (omega arith))))
       λ n s.
       let o = s .after in
-      last ts (read item) i s (omega arith) λ us j z w.
+      last ts clause i s (omega arith) λ us j z w.
       to-if us (kept-at z i a (omega arith)) (ended (kept z (p .0) (omega arith)) (kept-at z m (p .1) (omega arith)))
       (ended (kept z (q .0) (omega arith)) (kept-at z k (q .1) (omega arith))) w)
       λ _.
@@ -109,7 +110,7 @@ module _ (ts : List Token) (h : ℕ) (ih : Able ts h) where
       fails-then _ (ih (until LBRACE) (i + 1) a′)
       (λ k s.
       let o = s .after in
-      more ts (read item) i (NUMBER ∷ RBRACE ∷ []) s (omega arith) λ us n j z p t.
+      more ts clause i (NUMBER ∷ RBRACE ∷ []) s (omega arith) λ us n j z p t.
       to-while us (kept-at z i a (omega arith)) p (fresh-until us RBRACE t))
       λ c m u.
       let p = right ts h (until LBRACE) (i + 1) u in
@@ -117,10 +118,18 @@ module _ (ts : List Token) (h : ℕ) (ih : Able ts h) where
       fails-past _ (ih (until RBRACE) (m + 1) (omega (arith, inside ts m (p .1) (omega arith))))
       λ k s.
       let o = s .after in
-      last ts (read item) i s (omega arith) λ us j z q.
+      last ts clause i s (omega arith) λ us j z q.
       to-while us (kept-at z i a (omega arith)) (ended (kept z (p .0) (omega arith)) (kept-at z m (p .1) (omega arith))) q)
       λ _.
-      fails-same (ih (read assign) i l) λ k s. last ts (read item) i s (omega arith) λ us j z p. (_, item-assign (p .1))
+      fails-same (ih (read assign) i l) λ k s. last ts clause i s (omega arith) λ us j z p. clause-assign us p
+
+  pub at-tail : (i : ℕ) → i ≤ length ts → Fails (Stop ts (read tail) i) (step ts (parse ts h) (read tail) i)
+  unfolding step
+  at-tail i l = fails-same (ih clause i l) λ k s. last ts (read tail) i s (omega arith) λ us j z p. p
+
+  pub at-item : (i : ℕ) → i ≤ length ts → Fails (Stop ts (read item) i) (step ts (parse ts h) (read item) i)
+  unfolding step
+  at-item i l = fails-same (ih clause i l) λ k s. last ts (read item) i s (omega arith) λ us j z p. p
 
   pub at-assign : (i : ℕ) → i ≤ length ts → Fails (Stop ts (read assign) i) (step ts (parse ts h) (read assign) i)
   unfolding step every
@@ -204,7 +213,7 @@ module _ (ts : List Token) (h : ℕ) (ih : Able ts h) where
   at-until c i l =
       fails-then _ (ih (read seq) i l) (λ k s. more ts (until c) i (c ∷ []) s (omega arith) λ us n j z p t. close us p t)
       λ e m d.
-      let p = right ts h (read seq) i d in
+      let p = right ts h (read seq) i d .0 in
       let x = grows ts p in
       fails-need _ m _ (λ _. stop ts (until c) i m (c ∷ []) (omega arith) (within ts p) λ us j z t. close us (kept z p (omega arith)) t) λ _.
       fine

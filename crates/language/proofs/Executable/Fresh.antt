@@ -5,8 +5,8 @@ use Prim.Native.Nat.{ℕ, _+_}
 use native.Mathlib.Omega.{arith}
 use Rattle.language.specs.Tokens.{Token, At, entry, NAME, NUMBER, DEF, LET, IN, WHILE, IF, THEN, ELSE, INT, IS, COLON, LPAR, RPAR, LBRACE, RBRACE}
 use Rattle.language.specs.Trees.{Exp, int}
-use Rattle.language.specs.Grammar.{Tier, cmp, un, chain, or, and, sum, prod, Sym, tier, program, def, formals, params, type, seq, bound, item, assign, atom, actuals, args, Reads, program-seq, def-is, formals-none, formals-some, params-one, type-basic, seq-item, let-in, item-if, item-while, item-assign, assign-one, chain-one, cmp-one, un-atom, atom-number, atom-group, atom-block, actuals-none, actuals-some, args-one}
-use Rattle.language.proofs.Executable.Parser.{Goal, read, rest, refs, until, closed, result, entire}
+use Rattle.language.specs.Grammar.{Tier, cmp, un, chain, or, and, sum, prod, Sym, tier, program, def, formals, params, type, seq, tail, bound, item, assign, atom, actuals, args, Reads, program-seq, def-is, formals-none, formals-some, params-one, type-basic, seq-tail, seq-item, tail-let, tail-if, let-in, item-if, item-while, item-assign, assign-one, chain-one, cmp-one, un-atom, atom-number, atom-group, atom-block, actuals-none, actuals-some, args-one}
+use Rattle.language.proofs.Executable.Parser.{Goal, read, rest, refs, clause, until, closed, result, entire}
 use Rattle.language.proofs.Grammar.Prefixes.{Spans}
 
 -- ---- tokens by their kinds
@@ -28,15 +28,15 @@ module _ {us : List Token} where
   pub head : {i j k : ℕ} {ks : List ℕ} → Stand us i (k ∷ ks) j → At us i k
   head (stand-next a s) = a
 
-  pub tail : {i j k : ℕ} {ks : List ℕ} → Stand us i (k ∷ ks) j → Stand us (i + 1) ks j
-  tail (stand-next a s) = s
+  pub others : {i j k : ℕ} {ks : List ℕ} → Stand us i (k ∷ ks) j → Stand us (i + 1) ks j
+  others (stand-next a s) = s
 
   -- the one behind
   pub second : (i : ℕ) {j k : ℕ} {ks : List ℕ} → Stand us (i + 1) (k ∷ ks) j → Stand us (i + 2) ks j
-  second i s = stand-from (omega arith) (tail s)
+  second i s = stand-from (omega arith) (others s)
 
   pub third : (i : ℕ) {j k : ℕ} {ks : List ℕ} → Stand us (i + 2) (k ∷ ks) j → Stand us (i + 3) ks j
-  third i s = stand-from (omega arith) (tail s)
+  third i s = stand-from (omega arith) (others s)
 
 -- ---- what a goal asks for, whatever it is read as
 
@@ -45,10 +45,29 @@ module _ (us : List Token) where
   pub data Ended (s : Sym) (k : ℕ) : ℕ → ℕ → Type 0 where
     ended : {i m : ℕ} → Spans us s i m → At us m k → Ended s k i (m + 1)
 
+  -- a Tail or an Item
+  pub data Clause (i j : ℕ) : Type 0 where
+    as-tail : Spans us tail i j → Clause i j
+    as-item : Spans us item i j → Clause i j
+
   abbrev pub Fit : Goal → ℕ → ℕ → Type 0
-  Fit (read s) i j = Spans us s i j
+  Fit (read program) i j = Spans us program i j
+  Fit (read def) i j = Spans us def i j
+  Fit (read formals) i j = Spans us formals i j
+  Fit (read params) i j = Spans us params i j
+  Fit (read type) i j = Spans us type i j
+  Fit (read seq) i j = Spans us seq i j
+  Fit (read tail) i j = Clause i j
+  Fit (read bound) i j = Spans us bound i j
+  Fit (read item) i j = Clause i j
+  Fit (read assign) i j = Spans us assign i j
+  Fit (read (tier t)) i j = Spans us (tier t) i j
+  Fit (read atom) i j = Spans us atom i j
+  Fit (read actuals) i j = Spans us actuals i j
+  Fit (read args) i j = Spans us args i j
   Fit (rest l e) i j = (h : ℕ) → Spans us (tier (chain l)) h i → Spans us (tier (chain l)) h j
   Fit (refs t) i j = (h : ℕ) → Spans us type h i → Spans us type h j
+  Fit clause i j = Clause i j
   Fit (until k) i j = Ended seq k i j
   Fit closed i j = Spans us actuals i j
   Fit result i j = At us i COLON × Ended type LBRACE (i + 1) j
@@ -64,11 +83,22 @@ module _ (us : List Token) where
       → Spans us bound i j
   to-let a b c (ended p d) q = (_, let-in a b c (p .1) d (q .1))
 
-  pub to-if : {i m k j : ℕ} → At us i IF → Ended seq THEN (i + 1) m → Ended seq ELSE m k → Spans us item k j → Spans us item i j
-  to-if a (ended p b) (ended q c) r = (_, item-if a (p .1) b (q .1) c (r .1))
+  pub clause-let : {i j : ℕ} → Spans us bound i j → Clause i j
+  clause-let p = as-tail (_, tail-let (p .1))
 
-  pub to-while : {i m j : ℕ} → At us i WHILE → Ended seq LBRACE (i + 1) m → Ended seq RBRACE m j → Spans us item i j
-  to-while a (ended p b) (ended q c) = (_, item-while a (p .1) b (q .1) c)
+  pub clause-assign : {i j : ℕ} → Spans us assign i j → Clause i j
+  clause-assign p = as-item (_, item-assign (p .1))
+
+  pub clause-seq : {i j : ℕ} → Clause i j → Spans us seq i j
+  clause-seq (as-tail p) = (_, seq-tail (p .1))
+  clause-seq (as-item p) = (_, seq-item (p .1))
+
+  pub to-if : {i m k j : ℕ} → At us i IF → Ended seq THEN (i + 1) m → Ended seq ELSE m k → Clause k j → Clause i j
+  to-if a (ended p b) (ended q c) (as-tail r) = as-tail (_, tail-if a (p .1) b (q .1) c (r .1))
+  to-if a (ended p b) (ended q c) (as-item r) = as-item (_, item-if a (p .1) b (q .1) c (r .1))
+
+  pub to-while : {i m j : ℕ} → At us i WHILE → Ended seq LBRACE (i + 1) m → Ended seq RBRACE m j → Clause i j
+  to-while a (ended p b) (ended q c) = as-item (_, item-while a (p .1) b (q .1) c)
 
   pub to-group : {i j : ℕ} → At us i LPAR → Ended seq RPAR (i + 1) j → Spans us atom i j
   to-group a (ended p b) = (_, atom-group a (p .1) b)
@@ -120,6 +150,7 @@ fresh-of formals = RPAR ∷ []
 fresh-of params = NAME ∷ COLON ∷ INT ∷ []
 fresh-of type = INT ∷ []
 fresh-of seq = NUMBER ∷ []
+fresh-of tail = NUMBER ∷ []
 fresh-of bound = LET ∷ NAME ∷ IS ∷ NUMBER ∷ IN ∷ NUMBER ∷ []
 fresh-of item = NUMBER ∷ []
 fresh-of assign = NUMBER ∷ []
@@ -132,6 +163,7 @@ abbrev pub fresh : Goal → List ℕ
 fresh (read s) = fresh-of s
 fresh (rest l e) = []
 fresh (refs t) = []
+fresh clause = NUMBER ∷ []
 fresh (until k) = NUMBER ∷ k ∷ []
 fresh closed = NUMBER ∷ RPAR ∷ []
 fresh result = COLON ∷ INT ∷ LBRACE ∷ []
@@ -142,7 +174,7 @@ module _ (us : List Token) where
   fresh-until k s = let r = split (NUMBER ∷ []) (k ∷ []) s in close us (a-seq us (r .1)) (r .2)
 
   pub fresh-result : {i j : ℕ} → Stand us i (COLON ∷ INT ∷ LBRACE ∷ []) j → At us i COLON × Ended us type LBRACE (i + 1) j
-  fresh-result s = let r = split (INT ∷ []) (LBRACE ∷ []) (tail s) in (head s, close us (a-type us (r .1)) (r .2))
+  fresh-result s = let r = split (INT ∷ []) (LBRACE ∷ []) (others s) in (head s, close us (a-type us (r .1)) (r .2))
 
   -- what stands behind `def`, a name and `(`
   pub fresh-body : (i : ℕ) {m j : ℕ} → At us i DEF → At us (i + 1) NAME → At us (i + 2) LPAR → Spans us formals (i + 3) m
@@ -157,7 +189,7 @@ module _ (us : List Token) where
       → Stand us (i + 2) (LPAR ∷ RPAR ∷ COLON ∷ INT ∷ LBRACE ∷ NUMBER ∷ RBRACE ∷ []) j → Spans us def i j
   fresh-open i a b s =
       let r = third i s in
-      fresh-body i a b (head s) (_, formals-none (head r)) (tail r)
+      fresh-body i a b (head s) (_, formals-none (head r)) (others r)
 
   pub fresh-name : (i : ℕ) {j : ℕ} → At us i DEF
       → Stand us (i + 1) (NAME ∷ LPAR ∷ RPAR ∷ COLON ∷ INT ∷ LBRACE ∷ NUMBER ∷ RBRACE ∷ []) j → Spans us def i j
@@ -179,15 +211,19 @@ module _ (us : List Token) where
   pub fresh-colon : (i : ℕ) {j : ℕ} → At us i NAME → Stand us (i + 1) (COLON ∷ INT ∷ []) j → Spans us params i j
   fresh-colon i a s = (_, params-one a (head s) (a-type us (second i s) .1))
 
-  fresh-sym : (s : Sym) {i j : ℕ} → Stand us i (fresh-of s) j → Spans us s i j
+  a-clause : {i j : ℕ} → Stand us i (NUMBER ∷ []) j → Clause us i j
+  a-clause s = as-item (_, number-item us (number us s .1))
+
+  fresh-sym : (s : Sym) {i j : ℕ} → Stand us i (fresh-of s) j → Fit us (read s) i j
   fresh-sym program s = (_, program-seq (a-seq us s .1))
-  fresh-sym def {i} s = fresh-name i (head s) (tail s)
+  fresh-sym def {i} s = fresh-name i (head s) (others s)
   fresh-sym formals (stand-next a stand-end) = (_, formals-none a)
-  fresh-sym params {i} s = fresh-colon i (head s) (tail s)
+  fresh-sym params {i} s = fresh-colon i (head s) (others s)
   fresh-sym type s = a-type us s
   fresh-sym seq s = a-seq us s
-  fresh-sym bound {i} s = fresh-let i (head s) (tail s)
-  fresh-sym item s = (_, number-item us (number us s .1))
+  fresh-sym tail s = a-clause s
+  fresh-sym bound {i} s = fresh-let i (head s) (others s)
+  fresh-sym item s = a-clause s
   fresh-sym assign s = (_, assign-one (by-tier us (chain or) (number us s .1)))
   fresh-sym (tier t) s = (_, by-tier us t (number us s .1))
   fresh-sym atom s = number us s
@@ -199,6 +235,7 @@ module _ (us : List Token) where
   fresh-fits (read s) t = fresh-sym s t
   fresh-fits (rest l e) stand-end = λ h p. p
   fresh-fits (refs u) stand-end = λ h p. p
+  fresh-fits clause s = a-clause s
   fresh-fits (until k) s = fresh-until k s
   fresh-fits closed s = let r = split (NUMBER ∷ []) (RPAR ∷ []) s in close-actuals us (close us (_, args-one (a-seq us (r .1) .1)) (r .2))
   fresh-fits result s = fresh-result s

@@ -8,7 +8,7 @@ use lib.ListN.{length}
 use lib.Dec.{eqb}
 use Rattle.language.specs.Tokens.{Token, Entry, kind-at, value-at, spelling-at, entry, NAME, NUMBER, DEF, LET, IN, WHILE, IF, THEN, ELSE, REF, BECOMES, IS, SEMI, COMMA, COLON, LPAR, RPAR, LBRACE, RBRACE}
 use Rattle.language.specs.Trees.{Ty, ref, whole, Binary, Exp, name, literal, unary, binary, follow, group, block, call, bind, branch, loop, Exps, last, more, Program}
-use Rattle.language.specs.Grammar.{Level, or, sum, cmp, un, chain, Sym, Of, tier, program, def, formals, params, type, seq, bound, item, assign, atom, actuals, args, part, operators, comparisons, prefixes, constants, basics, param, define, before}
+use Rattle.language.specs.Grammar.{Level, or, sum, cmp, un, chain, Sym, Of, tier, program, def, formals, params, type, seq, tail, bound, item, assign, atom, actuals, args, part, operators, comparisons, prefixes, constants, basics, param, define, before}
 use Rattle.language.proofs.Executable.Parses.{Result, failed, got, made, made-past, then, test, look, need}
 
 -- what a step can ask for
@@ -18,6 +18,8 @@ pub data Goal : Type 0 where
   -- the rest of a level, with an expression to the left of the next operator; the rest of a type
   rest : Level → Exp → Goal
   refs : Ty → Goal
+  -- what a Seq begins with, a Tail or an Item: which of them it is only its end tells, so both are looked for so
+  clause : Goal
   -- a Seq and a token of this kind behind it, at which it stops
   until : ℕ → Goal
   -- Args and `)`
@@ -32,6 +34,7 @@ abbrev pub Answer : Goal → Type 0
 Answer (read s) = Of s
 Answer (rest l e) = Exp
 Answer (refs t) = Ty
+Answer clause = Exp
 Answer (until k) = Exp
 Answer closed = Exps
 Answer result = Ty
@@ -71,25 +74,17 @@ module _ (ts : List Token) where
       got (param ts i t ∷ []) m
   step r (read type) i = look (means i basics) (λ t. r (refs t) (i + 1)) λ _. failed i
   step r (read seq) i =
-      test (is i LET) (λ _. r (read bound) i) λ _.
-      then (r (read item) i) λ e m.
+      then (r clause i) λ e m.
       test (is m SEMI) (λ _. made (r (read seq) (m + 1)) (follow m e)) λ _.
       got e m
+  step r (read tail) i = r clause i
   step r (read bound) i =
       need (is i LET) i λ _.
       need (is (i + 1) NAME) (i + 1) λ _.
       need (is (i + 2) IS) (i + 2) λ _.
       then (r (until IN) (i + 3)) λ e m.
       made (r (read seq) (m + 1)) (bind i (spelling-at ts (i + 1)) e)
-  step r (read item) i =
-      test (is i IF) (λ _.
-      then (r (until THEN) (i + 1)) λ c m.
-      then (r (until ELSE) (m + 1)) λ e k.
-      made (r (read item) (k + 1)) (branch i c e)) λ _.
-      test (is i WHILE) (λ _.
-      then (r (until LBRACE) (i + 1)) λ c m.
-      made-past (r (until RBRACE) (m + 1)) λ e. loop i c (block m e)) λ _.
-      r (read assign) i
+  step r (read item) i = r clause i
   step r (read assign) i =
       then (r (read (tier (chain or))) i) λ e m.
       test (is m BECOMES) (λ _. made (r (read (tier (chain or))) (m + 1)) (binary m Binary.assign e)) λ _.
@@ -118,6 +113,16 @@ module _ (ts : List Token) where
       look (means m (operators l)) (λ o. then (r (read (tier (part l))) (m + 1)) λ f j. r (rest l (binary m o e f)) j) λ _.
       got e m
   step r (refs t) m = test (is m REF) (λ _. r (refs (ref t)) (m + 1)) λ _. got t m
+  step r clause i =
+      test (is i LET) (λ _. r (read bound) i) λ _.
+      test (is i IF) (λ _.
+      then (r (until THEN) (i + 1)) λ c m.
+      then (r (until ELSE) (m + 1)) λ e k.
+      made (r clause (k + 1)) (branch i c e)) λ _.
+      test (is i WHILE) (λ _.
+      then (r (until LBRACE) (i + 1)) λ c m.
+      made-past (r (until RBRACE) (m + 1)) λ e. loop i c (block m e)) λ _.
+      r (read assign) i
   step r (until k) i =
       then (r (read seq) i) λ e m.
       need (is m k) m λ _.

@@ -4,20 +4,56 @@ use mathlib.Core.Bool.{true}
 use mathlib.Core.List.{List}
 use Prim.Native.Nat.{ℕ, zero, suc, _+_}
 use lib.ListN.{length}
-use borrow.Author.Tests.{eqb-true}
-use Rattle.language.specs.Tokens.{Token, At, kind-at, IN, THEN, ELSE, COLON, RPAR, LBRACE, RBRACE}
-use Rattle.language.specs.Trees.{ref, binary, Program}
-use Rattle.language.specs.Grammar.{cmp, un, tier, or, sum, program, def, formals, params, type, seq, bound, item, assign, atom, actuals, args, chain, part, Reads, program-seq, program-def, def-is, formals-none, formals-some, params-one, params-more, type-basic, type-ref, seq-let, seq-item, seq-more, let-in, item-if, item-while, item-assign, assign-one, assign-to, chain-one, cmp-one, cmp-two, un-prefix, un-atom, atom-name, atom-call, atom-number, atom-constant, atom-group, atom-block, actuals-none, actuals-some, args-one, args-more, Reading}
+use borrow.Author.Tests.{eqb-true, eqb-false}
+use Rattle.language.specs.Tokens.{Token, At, kind-at, IN, IF, THEN, ELSE, SEMI, COLON, RPAR, LBRACE, RBRACE}
+use Rattle.language.specs.Trees.{ref, Exp, binary, branch, Program}
+use Rattle.language.specs.Grammar.{cmp, un, tier, or, sum, program, def, formals, params, type, seq, tail, bound, item, assign, atom, actuals, args, chain, part, Reads, program-seq, program-def, def-is, formals-none, formals-some, params-one, params-more, type-basic, type-ref, seq-tail, seq-item, seq-more, tail-let, tail-if, let-in, item-if, item-while, item-assign, assign-one, assign-to, chain-one, cmp-one, cmp-two, un-prefix, un-atom, atom-name, atom-call, atom-number, atom-constant, atom-group, atom-block, actuals-none, actuals-some, args-one, args-more, Reading}
 use Rattle.language.proofs.Grammar.Association.{on-the-left}
 use Rattle.language.proofs.Executable.Parses.{Result, got, All, nothing, this, all-got, all-same, all-made, all-made-past, all-then, all-test, all-look, all-need}
-use Rattle.language.proofs.Executable.Parser.{Goal, Answer, read, rest, refs, until, closed, result, entire, is, step, parse, answer}
+use Rattle.language.proofs.Executable.Parser.{Goal, Answer, read, rest, refs, clause, until, closed, result, entire, is, step, parse, answer}
 
 module _ (ts : List Token) where
+  -- the end of what reaches as far right as it can: no `;` is there, with which it would go on
+  abbrev pub Full : ℕ → Type 0
+  Full j = At ts j SEMI → ⊥
+
+  -- a Tail or an Item; a Tail is full, so that a `;` can only be behind an Item (R05.2)
+  pub data Clause (i : ℕ) (x : Exp) (j : ℕ) : Type 0 where
+    as-tail : Reads ts tail i j x → Full j → Clause i x j
+    as-item : Reads ts item i j x → Clause i x j
+
+  clause-if : {i m k j : ℕ} {c e f : Exp} → At ts i IF → Reads ts seq (i + 1) m c → At ts m THEN → Reads ts seq (m + 1) k e
+      → At ts k ELSE → Clause (k + 1) f j → Clause i (branch i c e f) j
+  clause-if a p b q c (as-tail r full) = as-tail (tail-if a p b q c r) full
+  clause-if a p b q c (as-item r) = as-item (item-if a p b q c r)
+
+  pub clause-seq : {i j : ℕ} {x : Exp} → Clause i x j → Reads ts seq i j x
+  clause-seq (as-tail p full) = seq-tail p
+  clause-seq (as-item p) = seq-item p
+
+  pub clause-item : {i j : ℕ} {x : Exp} → Clause i x j → At ts j SEMI → Reads ts item i j x
+  clause-item (as-tail p full) h = absurd (full h)
+  clause-item (as-item p) h = p
+
   -- x, read from i up to j, is what the goal asks for
   abbrev pub Right : (g : Goal) → ℕ → Answer g → ℕ → Type 0
-  Right (read s) i x j = Reads ts s i j x
+  Right (read program) i x j = Reads ts program i j x
+  Right (read def) i x j = Reads ts def i j x
+  Right (read formals) i x j = Reads ts formals i j x
+  Right (read params) i x j = Reads ts params i j x
+  Right (read type) i x j = Reads ts type i j x
+  Right (read seq) i x j = Reads ts seq i j x × Full j
+  Right (read tail) i x j = Clause i x j
+  Right (read bound) i x j = Reads ts bound i j x × Full j
+  Right (read item) i x j = Clause i x j
+  Right (read assign) i x j = Reads ts assign i j x
+  Right (read atom) i x j = Reads ts atom i j x
+  Right (read actuals) i x j = Reads ts actuals i j x
+  Right (read args) i x j = Reads ts args i j x
+  Right (read (tier l)) i x j = Reads ts (tier l) i j x
   Right (rest l e) i x j = (h : ℕ) → Reads ts (tier (chain l)) h i e → Reads ts (tier (chain l)) h j x
   Right (refs t) i x j = (h : ℕ) → Reads ts type h i t → Reads ts type h j x
+  Right clause i x j = Clause i x j
   Right (until k) i x j = Reads ts seq i j x × At ts j k
   Right closed i x j = Reads ts actuals i j x
   Right result i x j = At ts i COLON × Reads ts type (i + 1) j x × At ts j LBRACE
@@ -32,7 +68,7 @@ module _ (ts : List Token) where
     unfolding step
     step-sound (read program) i =
         all-test _ _ _ (λ _. all-then _ (ok (read def) i) λ d m p. all-made _ (ok (read program) m) λ t j q. program-def p q) λ _.
-        all-made _ (ok (read seq) i) λ e j p. program-seq p
+        all-made _ (ok (read seq) i) λ e j p. program-seq (p .0)
     step-sound (read def) i =
         all-need _ _ _ λ a.
         all-need _ _ _ λ b.
@@ -54,28 +90,19 @@ module _ (ts : List Token) where
         this (params-one (at i _ a) (at (i + 1) _ b) p)
     step-sound (read type) i = all-look _ _ _ (λ t a. all-same (λ u j p. p i (type-basic a)) (ok (refs t) (i + 1))) λ _. nothing
     step-sound (read seq) i =
-        all-test _ _ _ (λ _. all-same (λ e j p. seq-let p) (ok (read bound) i)) λ _.
-        all-then _ (ok (read item) i) λ e m p.
-        all-test _ _ _ (λ h. all-made _ (ok (read seq) (m + 1)) λ f j q. seq-more p (at m _ h) q) λ _.
-        this (seq-item p)
+        all-then _ (ok clause i) λ e m p.
+        all-test _ _ _ (λ h.
+        all-made _ (ok (read seq) (m + 1)) λ f j q. (seq-more (clause-item p (at m _ h)) (at m _ h) (q .0), q .1)) λ h.
+        this (clause-seq p, eqb-false (kind-at ts m) SEMI h)
+    step-sound (read tail) i = ok clause i
     step-sound (read bound) i =
         all-need _ _ _ λ a.
         all-need _ _ _ λ b.
         all-need _ _ _ λ c.
         all-then _ (ok (until IN) (i + 3)) λ e m p.
         all-made _ (ok (read seq) (m + 1)) λ f j q.
-        let-in (at i _ a) (at (i + 1) _ b) (at (i + 2) _ c) (p .0) (p .1) q
-    step-sound (read item) i =
-        all-test _ _ _ (λ a.
-        all-then _ (ok (until THEN) (i + 1)) λ c m p.
-        all-then _ (ok (until ELSE) (m + 1)) λ e k q.
-        all-made _ (ok (read item) (k + 1)) λ f j s.
-        item-if (at i _ a) (p .0) (p .1) (q .0) (q .1) s) λ _.
-        all-test _ _ _ (λ a.
-        all-then _ (ok (until LBRACE) (i + 1)) λ c m p.
-        all-made-past _ (ok (until RBRACE) (m + 1)) λ e k q.
-        item-while (at i _ a) (p .0) (p .1) (q .0) (q .1)) λ _.
-        all-same (λ e j p. item-assign p) (ok (read assign) i)
+        (let-in (at i _ a) (at (i + 1) _ b) (at (i + 2) _ c) (p .0) (p .1) (q .0), q .1)
+    step-sound (read item) i = ok clause i
     step-sound (read assign) i =
         all-then _ (ok (read (tier (chain or))) i) λ e m p.
         all-test _ _ _ (λ h. all-made _ (ok (read (tier (chain or))) (m + 1)) λ f j q. assign-to p (at m _ h) q) λ _.
@@ -102,8 +129,8 @@ module _ (ts : List Token) where
     step-sound (read actuals) i = all-test _ _ _ (λ a. this (actuals-none (at i _ a))) λ _. ok closed i
     step-sound (read args) i =
         all-then _ (ok (read seq) i) λ e m p.
-        all-test _ _ _ (λ h. all-made _ (ok (read args) (m + 1)) λ es j q. args-more p (at m _ h) q) λ _.
-        this (args-one p)
+        all-test _ _ _ (λ h. all-made _ (ok (read args) (m + 1)) λ es j q. args-more (p .0) (at m _ h) q) λ _.
+        this (args-one (p .0))
     step-sound (rest l e) m =
         all-look _ _ _ (λ o h.
         all-then _ (ok (read (tier (part l))) (m + 1)) λ f j q.
@@ -112,10 +139,22 @@ module _ (ts : List Token) where
     step-sound (refs t) m =
         all-test _ _ _ (λ h. all-same (λ v k p. λ n s. p n (type-ref s (at m _ h))) (ok (refs (ref t)) (m + 1))) λ _.
         this (λ n s. s)
+    step-sound clause i =
+        all-test _ _ _ (λ _. all-same (λ e j p. as-tail (tail-let (p .0)) (p .1)) (ok (read bound) i)) λ _.
+        all-test _ _ _ (λ a.
+        all-then _ (ok (until THEN) (i + 1)) λ c m p.
+        all-then _ (ok (until ELSE) (m + 1)) λ e k q.
+        all-made _ (ok clause (k + 1)) λ f j s.
+        clause-if (at i _ a) (p .0) (p .1) (q .0) (q .1) s) λ _.
+        all-test _ _ _ (λ a.
+        all-then _ (ok (until LBRACE) (i + 1)) λ c m p.
+        all-made-past _ (ok (until RBRACE) (m + 1)) λ e k q.
+        as-item (item-while (at i _ a) (p .0) (p .1) (q .0) (q .1))) λ _.
+        all-same (λ e j p. as-item (item-assign p)) (ok (read assign) i)
     step-sound (until k) i =
         all-then _ (ok (read seq) i) λ e m p.
         all-need _ _ _ λ a.
-        this (p, at m _ a)
+        this (p .0, at m _ a)
     step-sound closed i =
         all-then _ (ok (read args) i) λ es k p.
         all-need _ _ _ λ a.

@@ -14,7 +14,8 @@ use Rattle.language.proofs.Executable.Parses.{Result, failed, got, All,
 use Rattle.language.proofs.Executable.Parser.{Goal, Answer, read, entire, is, step, parse}
 use Rattle.language.proofs.Grammar.FirstTokens.{pull, ends}
 use Rattle.language.proofs.Executable.ParserSound.{Right, sound}
-use Rattle.language.proofs.Executable.ParserComplete.{rank, run, found}
+use Rattle.language.proofs.Executable.ParserClaims.{rank, run}
+use Rattle.language.proofs.Executable.ParserComplete.{found}
 use Rattle.language.proofs.Grammar.OneReading.{finds}
 
 -- the answer to g from token i on is r

@@ -9,9 +9,9 @@ use native.Mathlib.Omega.{arith}
 use borrow.Author.Tests.{eq-eqb}
 use Rattle.language.specs.Tokens.{Token, At, Means, entry, kind-at, value-at, spelling-at, NAME, NUMBER, LET, IN, WHILE, IF, THEN, ELSE, BECOMES, IS, SEMI, COMMA, LPAR, RPAR, LBRACE, RBRACE}
 use Rattle.language.specs.Trees.{Literal, whole, Unary, Binary, Exp, name, literal, unary, binary, follow, group, block, call, bind, branch, loop, Exps, last, more}
-use Rattle.language.specs.Grammar.{or, un, chain, tier, seq, bound, item, assign, atom, actuals, args, prefixes, constants}
+use Rattle.language.specs.Grammar.{or, un, chain, tier, seq, bound, assign, atom, actuals, args, prefixes, constants}
 use Rattle.language.proofs.Executable.Parses.{Result, failed, got, made, made-past, then, test, look, need}
-use Rattle.language.proofs.Executable.Parser.{read, until, closed, is, step, parse}
+use Rattle.language.proofs.Executable.Parser.{read, clause, until, closed, is, step, parse}
 use Rattle.language.proofs.Executable.Settles.{Settles, other, settle₀, settle₁, settle₂, settle₃}
 
 -- to add an argument in front before `)` is looked for, or behind it, is one
@@ -45,27 +45,21 @@ module _ {ts : List Token} where
 
   -- ---- Seq
 
-  -- a Let
-  pub seq-let : {i : ℕ} {r : Result Exp} → At ts i LET → Settles ts (read bound) i r → Settles ts (read seq) i r
-  unfolding step test
-  seq-let a x = settle₁ x λ f p. rw (a, p)
+  -- no clause
+  pub seq-failed : {i e : ℕ} → Settles ts clause i (failed e) → Settles ts (read seq) i (failed e)
+  unfolding step then
+  seq-failed x = settle₁ x λ f p. rw p
 
-  module _ {i : ℕ} (a : At ts i LET → ⊥) where
-    -- no Item
-    pub seq-failed : {e : ℕ} → Settles ts (read item) i (failed e) → Settles ts (read seq) i (failed e)
-    unfolding step test then
-    seq-failed x = settle₁ x λ f p. rw (other ts i LET a, p)
+  -- a clause, and no `;`
+  pub seq-one : {i m : ℕ} {x : Exp} → Settles ts clause i (got x m) → (At ts m SEMI → ⊥) → Settles ts (read seq) i (got x m)
+  unfolding step test then
+  seq-one {m = m} x b = settle₁ x λ f p. rw (p, other ts m SEMI b)
 
-    -- an Item, and no `;`
-    pub seq-item : {m : ℕ} {x : Exp} → Settles ts (read item) i (got x m) → (At ts m SEMI → ⊥) → Settles ts (read seq) i (got x m)
-    unfolding step test then
-    seq-item {m} x b = settle₁ x λ f p. rw (other ts i LET a, p, other ts m SEMI b)
-
-    -- an Item, `;`, and another Seq or none
-    pub seq-more : {m : ℕ} {x : Exp} {r : Result Exp} → Settles ts (read item) i (got x m) → At ts m SEMI
-        → Settles ts (read seq) (m + 1) r → Settles ts (read seq) i (made r (follow m x))
-    unfolding step test then
-    seq-more x b y = settle₂ x y λ f p q. rw (other ts i LET a, p, b, q)
+  -- a clause, `;`, and another Seq or none
+  pub seq-more : {i m : ℕ} {x : Exp} {r : Result Exp} → Settles ts clause i (got x m) → At ts m SEMI
+      → Settles ts (read seq) (m + 1) r → Settles ts (read seq) i (made r (follow m x))
+  unfolding step test then
+  seq-more x b y = settle₂ x y λ f p q. rw (p, b, q)
 
   -- ---- Let
 
@@ -98,43 +92,48 @@ module _ {ts : List Token} where
         unfolding step need then
         let-in x y = settle₂ x y λ f p q. rw (a, b, c, p, q)
 
-  -- ---- Item
+  -- ---- Tail and Item
+
+  -- a Let or none
+  pub clause-let : {i : ℕ} {r : Result Exp} → At ts i LET → Settles ts (read bound) i r → Settles ts clause i r
+  unfolding step test
+  clause-let a x = settle₁ x λ f p. rw (a, p)
 
   module _ {i : ℕ} (a : At ts i IF) where
     -- no Seq, or no `then` behind it
-    pub if-failed : {e : ℕ} → Settles ts (until THEN) (i + 1) (failed e) → Settles ts (read item) i (failed e)
+    pub if-failed : {e : ℕ} → Settles ts (until THEN) (i + 1) (failed e) → Settles ts clause i (failed e)
     unfolding step test then
     if-failed x = settle₁ x λ f p. rw (a, p)
 
     module _ {m : ℕ} {c : Exp} (x : Settles ts (until THEN) (i + 1) (got c m)) where
       -- no second Seq, or no `else` behind it
-      pub then-failed : {e : ℕ} → Settles ts (until ELSE) (m + 1) (failed e) → Settles ts (read item) i (failed e)
+      pub then-failed : {e : ℕ} → Settles ts (until ELSE) (m + 1) (failed e) → Settles ts clause i (failed e)
       unfolding step test then
       then-failed y = settle₂ x y λ f p q. rw (a, p, q)
 
-      -- all up to `else`, and an Item or none
+      -- all up to `else`, and another clause or none
       pub if-else : {k : ℕ} {t : Exp} {r : Result Exp} → Settles ts (until ELSE) (m + 1) (got t k)
-          → Settles ts (read item) (k + 1) r → Settles ts (read item) i (made r (branch i c t))
+          → Settles ts clause (k + 1) r → Settles ts clause i (made r (branch i c t))
       unfolding step test then
       if-else y z = settle₃ x y z λ f p q s. rw (a, p, q, s)
 
   module _ {i : ℕ} (a : At ts i WHILE) where
     -- no Seq, or no `{` behind it
-    pub while-failed : {e : ℕ} → Settles ts (until LBRACE) (i + 1) (failed e) → Settles ts (read item) i (failed e)
+    pub while-failed : {e : ℕ} → Settles ts (until LBRACE) (i + 1) (failed e) → Settles ts clause i (failed e)
     unfolding step test then
     while-failed x = settle₁ x λ f p. rw (a, p)
 
     -- all up to `{`, and a Seq with `}` or none
     pub while-block : {m : ℕ} {c : Exp} {r : Result Exp} → Settles ts (until LBRACE) (i + 1) (got c m)
-        → Settles ts (until RBRACE) (m + 1) r → Settles ts (read item) i (made-past r λ x. loop i c (block m x))
+        → Settles ts (until RBRACE) (m + 1) r → Settles ts clause i (made-past r λ x. loop i c (block m x))
     unfolding step test then
     while-block x y = settle₂ x y λ f p q. rw (a, p, q)
 
   -- an Assign or none
-  pub item-assign : {i : ℕ} {r : Result Exp} → (At ts i IF → ⊥) → (At ts i WHILE → ⊥)
-      → Settles ts (read assign) i r → Settles ts (read item) i r
+  pub clause-assign : {i : ℕ} {r : Result Exp} → (At ts i LET → ⊥) → (At ts i IF → ⊥) → (At ts i WHILE → ⊥)
+      → Settles ts (read assign) i r → Settles ts clause i r
   unfolding step test
-  item-assign {i} a b x = settle₁ x λ f p. rw (other ts i IF a, other ts i WHILE b, p)
+  clause-assign {i} a b c x = settle₁ x λ f p. rw (other ts i LET a, other ts i IF b, other ts i WHILE c, p)
 
   -- ---- Assign
 

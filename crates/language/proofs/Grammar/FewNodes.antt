@@ -7,7 +7,7 @@ use lib.ListN.{length}
 use Rattle.language.specs.Sizes.{TOKENS, NODES}
 use Rattle.language.specs.Tokens.{Token}
 use Rattle.language.specs.Trees.{Program, nodes, all-nodes, def-nodes, program-nodes}
-use Rattle.language.specs.Grammar.{Of, tier, Sym, program, def, formals, params, type, seq, bound, item, assign, atom, actuals, args, Reads, Reading, program-seq, program-def, def-is, formals-none, formals-some, params-one, params-more, type-basic, type-ref, seq-let, seq-item, seq-more, let-in, item-if, item-while, item-assign, assign-one, assign-to, chain-one, chain-more, cmp-one, cmp-two, un-prefix, un-atom, atom-name, atom-call, atom-number, atom-constant, atom-group, atom-block, actuals-none, actuals-some, args-one, args-more}
+use Rattle.language.specs.Grammar.{Of, tier, Sym, program, def, formals, params, type, seq, tail, bound, item, assign, atom, actuals, args, Reads, Reading, program-seq, program-def, def-is, formals-none, formals-some, params-one, params-more, type-basic, type-ref, seq-tail, seq-item, seq-more, tail-let, tail-if, let-in, item-if, item-while, item-assign, assign-one, assign-to, chain-one, chain-more, cmp-one, cmp-two, un-prefix, un-atom, atom-name, atom-call, atom-number, atom-constant, atom-group, atom-block, actuals-none, actuals-some, args-one, args-more}
 use Rattle.language.proofs.Grammar.FirstTokens.{grows}
 
 abbrev nodes-of : (s : Sym) → Of s → ℕ
@@ -17,6 +17,7 @@ nodes-of formals ps = 0
 nodes-of params ps = 0
 nodes-of type t = 0
 nodes-of seq e = nodes e
+nodes-of tail e = nodes e
 nodes-of bound e = nodes e
 nodes-of item e = nodes e
 nodes-of assign e = nodes e
@@ -38,9 +39,11 @@ module _ (ts : List Token) where
   few (params-more a b p c q) = omega (arith, grows ts p, grows ts q)
   few (type-basic a) = omega arith
   few (type-ref p a) = omega (arith, grows ts p)
-  few (seq-let p) = few p
+  few (seq-tail p) = few p
   few (seq-item p) = few p
   few (seq-more p h q) = omega (arith, few p, few q)
+  few (tail-let p) = few p
+  few (tail-if a p b q c r) = omega (arith, few p, few q, few r)
   few (let-in a b c p d q) = omega (arith, few p, few q)
   few (item-if a p b q c r) = omega (arith, few p, few q, few r)
   few (item-while a p b q c) = omega (arith, few p, few q)

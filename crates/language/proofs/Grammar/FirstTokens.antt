@@ -10,7 +10,7 @@ use lib.Dec.{T, eqb, leb, leb→le, eqb→eq}
 use borrow.Author.Tests.{ne-eqb}
 use Rattle.language.specs.Tokens.{Token, Entry, _is_, At, entry, kind-at, NAME, NUMBER, DEF, LET, WHILE, IF, REF, NOT, TRUE, FALSE, TT, PLUS, MINUS, STAR, SLASH, AND, OR, LESS, EQUAL, BECOMES, BANG, SEMI, COMMA, LPAR, LBRACE}
 use Rattle.language.specs.Trees.{Literal, Unary, Binary}
-use Rattle.language.specs.Grammar.{Of, tier, Level, or, and, sum, prod, Sym, program, def, formals, params, type, seq, bound, item, assign, cmp, un, atom, actuals, args, chain, part, operators, comparisons, prefixes, constants, Reads, program-seq, program-def, def-is, formals-none, formals-some, params-one, params-more, type-basic, type-ref, seq-let, seq-item, seq-more, let-in, item-if, item-while, item-assign, assign-one, assign-to, chain-one, chain-more, cmp-one, cmp-two, un-prefix, un-atom, atom-name, atom-call, atom-number, atom-constant, atom-group, atom-block, actuals-none, actuals-some, args-one, args-more}
+use Rattle.language.specs.Grammar.{Of, tier, Level, or, and, sum, prod, Sym, program, def, formals, params, type, seq, tail, bound, item, assign, cmp, un, atom, actuals, args, chain, part, operators, comparisons, prefixes, constants, Reads, program-seq, program-def, def-is, formals-none, formals-some, params-one, params-more, type-basic, type-ref, seq-tail, seq-item, seq-more, tail-let, tail-if, let-in, item-if, item-while, item-assign, assign-one, assign-to, chain-one, chain-more, cmp-one, cmp-two, un-prefix, un-atom, atom-name, atom-call, atom-number, atom-constant, atom-group, atom-block, actuals-none, actuals-some, args-one, args-more}
 use Rattle.language.proofs.Grammar.Entries.{every, entry-passes, found-nothing}
 
 -- ---- the numbers
@@ -21,7 +21,7 @@ pulls =
     COMMA is 1 ∷ SEMI is 2 ∷ BECOMES is 3 ∷ OR is 4 ∷ AND is 5 ∷ LESS is 6 ∷ EQUAL is 6 ∷ PLUS is 7 ∷ MINUS is 7 ∷
     STAR is 8 ∷ SLASH is 8 ∷ LPAR is 9 ∷ REF is 9 ∷ []
 
--- what a token begins: 1 a Program, 2 a Seq, 3 an Item, 4 an Assign or a level of operators, 5 an Atom; each also all above it
+-- what a token begins: 1 a Program, 2 a Seq or a Tail, 3 an Item, 4 an Assign or a level of operators, 5 an Atom; each also all above it
 abbrev pub openers : List (Entry ℕ ℕ)
 openers =
     DEF is 1 ∷ LET is 2 ∷ IF is 3 ∷ WHILE is 3 ∷ MINUS is 4 ∷ NOT is 4 ∷ BANG is 4 ∷ REF is 4 ∷ NAME is 5 ∷ NUMBER is 5 ∷
@@ -50,6 +50,7 @@ ends formals = 10
 ends params = 1
 ends type = 9
 ends seq = 2
+ends tail = 2
 ends bound = 2
 ends item = 3
 ends assign = 3
@@ -68,6 +69,7 @@ begins formals = 0
 begins params = 5
 begins type = 0
 begins seq = 2
+begins tail = 2
 begins bound = 2
 begins item = 3
 begins assign = 4
@@ -161,9 +163,11 @@ module _ (ts : List Token) where
   grows (params-more a b p c q) = omega (arith, grows p, grows q)
   grows (type-basic a) = omega arith
   grows (type-ref p a) = omega (arith, grows p)
-  grows (seq-let p) = grows p
+  grows (seq-tail p) = grows p
   grows (seq-item p) = grows p
   grows (seq-more p h q) = omega (arith, grows p, grows q)
+  grows (tail-let p) = grows p
+  grows (tail-if a p b q c r) = omega (arith, grows p, grows q, grows r)
   grows (let-in a b c p d q) = omega (arith, grows p, grows q)
   grows (item-if a p b q c r) = omega (arith, grows p, grows q, grows r)
   grows (item-while a p b q c) = omega (arith, grows p, grows q)
@@ -199,9 +203,11 @@ module _ (ts : List Token) where
   starts (params-more a b p c q) = opens-at _ _ _ a tt
   starts (type-basic a) = omega arith
   starts (type-ref p a) = omega arith
-  starts (seq-let p) = starts p
+  starts (seq-tail p) = starts p
   starts (seq-item p) = omega (arith, starts p)
   starts (seq-more p h q) = omega (arith, starts p)
+  starts (tail-let p) = starts p
+  starts (tail-if a p b q c r) = opens-at _ _ _ a tt
   starts (let-in a b c p d q) = opens-at _ _ _ a tt
   starts (item-if a p b q c r) = opens-at _ _ _ a tt
   starts (item-while a p b q c) = opens-at _ _ _ a tt

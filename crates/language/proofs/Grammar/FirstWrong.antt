@@ -17,7 +17,7 @@ use Rattle.language.specs.Grammar.{program, Reading}
 use Rattle.language.specs.Starts.{Starts, FirstWrong, wrong-token, wrong-end}
 use Rattle.language.proofs.Executable.Parses.{Result, failed, got, then, need}
 use Rattle.language.proofs.Executable.Parser.{read, entire, step, parse}
-use Rattle.language.proofs.Executable.ParserComplete.{run}
+use Rattle.language.proofs.Executable.ParserClaims.{run}
 use Rattle.language.proofs.Executable.Settles.{Settles, settled-reading, settled-none}
 use Rattle.language.proofs.Executable.Locality.{one-token, Agree, From}
 use Rattle.language.proofs.Executable.Agreement.{agrees}

@@ -13,7 +13,8 @@ use Rattle.language.proofs.Executable.Parses.{Result, failed, got, then
 use Rattle.language.proofs.Executable.Parser.{entire, step, parse, answer}
 use Rattle.language.proofs.Grammar.FirstTokens.{pull, ends}
 use Rattle.language.proofs.Executable.ParserSound.{answer-sound}
-use Rattle.language.proofs.Executable.ParserComplete.{run, found, rank}
+use Rattle.language.proofs.Executable.ParserClaims.{rank, run}
+use Rattle.language.proofs.Executable.ParserComplete.{found}
 
 module _ (ts : List Token) where
   kind-past : kind-at ts (length ts) ≡ PAST

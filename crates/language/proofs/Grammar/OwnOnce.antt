@@ -9,7 +9,7 @@ use lib.ListN.{length, getD}
 use lib.Dec.{leb, leb→le}
 use Rattle.language.specs.Tokens.{Token, kind-at, value-at, entry}
 use Rattle.language.specs.Trees.{Literal, Program}
-use Rattle.language.specs.Grammar.{Of, tier, Sym, program, def, formals, params, type, seq, bound, item, assign, atom, actuals, args, constants, Reads, Reading, program-seq, program-def, def-is, formals-none, formals-some, params-one, params-more, type-basic, type-ref, seq-let, seq-item, seq-more, let-in, item-if, item-while, item-assign, assign-one, assign-to, chain-one, chain-more, cmp-one, cmp-two, un-prefix, un-atom, atom-name, atom-call, atom-number, atom-constant, atom-group, atom-block, actuals-none, actuals-some, args-one, args-more}
+use Rattle.language.specs.Grammar.{Of, tier, Sym, program, def, formals, params, type, seq, tail, bound, item, assign, atom, actuals, args, constants, Reads, Reading, program-seq, program-def, def-is, formals-none, formals-some, params-one, params-more, type-basic, type-ref, seq-tail, seq-item, seq-more, tail-let, tail-if, let-in, item-if, item-while, item-assign, assign-one, assign-to, chain-one, chain-more, cmp-one, cmp-two, un-prefix, un-atom, atom-name, atom-call, atom-number, atom-constant, atom-group, atom-block, actuals-none, actuals-some, args-one, args-more}
 use Rattle.language.proofs.Grammar.Entries.{every, entry-passes}
 use Rattle.language.proofs.Grammar.FirstTokens.{grows}
 use Rattle.language.proofs.Grammar.OwnTokens.{Own, plain, worth-of, owns, all-owns, def-owns, program-owns, All, all-none, all-more}
@@ -21,6 +21,7 @@ owns-of formals ps = []
 owns-of params ps = []
 owns-of type t = []
 owns-of seq e = owns e
+owns-of tail e = owns e
 owns-of bound e = owns e
 owns-of item e = owns e
 owns-of assign e = owns e
@@ -82,9 +83,12 @@ module _ (ts : List Token) where
   rises (params-more a b p c q) = ended (omega (arith, grows ts p, grows ts q))
   rises (type-basic a) = ended (omega arith)
   rises (type-ref p a) = ended (omega (arith, grows ts p))
-  rises (seq-let p) = rises p
+  rises (seq-tail p) = rises p
   rises (seq-item p) = rises p
   rises (seq-more {m = m} p h q) = middle m (rises p) (rises q)
+  rises (tail-let p) = rises p
+  rises (tail-if {i} a p b q c r) =
+      next i (joined (rises p) (joined (rises q) (rises r) (omega arith)) (omega arith)) (omega arith) (omega arith)
   rises (let-in {i} a b c p d q) = next i (joined (rises p) (rises q) (omega arith)) (omega arith) (omega arith)
   rises (item-if {i} a p b q c r) =
       next i (joined (rises p) (joined (rises q) (rises r) (omega arith)) (omega arith)) (omega arith) (omega arith)

@@ -8,7 +8,7 @@ use lib.ListN.{length, List·getD-eq-default}
 use lib.Dec.{T, ltb, ltb→lt}
 use Rattle.language.specs.Tokens.{Token, Entry, past, At, Means, kind-at, entry}
 use Rattle.language.specs.Trees.{Binary}
-use Rattle.language.specs.Grammar.{Of, Sym, Level, or, and, sum, prod, operators, comparisons, prefixes, constants, basics, Reads, program-seq, program-def, def-is, formals-none, formals-some, params-one, params-more, type-basic, type-ref, seq-let, seq-item, seq-more, let-in, item-if, item-while, item-assign, assign-one, assign-to, chain-one, chain-more, cmp-one, cmp-two, un-prefix, un-atom, atom-name, atom-call, atom-number, atom-constant, atom-group, atom-block, actuals-none, actuals-some, args-one, args-more}
+use Rattle.language.specs.Grammar.{Of, Sym, Level, or, and, sum, prod, operators, comparisons, prefixes, constants, basics, Reads, program-seq, program-def, def-is, formals-none, formals-some, params-one, params-more, type-basic, type-ref, seq-tail, seq-item, seq-more, tail-let, tail-if, let-in, item-if, item-while, item-assign, assign-one, assign-to, chain-one, chain-more, cmp-one, cmp-two, un-prefix, un-atom, atom-name, atom-call, atom-number, atom-constant, atom-group, atom-block, actuals-none, actuals-some, args-one, args-more}
 use Rattle.language.proofs.Grammar.Entries.{every, entry-passes}
 use Rattle.language.proofs.Grammar.FirstTokens.{grows}
 
@@ -46,9 +46,11 @@ module _ (ts : List Token) where
   within (params-more a b p c q) = within q
   within (type-basic {i} a) = omega (arith, in-table i basics tt a)
   within (type-ref {m = m} p a) = omega (arith, inside m a (omega arith))
-  within (seq-let p) = within p
+  within (seq-tail p) = within p
   within (seq-item p) = within p
   within (seq-more p h q) = within q
+  within (tail-let p) = within p
+  within (tail-if a p b q c r) = within r
   within (let-in a b c p d q) = within q
   within (item-if a p b q c r) = within r
   within (item-while {k = k} a p b q c) = omega (arith, inside k c (omega arith))
@@ -113,10 +115,19 @@ module _ {ts us : List Token} {e : ℕ} (alike : Alike ts us e) where
       )
   kept (type-basic {i} a) h = (_, type-basic (kept-means i basics a (omega arith)))
   kept (type-ref {m = m} p a) h = (_, type-ref (kept p (omega arith) .1) (kept-at m a (omega arith)))
-  kept (seq-let p) h = (_, seq-let (kept p h .1))
+  kept (seq-tail p) h = (_, seq-tail (kept p h .1))
   kept (seq-item p) h = (_, seq-item (kept p h .1))
   kept (seq-more {m = m} p a q) h =
       let x = grows ts q in (_, seq-more (kept p (omega arith) .1) (kept-at m a (omega arith)) (kept q h .1))
+  kept (tail-let p) h = (_, tail-let (kept p h .1))
+  kept (tail-if {i} {m} {k} a p b q c r) h =
+      let x = grows ts p in
+      let y = grows ts q in
+      let z = grows ts r in (
+        _,
+        tail-if (kept-at i a (omega arith)) (kept p (omega arith) .1) (kept-at m b (omega arith)) (kept q (omega arith) .1)
+            (kept-at k c (omega arith)) (kept r h .1),
+      )
   kept (let-in {i} {m} a b c p d q) h =
       let x = grows ts p in
       let y = grows ts q in (

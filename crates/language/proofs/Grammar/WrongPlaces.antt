@@ -20,7 +20,8 @@ abbrev pub texts : List (Entry String ℕ)
 texts =
     "1;)" is 2 ∷ "1<2<3" is 3 ∷ "1<2==3" is 3 ∷ "1+" is 2 ∷ "" is 0 ∷ " //1" is 0 ∷ ")" is 0 ∷ "1 2" is 1 ∷ "1;" is 2 ∷ "()" is 1 ∷
     "{}" is 1 ∷ "(1" is 2 ∷ "x=1" is 1 ∷ "x:=y:=1" is 3 ∷ "f(1,)" is 4 ∷ "let x=1" is 4 ∷ "let do=1 in 1" is 1 ∷ "1+let x=1 in x" is 2 ∷
-    "if true then 1" is 4 ∷ "if true then 1 else let x=1 in x" is 5 ∷ "while true do tt end" is 2 ∷ "def f(){1}1" is 4 ∷
+    "if true then 1" is 4 ∷ "if true then 1 else let x=1" is 9 ∷ "if true then 1 else let x=1 in x else 2" is 11 ∷
+    "if true then 1 else 2+let x=1 in x" is 7 ∷ "while true do tt end" is 2 ∷ "def f(){1}1" is 4 ∷
     "def f():int{1}" is 9 ∷ "def f(x:int,):int{1}1" is 7 ∷ "1 def f():int{1}" is 1 ∷ []
 
 -- the text splits into tokens, and these first go wrong at i

@@ -4,8 +4,8 @@ use Prim.Native.Nat.{ℕ}
 use native.Mathlib.Omega.{arith}
 use borrow.Author.Needs.{needs}
 use Rattle.phrases.proofs.operands.un.Reads as operands·un
-use Rattle.phrases.proofs.+items-if_else+items-item+items-let_in+items-seq+items-until+items-while_block+names-arguments+names-name_or_call+operands-assign+operands-atom+operands-rest+operands-tier+operands-un.Lts-operands-un as lts
-use Rattle.phrases.proofs.+items-if_else+items-item+items-let_in+items-seq+items-until+items-while_block+names-arguments+names-name_or_call+operands-assign+operands-atom+operands-rest+operands-tier+operands-un.Proof.Setup.{operands·un-claims, operands·un-at}
+use Rattle.phrases.proofs.+items-clause+items-if_else+items-let_in+items-seq+items-until+items-while_block+names-arguments+names-name_or_call+operands-assign+operands-atom+operands-rest+operands-tier+operands-un.Lts-operands-un as lts
+use Rattle.phrases.proofs.+items-clause+items-if_else+items-let_in+items-seq+items-until+items-while_block+names-arguments+names-name_or_call+operands-assign+operands-atom+operands-rest+operands-tier+operands-un.Proof.Setup.{operands·un-claims, operands·un-at}
 use Rattle.phrases.proofs.Moving.{ask, top-fits, lower, later}
 use Rattle.phrases.proofs.OperandLaws.{un-prefix, un-atom}
 use Rattle.phrases.proofs.RowKinds.{prefix-within, prefix-small}
@@ -35,11 +35,14 @@ add-over t c =
 
 pub over-requires : (t : ℕ) → lts.Need-over-requires (operands·un-claims t) (operands·un-at t) operands·un.Post
 over-requires t c κs =
-    let p = c .before .before .before .before .before .before .before .before .before .before .pre .1 in
-    let i = prefix-within _ _ _ _ (c .before .before .before .before .before .before .before .kind .ensures)
-    (sym (c .before .before .before .before .before .before .is-prefix .ensures)
-    ∙ c .before .before .before .before .before .if1 .taken) in
-    top-fits p _ (c .before .before .before .un .ensures) (omega arith) (omega arith) (c .before .before .before .un .kept .0) i
+    let at-un = c .before .before .before in
+    let at-if1 = at-un .before .before in
+    let at-is-prefix = at-if1 .before in
+    let at-kind = at-is-prefix .before in
+    let start = at-kind .before .before .before in
+    let p = start .pre .1 in
+    let i = prefix-within _ _ _ _ (at-kind .kind .ensures) (sym (at-is-prefix .is-prefix .ensures) ∙ at-if1 .if1 .taken) in
+    top-fits p _ (at-un .un .ensures) (omega arith) (omega arith) (at-un .un .kept .0) i
 
 pub atom-requires : (t : ℕ) → lts.Need-atom-requires (operands·un-claims t) (operands·un-at t) operands·un.Post
 atom-requires t c κs =
@@ -51,10 +54,12 @@ same-length t c = c .before .before .over .kept .0 ∙ c .before .before .before
 
 pub returns : (t : ℕ) → lts.Need-returns (operands·un-claims t) (operands·un-at t) operands·un.Post
 returns t c =
-    un-prefix (c .before .before .before .before .before .before .before .before .before .before .kind .ensures)
-    (sym (c .before .before .before .before .before .before .before .before .before .is-prefix .ensures)
-    ∙ c .before .before .before .before .before .before .before .before .if1 .taken)
-    (c .before .before .before .before .before .before .un .ensures) (c .before .before .over .ensures)
+    let at-un = c .before .before .before .before .before .before in
+    let at-if1 = at-un .before .before in
+    let at-is-prefix = at-if1 .before in
+    let at-kind = at-is-prefix .before in
+    un-prefix (at-kind .kind .ensures) (sym (at-is-prefix .is-prefix .ensures) ∙ at-if1 .if1 .taken) (at-un .un .ensures)
+    (c .before .before .over .ensures)
 
 pub same-length-2 : (t : ℕ) → lts.Need-same-length-2 (operands·un-claims t) (operands·un-at t) operands·un.Post
 same-length-2 t c = c .before .before .atom .kept .0

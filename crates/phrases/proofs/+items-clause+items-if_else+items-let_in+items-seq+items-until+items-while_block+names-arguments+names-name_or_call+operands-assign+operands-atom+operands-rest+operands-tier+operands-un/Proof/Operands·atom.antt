@@ -4,8 +4,8 @@ use Prim.Native.Nat.{ℕ}
 use native.Mathlib.Omega.{arith}
 use borrow.Author.Needs.{needs}
 use Rattle.phrases.proofs.operands.atom.Reads as operands·atom
-use Rattle.phrases.proofs.+items-if_else+items-item+items-let_in+items-seq+items-until+items-while_block+names-arguments+names-name_or_call+operands-assign+operands-atom+operands-rest+operands-tier+operands-un.Lts-operands-atom as lts
-use Rattle.phrases.proofs.+items-if_else+items-item+items-let_in+items-seq+items-until+items-while_block+names-arguments+names-name_or_call+operands-assign+operands-atom+operands-rest+operands-tier+operands-un.Proof.Setup.{operands·atom-claims, operands·atom-at}
+use Rattle.phrases.proofs.+items-clause+items-if_else+items-let_in+items-seq+items-until+items-while_block+names-arguments+names-name_or_call+operands-assign+operands-atom+operands-rest+operands-tier+operands-un.Lts-operands-atom as lts
+use Rattle.phrases.proofs.+items-clause+items-if_else+items-let_in+items-seq+items-until+items-while_block+names-arguments+names-name_or_call+operands-assign+operands-atom+operands-rest+operands-tier+operands-un.Proof.Setup.{operands·atom-claims, operands·atom-at}
 use Rattle.phrases.proofs.Moving.{ask, node-fits, top-fits, lower-with, later-with}
 use Rattle.phrases.proofs.Standing.{within}
 use Rattle.phrases.proofs.OperandLaws.{atom-constant, atom-number, atom-group, atom-block, atom-other}
@@ -65,11 +65,13 @@ until-requires t c κs =
 
 pub around-requires : (t : ℕ) → lts.Need-around-requires (operands·atom-claims t) (operands·atom-at t) operands·atom.Post
 around-requires t c κs =
-    let p = c .before .before .before .before .before .before .before .before .before .before .before .pre .1 in
-    let i = within _ _ _ _
-    (sym (c .before .before .before .before .before .before .before .before .kind .ensures)
-    ∙ c .before .before .before .before .before .match .keys3) (omega arith) in
-    top-fits p _ (c .before .before .before .until .ensures) (omega arith) (omega arith) (c .before .before .before .until .kept .0) i
+    let at-until = c .before .before .before in
+    let at-match = at-until .before .before in
+    let at-kind = at-match .before .before .before in
+    let start = at-kind .before .before .before in
+    let p = start .pre .1 in
+    let i = within _ _ _ _ (sym (at-kind .kind .ensures) ∙ at-match .match .keys3) (omega arith) in
+    top-fits p _ (at-until .until .ensures) (omega arith) (omega arith) (at-until .until .kept .0) i
 
 pub add-until-2 : (t : ℕ) → lts.Need-add-until-2 (operands·atom-claims t) (operands·atom-at t) operands·atom.Post
 add-until-2 t c = let p = c .before .before .before .before .before .before .before .pre .1 in omega arith
@@ -83,11 +85,13 @@ until-requires-2 t c κs =
 
 pub around-requires-2 : (t : ℕ) → lts.Need-around-requires-2 (operands·atom-claims t) (operands·atom-at t) operands·atom.Post
 around-requires-2 t c κs =
-    let p = c .before .before .before .before .before .before .before .before .before .before .before .pre .1 in
-    let i = within _ _ _ _
-    (sym (c .before .before .before .before .before .before .before .before .kind .ensures)
-    ∙ c .before .before .before .before .before .match .keys4) (omega arith) in
-    top-fits p _ (c .before .before .before .until2 .ensures) (omega arith) (omega arith) (c .before .before .before .until2 .kept .0) i
+    let at-until2 = c .before .before .before in
+    let at-match = at-until2 .before .before in
+    let at-kind = at-match .before .before .before in
+    let start = at-kind .before .before .before in
+    let p = start .pre .1 in
+    let i = within _ _ _ _ (sym (at-kind .kind .ensures) ∙ at-match .match .keys4) (omega arith) in
+    top-fits p _ (at-until2 .until2 .ensures) (omega arith) (omega arith) (at-until2 .until2 .kept .0) i
 
 pub same-length-2 : (t : ℕ) → lts.Need-same-length-2 (operands·atom-claims t) (operands·atom-at t) operands·atom.Post
 same-length-2 t c = c .before .before .node2 .kept .0
@@ -111,18 +115,20 @@ same-length-4 t c = c .before .before .around .kept .0 ∙ c .before .before .be
 
 pub returns-4 : (t : ℕ) → lts.Need-returns-4 (operands·atom-claims t) (operands·atom-at t) operands·atom.Post
 returns-4 t c =
-    atom-group (c .before .before .before .before .before .before .before .before .before .before .before .kind .ensures)
-    (c .before .before .before .before .before .before .before .before .match .keys3)
-    (c .before .before .before .before .before .before .until .ensures) (c .before .before .around .ensures)
+    let at-until = c .before .before .before .before .before .before in
+    let at-match = at-until .before .before in
+    let at-kind = at-match .before .before .before in
+    atom-group (at-kind .kind .ensures) (at-match .match .keys3) (at-until .until .ensures) (c .before .before .around .ensures)
 
 pub same-length-5 : (t : ℕ) → lts.Need-same-length-5 (operands·atom-claims t) (operands·atom-at t) operands·atom.Post
 same-length-5 t c = c .before .before .around2 .kept .0 ∙ c .before .before .before .before .before .before .until2 .kept .0
 
 pub returns-5 : (t : ℕ) → lts.Need-returns-5 (operands·atom-claims t) (operands·atom-at t) operands·atom.Post
 returns-5 t c =
-    atom-block (c .before .before .before .before .before .before .before .before .before .before .before .kind .ensures)
-    (c .before .before .before .before .before .before .before .before .match .keys4)
-    (c .before .before .before .before .before .before .until2 .ensures) (c .before .before .around2 .ensures)
+    let at-until2 = c .before .before .before .before .before .before in
+    let at-match = at-until2 .before .before in
+    let at-kind = at-match .before .before .before in
+    atom-block (at-kind .kind .ensures) (at-match .match .keys4) (at-until2 .until2 .ensures) (c .before .before .around2 .ensures)
 
 pub same-length-6 : (t : ℕ) → lts.Need-same-length-6 (operands·atom-claims t) (operands·atom-at t) operands·atom.Post
 same-length-6 t c = refl

@@ -4,8 +4,8 @@ use Prim.Native.Nat.{ℕ}
 use native.Mathlib.Omega.{arith}
 use borrow.Author.Needs.{needs}
 use Rattle.phrases.proofs.operands.tier.Reads as operands·tier
-use Rattle.phrases.proofs.+items-if_else+items-item+items-let_in+items-seq+items-until+items-while_block+names-arguments+names-name_or_call+operands-assign+operands-atom+operands-rest+operands-tier+operands-un.Lts-operands-tier as lts
-use Rattle.phrases.proofs.+items-if_else+items-item+items-let_in+items-seq+items-until+items-while_block+names-arguments+names-name_or_call+operands-assign+operands-atom+operands-rest+operands-tier+operands-un.Proof.Setup.{operands·tier-claims, operands·tier-at}
+use Rattle.phrases.proofs.+items-clause+items-if_else+items-let_in+items-seq+items-until+items-while_block+names-arguments+names-name_or_call+operands-assign+operands-atom+operands-rest+operands-tier+operands-un.Lts-operands-tier as lts
+use Rattle.phrases.proofs.+items-clause+items-if_else+items-let_in+items-seq+items-until+items-while_block+names-arguments+names-name_or_call+operands-assign+operands-atom+operands-rest+operands-tier+operands-un.Proof.Setup.{operands·tier-claims, operands·tier-at}
 use Rattle.phrases.proofs.Moving.{lower, later-with}
 use Rattle.phrases.proofs.Answering.{known}
 use Rattle.phrases.proofs.OperatorLaws.{tier-none, tier-first}
@@ -18,11 +18,12 @@ enum-known-first t c = search needs
 
 pub rest-requires : (t : ℕ) → lts.Need-rest-requires (operands·tier-claims t) (operands·tier-at t) operands·tier.Post
 rest-requires t c κs =
-    let p = c .before .before .before .before .before .before .before .before .before .pre .1 .0 in
-    let o = (known (c .before .before .before .before .before .before .un .ensures) (c .before .before .first .given .1)) .ahead in
-    let b = c .before .before .before .before .before .before .before .before .before .pre .1 .1 in
-    later-with p 4 0 (c .before .before .before .before .before .before .before .before .before .pre .0)
-    (c .before .before .before .before .before .before .un .kept .0) (omega arith) (omega arith) (omega arith) (omega arith)
+    let at-un = c .before .before .before .before .before .before in
+    let start = at-un .before .before .before in
+    let p = start .pre .1 .0 in
+    let o = (known (at-un .un .ensures) (c .before .before .first .given .1)) .ahead in
+    let b = start .pre .1 .1 in
+    later-with p 4 0 (start .pre .0) (at-un .un .kept .0) (omega arith) (omega arith) (omega arith) (omega arith)
     (o .end, (b .0, b .1, omega arith, b .2))
 
 pub enum-known-first-2 : (t : ℕ) → lts.Need-enum-known-first-2 (operands·tier-claims t) (operands·tier-at t) operands·tier.Post
@@ -30,18 +31,21 @@ enum-known-first-2 t c = search needs
 
 pub same-length : (t : ℕ) → lts.Need-same-length (operands·tier-claims t) (operands·tier-at t) operands·tier.Post
 same-length t c =
-    c .before .before .rest .kept .0 ∙ c .before .before .before .before .before .before .before .before .before .un .kept .0
+    let earlier = c .before .before .before .before .before .before .before in
+    let at-un = earlier .before .before in
+    c .before .before .rest .kept .0 ∙ at-un .un .kept .0
 
 pub returns : (t : ℕ) → lts.Need-returns (operands·tier-claims t) (operands·tier-at t) operands·tier.Post
 returns t c =
-    tier-first _
-    (known (c .before .before .before .before .before .before .before .before .before .un .ensures)
-    (c .before .before .before .before .before .first .given .1)) (c .before .before .rest .ensures)
+    let at-first = c .before .before .before .before .before in
+    let at-un = at-first .before .before .before .before in
+    tier-first _ (known (at-un .un .ensures) (at-first .first .given .1)) (c .before .before .rest .ensures)
 
 pub same-length-2 : (t : ℕ) → lts.Need-same-length-2 (operands·tier-claims t) (operands·tier-at t) operands·tier.Post
 same-length-2 t c = c .before .before .before .before .before .un .kept .0
 
 pub returns-2 : (t : ℕ) → lts.Need-returns-2 (operands·tier-claims t) (operands·tier-at t) operands·tier.Post
 returns-2 t c =
-    tier-none (c .before .before .before .before .before .before .before .before .pre .1 .1 .1)
-    (known (c .before .before .before .before .before .un .ensures) (c .before .first2 .given .1))
+    let at-un = c .before .before .before .before .before in
+    let start = at-un .before .before .before in
+    tier-none (start .pre .1 .1 .1) (known (at-un .un .ensures) (c .before .first2 .given .1))

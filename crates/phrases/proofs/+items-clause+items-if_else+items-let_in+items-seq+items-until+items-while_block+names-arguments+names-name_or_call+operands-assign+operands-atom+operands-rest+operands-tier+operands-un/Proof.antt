@@ -1,8 +1,8 @@
 -- The readers of expressions, which call each other, meet their contracts. `Setup` has their measures, and each other file
 -- below has the answers to what the borrow checker leaves of one of them.
 mod Setup
+mod Items·clause
 mod Items·ifElse
-mod Items·item
 mod Items·letIn
 mod Items·seq
 mod Items·until
@@ -14,61 +14,60 @@ mod Operands·atom
 mod Operands·rest
 mod Operands·tier
 mod Operands·un
+use Rattle.phrases.proofs.items.clause.Reads as items·clause
+use Rattle.phrases.proofs.+items-clause+items-if_else+items-let_in+items-seq+items-until+items-while_block+names-arguments+names-name_or_call+operands-assign+operands-atom+operands-rest+operands-tier+operands-un.Lts-items-clause as items·clause-lts
 use Rattle.phrases.proofs.items.if_else.Reads as items·if-else
-use Rattle.phrases.proofs.+items-if_else+items-item+items-let_in+items-seq+items-until+items-while_block+names-arguments+names-name_or_call+operands-assign+operands-atom+operands-rest+operands-tier+operands-un.Lts-items-if_else as items·if-else-lts
-use Rattle.phrases.proofs.items.item.Reads as items·item
-use Rattle.phrases.proofs.+items-if_else+items-item+items-let_in+items-seq+items-until+items-while_block+names-arguments+names-name_or_call+operands-assign+operands-atom+operands-rest+operands-tier+operands-un.Lts-items-item as items·item-lts
+use Rattle.phrases.proofs.+items-clause+items-if_else+items-let_in+items-seq+items-until+items-while_block+names-arguments+names-name_or_call+operands-assign+operands-atom+operands-rest+operands-tier+operands-un.Lts-items-if_else as items·if-else-lts
 use Rattle.phrases.proofs.items.let_in.Reads as items·let-in
-use Rattle.phrases.proofs.+items-if_else+items-item+items-let_in+items-seq+items-until+items-while_block+names-arguments+names-name_or_call+operands-assign+operands-atom+operands-rest+operands-tier+operands-un.Lts-items-let_in as items·let-in-lts
+use Rattle.phrases.proofs.+items-clause+items-if_else+items-let_in+items-seq+items-until+items-while_block+names-arguments+names-name_or_call+operands-assign+operands-atom+operands-rest+operands-tier+operands-un.Lts-items-let_in as items·let-in-lts
 use Rattle.phrases.proofs.items.seq.Reads as items·seq
-use Rattle.phrases.proofs.+items-if_else+items-item+items-let_in+items-seq+items-until+items-while_block+names-arguments+names-name_or_call+operands-assign+operands-atom+operands-rest+operands-tier+operands-un.Lts-items-seq as items·seq-lts
+use Rattle.phrases.proofs.+items-clause+items-if_else+items-let_in+items-seq+items-until+items-while_block+names-arguments+names-name_or_call+operands-assign+operands-atom+operands-rest+operands-tier+operands-un.Lts-items-seq as items·seq-lts
 use Rattle.phrases.proofs.items.until.Reads as items·until
-use Rattle.phrases.proofs.+items-if_else+items-item+items-let_in+items-seq+items-until+items-while_block+names-arguments+names-name_or_call+operands-assign+operands-atom+operands-rest+operands-tier+operands-un.Lts-items-until as items·until-lts
+use Rattle.phrases.proofs.+items-clause+items-if_else+items-let_in+items-seq+items-until+items-while_block+names-arguments+names-name_or_call+operands-assign+operands-atom+operands-rest+operands-tier+operands-un.Lts-items-until as items·until-lts
 use Rattle.phrases.proofs.items.while_block.Reads as items·while-block
-use Rattle.phrases.proofs.+items-if_else+items-item+items-let_in+items-seq+items-until+items-while_block+names-arguments+names-name_or_call+operands-assign+operands-atom+operands-rest+operands-tier+operands-un.Lts-items-while_block as items·while-block-lts
+use Rattle.phrases.proofs.+items-clause+items-if_else+items-let_in+items-seq+items-until+items-while_block+names-arguments+names-name_or_call+operands-assign+operands-atom+operands-rest+operands-tier+operands-un.Lts-items-while_block as items·while-block-lts
 use Rattle.phrases.proofs.names.arguments.Reads as names·arguments
-use Rattle.phrases.proofs.+items-if_else+items-item+items-let_in+items-seq+items-until+items-while_block+names-arguments+names-name_or_call+operands-assign+operands-atom+operands-rest+operands-tier+operands-un.Lts-names-arguments as names·arguments-lts
+use Rattle.phrases.proofs.+items-clause+items-if_else+items-let_in+items-seq+items-until+items-while_block+names-arguments+names-name_or_call+operands-assign+operands-atom+operands-rest+operands-tier+operands-un.Lts-names-arguments as names·arguments-lts
 use Rattle.phrases.proofs.names.name_or_call.Reads as names·name-or-call
-use Rattle.phrases.proofs.+items-if_else+items-item+items-let_in+items-seq+items-until+items-while_block+names-arguments+names-name_or_call+operands-assign+operands-atom+operands-rest+operands-tier+operands-un.Lts-names-name_or_call as names·name-or-call-lts
+use Rattle.phrases.proofs.+items-clause+items-if_else+items-let_in+items-seq+items-until+items-while_block+names-arguments+names-name_or_call+operands-assign+operands-atom+operands-rest+operands-tier+operands-un.Lts-names-name_or_call as names·name-or-call-lts
 use Rattle.phrases.proofs.operands.assign.Reads as operands·assign
-use Rattle.phrases.proofs.+items-if_else+items-item+items-let_in+items-seq+items-until+items-while_block+names-arguments+names-name_or_call+operands-assign+operands-atom+operands-rest+operands-tier+operands-un.Lts-operands-assign as operands·assign-lts
+use Rattle.phrases.proofs.+items-clause+items-if_else+items-let_in+items-seq+items-until+items-while_block+names-arguments+names-name_or_call+operands-assign+operands-atom+operands-rest+operands-tier+operands-un.Lts-operands-assign as operands·assign-lts
 use Rattle.phrases.proofs.operands.atom.Reads as operands·atom
-use Rattle.phrases.proofs.+items-if_else+items-item+items-let_in+items-seq+items-until+items-while_block+names-arguments+names-name_or_call+operands-assign+operands-atom+operands-rest+operands-tier+operands-un.Lts-operands-atom as operands·atom-lts
+use Rattle.phrases.proofs.+items-clause+items-if_else+items-let_in+items-seq+items-until+items-while_block+names-arguments+names-name_or_call+operands-assign+operands-atom+operands-rest+operands-tier+operands-un.Lts-operands-atom as operands·atom-lts
 use Rattle.phrases.proofs.operands.rest.Reads as operands·rest
-use Rattle.phrases.proofs.+items-if_else+items-item+items-let_in+items-seq+items-until+items-while_block+names-arguments+names-name_or_call+operands-assign+operands-atom+operands-rest+operands-tier+operands-un.Lts-operands-rest as operands·rest-lts
+use Rattle.phrases.proofs.+items-clause+items-if_else+items-let_in+items-seq+items-until+items-while_block+names-arguments+names-name_or_call+operands-assign+operands-atom+operands-rest+operands-tier+operands-un.Lts-operands-rest as operands·rest-lts
 use Rattle.phrases.proofs.operands.tier.Reads as operands·tier
-use Rattle.phrases.proofs.+items-if_else+items-item+items-let_in+items-seq+items-until+items-while_block+names-arguments+names-name_or_call+operands-assign+operands-atom+operands-rest+operands-tier+operands-un.Lts-operands-tier as operands·tier-lts
+use Rattle.phrases.proofs.+items-clause+items-if_else+items-let_in+items-seq+items-until+items-while_block+names-arguments+names-name_or_call+operands-assign+operands-atom+operands-rest+operands-tier+operands-un.Lts-operands-tier as operands·tier-lts
 use Rattle.phrases.proofs.operands.un.Reads as operands·un
-use Rattle.phrases.proofs.+items-if_else+items-item+items-let_in+items-seq+items-until+items-while_block+names-arguments+names-name_or_call+operands-assign+operands-atom+operands-rest+operands-tier+operands-un.Lts-operands-un as operands·un-lts
-use Rattle.phrases.proofs.+items-if_else+items-item+items-let_in+items-seq+items-until+items-while_block+names-arguments+names-name_or_call+operands-assign+operands-atom+operands-rest+operands-tier+operands-un.{statement}
-use Rattle.phrases.proofs.+items-if_else+items-item+items-let_in+items-seq+items-until+items-while_block+names-arguments+names-name_or_call+operands-assign+operands-atom+operands-rest+operands-tier+operands-un.Tie.{close}
-use Setup.{μ-items·if-else, items·if-else-at, items·if-else-claims, μ-items·item, items·item-at, items·item-claims, μ-items·let-in, items·let-in-at, items·let-in-claims, μ-items·seq, items·seq-at, items·seq-claims, μ-items·until, items·until-at, items·until-claims, μ-items·while-block, items·while-block-at, items·while-block-claims, μ-names·arguments, names·arguments-at, names·arguments-claims, μ-names·name-or-call, names·name-or-call-at, names·name-or-call-claims, μ-operands·assign, operands·assign-at, operands·assign-claims, μ-operands·atom, operands·atom-at, operands·atom-claims, μ-operands·rest, operands·rest-at, operands·rest-claims, μ-operands·tier, operands·tier-at, operands·tier-claims, μ-operands·un, operands·un-at, operands·un-claims}
+use Rattle.phrases.proofs.+items-clause+items-if_else+items-let_in+items-seq+items-until+items-while_block+names-arguments+names-name_or_call+operands-assign+operands-atom+operands-rest+operands-tier+operands-un.Lts-operands-un as operands·un-lts
+use Rattle.phrases.proofs.+items-clause+items-if_else+items-let_in+items-seq+items-until+items-while_block+names-arguments+names-name_or_call+operands-assign+operands-atom+operands-rest+operands-tier+operands-un.{statement}
+use Rattle.phrases.proofs.+items-clause+items-if_else+items-let_in+items-seq+items-until+items-while_block+names-arguments+names-name_or_call+operands-assign+operands-atom+operands-rest+operands-tier+operands-un.Tie.{close}
+use Setup.{μ-items·clause, items·clause-at, items·clause-claims, μ-items·if-else, items·if-else-at, items·if-else-claims, μ-items·let-in, items·let-in-at, items·let-in-claims, μ-items·seq, items·seq-at, items·seq-claims, μ-items·until, items·until-at, items·until-claims, μ-items·while-block, items·while-block-at, items·while-block-claims, μ-names·arguments, names·arguments-at, names·arguments-claims, μ-names·name-or-call, names·name-or-call-at, names·name-or-call-claims, μ-operands·assign, operands·assign-at, operands·assign-claims, μ-operands·atom, operands·atom-at, operands·atom-claims, μ-operands·rest, operands·rest-at, operands·rest-claims, μ-operands·tier, operands·tier-at, operands·tier-claims, μ-operands·un, operands·un-at, operands·un-claims}
 
-pub +items·if-else+items·item+items·let-in+items·seq+items·until+items·while-block+names·arguments+names·name-or-call+operands·assign+operands·atom+operands·rest+operands·tier+operands·un-spec :
+pub +items·clause+items·if-else+items·let-in+items·seq+items·until+items·while-block+names·arguments+names·name-or-call+operands·assign+operands·atom+operands·rest+operands·tier+operands·un-spec :
     {M : Type 1} → statement M
-+items·if-else+items·item+items·let-in+items·seq+items·until+items·while-block+names·arguments+names·name-or-call+operands·assign+operands·atom+operands·rest+operands·tier+operands·un-spec =
-    close μ-items·if-else μ-items·item μ-items·let-in μ-items·seq μ-items·until μ-items·while-block μ-names·arguments μ-names·name-or-call
++items·clause+items·if-else+items·let-in+items·seq+items·until+items·while-block+names·arguments+names·name-or-call+operands·assign+operands·atom+operands·rest+operands·tier+operands·un-spec =
+    close μ-items·clause μ-items·if-else μ-items·let-in μ-items·seq μ-items·until μ-items·while-block μ-names·arguments μ-names·name-or-call
     μ-operands·assign μ-operands·atom μ-operands·rest μ-operands·tier μ-operands·un
+    (λ t. items·clause-lts.spec (items·clause-claims t) (items·clause-at t) items·clause.Post (Items·clause.kind-requires t)
+    (Items·clause.let-in-requires t) (Items·clause.same-length t) (Items·clause.returns t) (Items·clause.if-else-requires t)
+    (Items·clause.same-length-2 t) (Items·clause.returns-2 t) (Items·clause.while-block-requires t) (Items·clause.same-length-3 t)
+    (Items·clause.returns-3 t) (Items·clause.assign-requires t) (Items·clause.same-length-4 t) (Items·clause.returns-4 t))
     (λ t. items·if-else-lts.spec (items·if-else-claims t) (items·if-else-at t) items·if-else.Post (Items·ifElse.add-until t)
     (Items·ifElse.until-requires t) (Items·ifElse.enum-known-test t) (Items·ifElse.add-until-2 t) (Items·ifElse.until-requires-2 t)
-    (Items·ifElse.enum-known-yes t) (Items·ifElse.add-item t) (Items·ifElse.item-requires t) (Items·ifElse.choice-requires t)
+    (Items·ifElse.enum-known-yes t) (Items·ifElse.add-clause t) (Items·ifElse.clause-requires t) (Items·ifElse.choice-requires t)
     (Items·ifElse.enum-known-yes-2 t) (Items·ifElse.enum-known-test-2 t) (Items·ifElse.same-length t) (Items·ifElse.returns t)
     (Items·ifElse.same-length-2 t) (Items·ifElse.returns-2 t) (Items·ifElse.same-length-3 t) (Items·ifElse.returns-3 t))
-    (λ t. items·item-lts.spec (items·item-claims t) (items·item-at t) items·item.Post (Items·item.kind-requires t)
-    (Items·item.if-else-requires t) (Items·item.same-length t) (Items·item.returns t) (Items·item.while-block-requires t)
-    (Items·item.same-length-2 t) (Items·item.returns-2 t) (Items·item.assign-requires t) (Items·item.same-length-3 t)
-    (Items·item.returns-3 t))
     (λ t. items·let-in-lts.spec (items·let-in-claims t) (items·let-in-at t) items·let-in.Post (Items·letIn.add-kind t)
     (Items·letIn.kind-requires t) (Items·letIn.add-t16 t) (Items·letIn.same-length t) (Items·letIn.returns t) (Items·letIn.add-kind-2 t)
     (Items·letIn.kind-requires-2 t) (Items·letIn.add-t19 t) (Items·letIn.same-length-2 t) (Items·letIn.returns-2 t)
     (Items·letIn.add-until t) (Items·letIn.until-requires t) (Items·letIn.enum-known-value t) (Items·letIn.add-seq t)
     (Items·letIn.seq-requires t) (Items·letIn.pair-requires t) (Items·letIn.enum-known-value-2 t) (Items·letIn.same-length-3 t)
     (Items·letIn.returns-3 t) (Items·letIn.same-length-4 t) (Items·letIn.returns-4 t))
-    (λ t. items·seq-lts.spec (items·seq-claims t) (items·seq-at t) items·seq.Post (Items·seq.kind-requires t)
-    (Items·seq.let-in-requires t) (Items·seq.same-length t) (Items·seq.returns t) (Items·seq.item-requires t)
-    (Items·seq.enum-known-first t) (Items·seq.kind-requires-2 t) (Items·seq.add-seq t) (Items·seq.seq-requires t)
-    (Items·seq.pair-requires t) (Items·seq.enum-known-first-2 t) (Items·seq.same-length-2 t) (Items·seq.returns-2 t)
-    (Items·seq.same-length-3 t) (Items·seq.returns-3 t) (Items·seq.same-length-4 t) (Items·seq.returns-4 t))
+    (λ t. items·seq-lts.spec (items·seq-claims t) (items·seq-at t) items·seq.Post (Items·seq.clause-requires t)
+    (Items·seq.enum-known-first t) (Items·seq.kind-requires t) (Items·seq.add-seq t) (Items·seq.seq-requires t)
+    (Items·seq.pair-requires t) (Items·seq.enum-known-first-2 t) (Items·seq.same-length t) (Items·seq.returns t)
+    (Items·seq.same-length-2 t) (Items·seq.returns-2 t) (Items·seq.same-length-3 t) (Items·seq.returns-3 t))
     (λ t. items·until-lts.spec (items·until-claims t) (items·until-at t) items·until.Post (Items·until.seq-requires t)
     (Items·until.enum-known-whole t) (Items·until.kind-requires t) (Items·until.enum-known-whole-2 t) (Items·until.same-length t)
     (Items·until.returns t) (Items·until.same-length-2 t) (Items·until.returns-2 t) (Items·until.same-length-3 t)

@@ -5,45 +5,45 @@ use borrow.Fn.Kinds.{In}
 use borrow.Fn.PlainCycle.{Measures, is, falls, and}
 use Rattle.layout.proofs.rows.put.Reads as put-reads
 use Rattle.layout.proofs.token.kind.Reads as kind-reads
+use Rattle.phrases.proofs.items.clause.Reads as items·clause
+use Rattle.phrases.proofs.items.clause.Kinds as items·clause-kinds
+use Rattle.phrases.proofs.+items-clause+items-if_else+items-let_in+items-seq+items-until+items-while_block+names-arguments+names-name_or_call+operands-assign+operands-atom+operands-rest+operands-tier+operands-un.Lts-items-clause as items·clause-lts
 use Rattle.phrases.proofs.items.if_else.Reads as items·if-else
 use Rattle.phrases.proofs.items.if_else.Kinds as items·if-else-kinds
-use Rattle.phrases.proofs.+items-if_else+items-item+items-let_in+items-seq+items-until+items-while_block+names-arguments+names-name_or_call+operands-assign+operands-atom+operands-rest+operands-tier+operands-un.Lts-items-if_else as items·if-else-lts
-use Rattle.phrases.proofs.items.item.Reads as items·item
-use Rattle.phrases.proofs.items.item.Kinds as items·item-kinds
-use Rattle.phrases.proofs.+items-if_else+items-item+items-let_in+items-seq+items-until+items-while_block+names-arguments+names-name_or_call+operands-assign+operands-atom+operands-rest+operands-tier+operands-un.Lts-items-item as items·item-lts
+use Rattle.phrases.proofs.+items-clause+items-if_else+items-let_in+items-seq+items-until+items-while_block+names-arguments+names-name_or_call+operands-assign+operands-atom+operands-rest+operands-tier+operands-un.Lts-items-if_else as items·if-else-lts
 use Rattle.phrases.proofs.items.let_in.Reads as items·let-in
 use Rattle.phrases.proofs.items.let_in.Kinds as items·let-in-kinds
-use Rattle.phrases.proofs.+items-if_else+items-item+items-let_in+items-seq+items-until+items-while_block+names-arguments+names-name_or_call+operands-assign+operands-atom+operands-rest+operands-tier+operands-un.Lts-items-let_in as items·let-in-lts
+use Rattle.phrases.proofs.+items-clause+items-if_else+items-let_in+items-seq+items-until+items-while_block+names-arguments+names-name_or_call+operands-assign+operands-atom+operands-rest+operands-tier+operands-un.Lts-items-let_in as items·let-in-lts
 use Rattle.phrases.proofs.items.seq.Reads as items·seq
 use Rattle.phrases.proofs.items.seq.Kinds as items·seq-kinds
-use Rattle.phrases.proofs.+items-if_else+items-item+items-let_in+items-seq+items-until+items-while_block+names-arguments+names-name_or_call+operands-assign+operands-atom+operands-rest+operands-tier+operands-un.Lts-items-seq as items·seq-lts
+use Rattle.phrases.proofs.+items-clause+items-if_else+items-let_in+items-seq+items-until+items-while_block+names-arguments+names-name_or_call+operands-assign+operands-atom+operands-rest+operands-tier+operands-un.Lts-items-seq as items·seq-lts
 use Rattle.phrases.proofs.items.until.Reads as items·until
 use Rattle.phrases.proofs.items.until.Kinds as items·until-kinds
-use Rattle.phrases.proofs.+items-if_else+items-item+items-let_in+items-seq+items-until+items-while_block+names-arguments+names-name_or_call+operands-assign+operands-atom+operands-rest+operands-tier+operands-un.Lts-items-until as items·until-lts
+use Rattle.phrases.proofs.+items-clause+items-if_else+items-let_in+items-seq+items-until+items-while_block+names-arguments+names-name_or_call+operands-assign+operands-atom+operands-rest+operands-tier+operands-un.Lts-items-until as items·until-lts
 use Rattle.phrases.proofs.items.while_block.Reads as items·while-block
 use Rattle.phrases.proofs.items.while_block.Kinds as items·while-block-kinds
-use Rattle.phrases.proofs.+items-if_else+items-item+items-let_in+items-seq+items-until+items-while_block+names-arguments+names-name_or_call+operands-assign+operands-atom+operands-rest+operands-tier+operands-un.Lts-items-while_block as items·while-block-lts
+use Rattle.phrases.proofs.+items-clause+items-if_else+items-let_in+items-seq+items-until+items-while_block+names-arguments+names-name_or_call+operands-assign+operands-atom+operands-rest+operands-tier+operands-un.Lts-items-while_block as items·while-block-lts
 use Rattle.phrases.proofs.names.arguments.Reads as names·arguments
 use Rattle.phrases.proofs.names.arguments.Kinds as names·arguments-kinds
-use Rattle.phrases.proofs.+items-if_else+items-item+items-let_in+items-seq+items-until+items-while_block+names-arguments+names-name_or_call+operands-assign+operands-atom+operands-rest+operands-tier+operands-un.Lts-names-arguments as names·arguments-lts
+use Rattle.phrases.proofs.+items-clause+items-if_else+items-let_in+items-seq+items-until+items-while_block+names-arguments+names-name_or_call+operands-assign+operands-atom+operands-rest+operands-tier+operands-un.Lts-names-arguments as names·arguments-lts
 use Rattle.phrases.proofs.names.name_or_call.Reads as names·name-or-call
 use Rattle.phrases.proofs.names.name_or_call.Kinds as names·name-or-call-kinds
-use Rattle.phrases.proofs.+items-if_else+items-item+items-let_in+items-seq+items-until+items-while_block+names-arguments+names-name_or_call+operands-assign+operands-atom+operands-rest+operands-tier+operands-un.Lts-names-name_or_call as names·name-or-call-lts
+use Rattle.phrases.proofs.+items-clause+items-if_else+items-let_in+items-seq+items-until+items-while_block+names-arguments+names-name_or_call+operands-assign+operands-atom+operands-rest+operands-tier+operands-un.Lts-names-name_or_call as names·name-or-call-lts
 use Rattle.phrases.proofs.operands.assign.Reads as operands·assign
 use Rattle.phrases.proofs.operands.assign.Kinds as operands·assign-kinds
-use Rattle.phrases.proofs.+items-if_else+items-item+items-let_in+items-seq+items-until+items-while_block+names-arguments+names-name_or_call+operands-assign+operands-atom+operands-rest+operands-tier+operands-un.Lts-operands-assign as operands·assign-lts
+use Rattle.phrases.proofs.+items-clause+items-if_else+items-let_in+items-seq+items-until+items-while_block+names-arguments+names-name_or_call+operands-assign+operands-atom+operands-rest+operands-tier+operands-un.Lts-operands-assign as operands·assign-lts
 use Rattle.phrases.proofs.operands.atom.Reads as operands·atom
 use Rattle.phrases.proofs.operands.atom.Kinds as operands·atom-kinds
-use Rattle.phrases.proofs.+items-if_else+items-item+items-let_in+items-seq+items-until+items-while_block+names-arguments+names-name_or_call+operands-assign+operands-atom+operands-rest+operands-tier+operands-un.Lts-operands-atom as operands·atom-lts
+use Rattle.phrases.proofs.+items-clause+items-if_else+items-let_in+items-seq+items-until+items-while_block+names-arguments+names-name_or_call+operands-assign+operands-atom+operands-rest+operands-tier+operands-un.Lts-operands-atom as operands·atom-lts
 use Rattle.phrases.proofs.operands.rest.Reads as operands·rest
 use Rattle.phrases.proofs.operands.rest.Kinds as operands·rest-kinds
-use Rattle.phrases.proofs.+items-if_else+items-item+items-let_in+items-seq+items-until+items-while_block+names-arguments+names-name_or_call+operands-assign+operands-atom+operands-rest+operands-tier+operands-un.Lts-operands-rest as operands·rest-lts
+use Rattle.phrases.proofs.+items-clause+items-if_else+items-let_in+items-seq+items-until+items-while_block+names-arguments+names-name_or_call+operands-assign+operands-atom+operands-rest+operands-tier+operands-un.Lts-operands-rest as operands·rest-lts
 use Rattle.phrases.proofs.operands.tier.Reads as operands·tier
 use Rattle.phrases.proofs.operands.tier.Kinds as operands·tier-kinds
-use Rattle.phrases.proofs.+items-if_else+items-item+items-let_in+items-seq+items-until+items-while_block+names-arguments+names-name_or_call+operands-assign+operands-atom+operands-rest+operands-tier+operands-un.Lts-operands-tier as operands·tier-lts
+use Rattle.phrases.proofs.+items-clause+items-if_else+items-let_in+items-seq+items-until+items-while_block+names-arguments+names-name_or_call+operands-assign+operands-atom+operands-rest+operands-tier+operands-un.Lts-operands-tier as operands·tier-lts
 use Rattle.phrases.proofs.operands.un.Reads as operands·un
 use Rattle.phrases.proofs.operands.un.Kinds as operands·un-kinds
-use Rattle.phrases.proofs.+items-if_else+items-item+items-let_in+items-seq+items-until+items-while_block+names-arguments+names-name_or_call+operands-assign+operands-atom+operands-rest+operands-tier+operands-un.Lts-operands-un as operands·un-lts
+use Rattle.phrases.proofs.+items-clause+items-if_else+items-let_in+items-seq+items-until+items-while_block+names-arguments+names-name_or_call+operands-assign+operands-atom+operands-rest+operands-tier+operands-un.Lts-operands-un as operands·un-lts
 use Rattle.phrases.proofs.operators.after.Reads as after-reads
 use Rattle.phrases.proofs.operators.is_constant.Reads as is-constant-reads
 use Rattle.phrases.proofs.operators.is_prefix.Reads as is-prefix-reads
@@ -54,14 +54,14 @@ use Rattle.phrases.proofs.parts.node.Reads as node-reads
 use Rattle.phrases.proofs.parts.over.Reads as over-reads
 use Rattle.phrases.proofs.parts.pair.Reads as pair-reads
 
+abbrev pub μ-items·clause : Measures 1 items·clause-kinds.ps ℕ
+μ-items·clause κs a = 12 * (a .1 .0 - a .1 .1 .0) + 7
+
 abbrev pub μ-items·if-else : Measures 1 items·if-else-kinds.ps ℕ
 μ-items·if-else κs a = 12 * (a .1 .0 - a .1 .1 .0) + 6
 
-abbrev pub μ-items·item : Measures 1 items·item-kinds.ps ℕ
-μ-items·item κs a = 12 * (a .1 .0 - a .1 .1 .0) + 7
-
 abbrev pub μ-items·let-in : Measures 1 items·let-in-kinds.ps ℕ
-μ-items·let-in κs a = 12 * (a .1 .0 - a .1 .1 .0) + 7
+μ-items·let-in κs a = 12 * (a .1 .0 - a .1 .1 .0) + 6
 
 abbrev pub μ-items·seq : Measures 1 items·seq-kinds.ps ℕ
 μ-items·seq κs a = 12 * (a .1 .0 - a .1 .1 .0) + 8
@@ -93,17 +93,17 @@ abbrev pub μ-operands·tier : Measures 1 operands·tier-kinds.ps ℕ
 abbrev pub μ-operands·un : Measures 1 operands·un-kinds.ps ℕ
 μ-operands·un κs a = 12 * (a .1 .0 - a .1 .1 .0) + 3
 
+abbrev pub items·clause-at : ℕ → In 1 items·clause-kinds.ps
+items·clause-at t = and 1 items·clause-kinds.ps (is 1 items·clause-kinds.ps μ-items·clause t) items·clause.Pre
+
+abbrev pub items·clause-below : ℕ → In 1 items·clause-kinds.ps
+items·clause-below t = and 1 items·clause-kinds.ps (falls 1 items·clause-kinds.ps _<_ μ-items·clause t) items·clause.Pre
+
 abbrev pub items·if-else-at : ℕ → In 1 items·if-else-kinds.ps
 items·if-else-at t = and 1 items·if-else-kinds.ps (is 1 items·if-else-kinds.ps μ-items·if-else t) items·if-else.Pre
 
 abbrev pub items·if-else-below : ℕ → In 1 items·if-else-kinds.ps
 items·if-else-below t = and 1 items·if-else-kinds.ps (falls 1 items·if-else-kinds.ps _<_ μ-items·if-else t) items·if-else.Pre
-
-abbrev pub items·item-at : ℕ → In 1 items·item-kinds.ps
-items·item-at t = and 1 items·item-kinds.ps (is 1 items·item-kinds.ps μ-items·item t) items·item.Pre
-
-abbrev pub items·item-below : ℕ → In 1 items·item-kinds.ps
-items·item-below t = and 1 items·item-kinds.ps (falls 1 items·item-kinds.ps _<_ μ-items·item t) items·item.Pre
 
 abbrev pub items·let-in-at : ℕ → In 1 items·let-in-kinds.ps
 items·let-in-at t = and 1 items·let-in-kinds.ps (is 1 items·let-in-kinds.ps μ-items·let-in t) items·let-in.Pre
@@ -171,14 +171,12 @@ operands·un-at t = and 1 operands·un-kinds.ps (is 1 operands·un-kinds.ps μ-o
 abbrev pub operands·un-below : ℕ → In 1 operands·un-kinds.ps
 operands·un-below t = and 1 operands·un-kinds.ps (falls 1 operands·un-kinds.ps _<_ μ-operands·un t) operands·un.Pre
 
-abbrev pub items·if-else-claims : ℕ → items·if-else-lts.Claims
-items·if-else-claims t =
-    (items·until-below t, items·until.Post, items·item-below t, items·item.Post, choice-reads.Asked, choice-reads.Learnt)
-
-abbrev pub items·item-claims : ℕ → items·item-lts.Claims
-items·item-claims t = (
+abbrev pub items·clause-claims : ℕ → items·clause-lts.Claims
+items·clause-claims t = (
   kind-reads.Asked,
   kind-reads.Learnt,
+  items·let-in-below t,
+  items·let-in.Post,
   items·if-else-below t,
   items·if-else.Post,
   items·while-block-below t,
@@ -187,17 +185,28 @@ items·item-claims t = (
   operands·assign.Post,
 )
 
+abbrev pub items·if-else-claims : ℕ → items·if-else-lts.Claims
+items·if-else-claims t =
+    (items·until-below t, items·until.Post, items·clause-below t, items·clause.Post, choice-reads.Asked, choice-reads.Learnt)
+
 abbrev pub items·let-in-claims : ℕ → items·let-in-lts.Claims
-items·let-in-claims t = (kind-reads.Asked, kind-reads.Learnt, items·until-below t, items·until.Post, items·seq-below t, items·seq.Post, pair-reads.Asked, pair-reads.Learnt)
+items·let-in-claims t = (
+  kind-reads.Asked,
+  kind-reads.Learnt,
+  items·until-below t,
+  items·until.Post,
+  items·seq-below t,
+  items·seq.Post,
+  pair-reads.Asked,
+  pair-reads.Learnt,
+)
 
 abbrev pub items·seq-claims : ℕ → items·seq-lts.Claims
 items·seq-claims t = (
+  items·clause-below t,
+  items·clause.Post,
   kind-reads.Asked,
   kind-reads.Learnt,
-  items·let-in-below t,
-  items·let-in.Post,
-  items·item-below t,
-  items·item.Post,
   items·seq-below t,
   items·seq.Post,
   pair-reads.Asked,
