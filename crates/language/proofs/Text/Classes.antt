@@ -1,14 +1,14 @@
 -- Where the bytes of each class lie, and that a byte is of at most one of the classes blank, letter and digit.
-use mathlib.Core.Bool.{true, false}
+use mathlib.Core.Bool.{true, false, cond, _||_}
 use mathlib.Core.Logic.{⊎-elim, _⊎_, inl, inr}
-use mathlib.Core.Path.{_≡_}
+use mathlib.Core.Path.{_≡_, sym, _∙_, ap}
 use native.Mathlib.Omega.{arith}
-use borrow.Author.Tests.{ne-eqb, leb-true}
-use lib.Dec.{eqb, leb}
+use borrow.Author.Tests.{ne-eqb, leb-true, le-leb, lt-leb, lt-ltb, le-ltb}
+use lib.Dec.{eqb, leb, ltb}
 use Prim.Native.Char.{Char, code}
-use Prim.Native.Nat.{ℕ, _≤_}
+use Prim.Native.Nat.{ℕ, _+_, _-_, _≤_, _<_}
 use Rattle.language.proofs.Text.Choices.{outcome, and-both, or-either}
-use Rattle.language.specs.Text.{between, is-blank, is-letter, is-digit, is-name-byte}
+use Rattle.language.specs.Text.{between, is-blank, is-letter, is-digit, is-hex-digit, worth, is-digit-of, is-name-byte}
 
 between-bounds : (low high : Char) (b : ℕ) → between low high b ≡ true → (code low ≤ b) × (b ≤ code high)
 unfolding between
@@ -48,6 +48,23 @@ digit-not-blank b e = high-not-blank b (omega (arith, digit-bounds b e .0))
 pub digit-not-letter : (b : ℕ) → is-digit b ≡ true → is-letter b ≡ false
 digit-not-letter b e =
     ⊎-elim (λ x. absurd (let l = letter-least b x in let d = digit-bounds b e in omega arith)) (λ x. x) (outcome (is-letter b))
+
+-- ---- digits of other bases
+
+-- a digit of a base lies from `0` to `9`, from `A` to `F` or from `a` to `f`
+hex-bounds : (b : ℕ) → is-hex-digit b ≡ true → (is-digit b ≡ true) ⊎ (((65 ≤ b) × (b ≤ 70)) ⊎ ((97 ≤ b) × (b ≤ 102)))
+unfolding is-hex-digit
+hex-bounds b e =
+    ⊎-elim
+    (λ x. ⊎-elim (λ y. inl y) (λ y. inr (inl (between-bounds "A" "F" b y))) (or-either (is-digit b) (between "A" "F" b) x))
+    (λ x. inr (inr (between-bounds "a" "f" b x))) (or-either (is-digit b || between "A" "F" b) (between "a" "f" b) e)
+
+-- it is not 0, so it lies in the text
+pub digit-of-some : (base b : ℕ) → is-digit-of base b ≡ true → 0 < b
+unfolding is-digit-of
+digit-of-some base b e =
+    ⊎-elim (λ x. omega (arith, digit-bounds b x .0)) (λ x. ⊎-elim (λ y. omega (arith, y .0)) (λ y. omega (arith, y .0)) x)
+    (hex-bounds b (and-both (is-hex-digit b) (ltb (worth b) base) e .0))
 
 -- ---- a class by the tests on the way to it
 
