@@ -6,5 +6,6 @@ pub mod OneAnswer
 pub mod Demand1
 pub mod Demand3
 pub mod NotAgain
+pub mod DecimalSheets
 pub mod Examples
 pub mod FurtherExamples

@@ -13,4 +13,6 @@ pub mod Pieces
 pub mod Scanner
 pub mod Edition
 pub mod Examples
+pub mod BaseExamples
 pub mod SmallNumbers
+pub mod DecimalBefore

@@ -7,7 +7,7 @@ use borrow.Author.Tests.{ne-eqb, leb-true, le-leb, lt-leb, lt-ltb, le-ltb}
 use lib.Dec.{eqb, leb, ltb}
 use Prim.Native.Char.{Char, code}
 use Prim.Native.Nat.{ℕ, _+_, _-_, _≤_, _<_}
-use Rattle.language.proofs.Text.Choices.{outcome, and-both, or-either}
+use Rattle.language.proofs.Text.Choices.{outcome, and-both, or-either, or-true}
 use Rattle.language.specs.Text.{between, is-blank, is-letter, is-digit, is-hex-digit, worth, is-digit-of, is-name-byte}
 
 between-bounds : (low high : Char) (b : ℕ) → between low high b ≡ true → (code low ≤ b) × (b ≤ code high)
@@ -68,6 +68,10 @@ digit-of-some base b e =
 
 -- ---- a class by the tests on the way to it
 
+bounds-between : (low high : Char) (b : ℕ) → code low ≤ b → b ≤ code high → between low high b ≡ true
+unfolding between
+bounds-between low high b l h = rw (le-leb (code low) b l, le-leb b (code high) h)
+
 -- a byte that is not one of the first three blanks is a blank exactly if it is LF
 pub blank-last : (b : ℕ) → (b ≡ 32 → ⊥) → (b ≡ 9 → ⊥) → (b ≡ 13 → ⊥) → eqb b 10 ≡ is-blank b
 unfolding is-blank
@@ -82,6 +86,15 @@ name-letter b e = rw e
 pub name-digit : (b : ℕ) → is-digit b ≡ true → is-name-byte b ≡ true
 unfolding is-name-byte
 name-digit b e = rw (digit-not-letter b e, e)
+
+-- a digit of a base is a name byte
+pub name-digit-of : (base b : ℕ) → is-digit-of base b ≡ true → is-name-byte b ≡ true
+unfolding is-digit-of is-letter
+name-digit-of base b e =
+    ⊎-elim (λ x. name-digit b x)
+    (λ x. name-letter b (⊎-elim (λ y. rw (bounds-between "A" "Z" b (y .0) (omega (arith, y .1))))
+    (λ y. or-true (between "A" "Z" b) (bounds-between "a" "z" b (y .0) (omega (arith, y .1)))) x))
+    (hex-bounds b (and-both (is-hex-digit b) (ltb (worth b) base) e .0))
 
 -- a byte that is neither is a name byte exactly if it is `_`
 pub name-last : (b : ℕ) → is-letter b ≡ false → is-digit b ≡ false → eqb b 95 ≡ is-name-byte b
