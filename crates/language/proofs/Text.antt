@@ -10,6 +10,7 @@ pub mod Places
 pub mod OnePiece
 pub mod OneSplit
 pub mod Pieces
+pub mod Bases
 pub mod Scanner
 pub mod Edition
 pub mod Examples

@@ -20,13 +20,13 @@ abbrev μ-loop : tie.MeasureT-loop
 μ-loop source at end value₀ i₀ value i = end - i
 
 digits-end-requires : tie.Need-digits-end-requires Inv-loop μ-loop
-digits-end-requires c κs = omega (arith, c .before .pre .0)
+digits-end-requires c κs = omega (arith, c@pre .0)
 
 loop-holds : tie.Need-loop-holds Inv-loop μ-loop
-loop-holds c = read-none (c .digits-end .ensures)
+loop-holds c = read-none (c@digits-end .ensures)
 
 mul-value : tie.Need-mul-value Inv-loop μ-loop
-mul-value c = omega (arith, c .before .loop .inv .small)
+mul-value c = omega (arith, c@loop .inv .small)
 
 byte-requires : tie.Need-byte-requires Inv-loop μ-loop
 byte-requires c κs = search needs
@@ -34,60 +34,60 @@ byte-requires c κs = search needs
 sub-value : tie.Need-sub-value Inv-loop μ-loop
 sub-value c =
     let digit =
-    read-digit (c .before .before .before .digits-end .ensures) (c .before .before .loop .inv) (c .before .loop-test .taken)
-    (c .byte .ensures) in
+    read-digit (c@digits-end .ensures) (c@loop .inv) (c@loop-test .taken)
+    (c@byte .ensures) in
     omega arith
 
 cast-value : tie.Need-cast-value Inv-loop μ-loop
 cast-value c =
     let digit =
-    read-digit (c .before .before .before .digits-end .ensures) (c .before .before .loop .inv) (c .before .loop-test .taken)
-    (c .byte .ensures) in
+    read-digit (c@digits-end .ensures) (c@loop .inv) (c@loop-test .taken)
+    (c@byte .ensures) in
     omega arith
 
 add-value : tie.Need-add-value Inv-loop μ-loop
 add-value c =
     let digit =
-    read-digit (c .before .before .before .digits-end .ensures) (c .before .before .loop .inv) (c .before .loop-test .taken)
-    (c .byte .ensures) in
-    let small = c .before .before .loop .inv .small in
+    read-digit (c@digits-end .ensures) (c@loop .inv) (c@loop-test .taken)
+    (c@byte .ensures) in
+    let small = c@loop .inv .small in
     omega arith
 
 returns : tie.Need-returns Inv-loop μ-loop
 returns c =
-    let p = c .before .before .before .before .before .before .args .at in
-    let t = c .before .before .before .before .before .before .args .source .now in
-    let q = c .before .before .before .before .digits-end .result in
-    let given = c .before .before .before .before .before .before .pre in
-    let piece = number-piece laws-1 t p q (given .0) (given .1) (c .before .before .before .before .digits-end .ensures) in
+    let p = c@args .at in
+    let t = c@args .source .now in
+    let q = c@digits-end .result in
+    let given = c@pre in
+    let piece = number-piece laws-1 t p q (given .0) (given .1) (c@digits-end .ensures) in
     let large =
-    read-large (c .before .before .before .before .digits-end .ensures) (c .before .before .before .loop .inv)
-    (c .before .before .loop-test .taken) (c .before .byte .ensures) (c .if1 .taken) in
+    read-large (c@digits-end .ensures) (c@loop .inv)
+    (c@loop-test .taken) (c@byte .ensures) (c@if1 .taken) in
     (q, number-from 0 (slice p q t), piece, large)
 
 add-i : tie.Need-add-i Inv-loop μ-loop
-add-i c = omega (arith, c .before .before .loop-test .taken, c .before .before .before .before .digits-end .ensures .within)
+add-i c = omega (arith, c@loop-test .taken, c@digits-end .ensures .within)
 
 loop-less : tie.Need-loop-less Inv-loop μ-loop
 loop-less c = search needs
 
 loop-again : tie.Need-loop-again Inv-loop μ-loop
 loop-again c =
-    read-more (c .before .before .before .before .digits-end .ensures) (c .before .before .before .loop .inv)
-    (c .before .before .loop-test .taken) (c .before .byte .ensures) (c .if1 .left)
+    read-more (c@digits-end .ensures) (c@loop .inv)
+    (c@loop-test .taken) (c@byte .ensures) (c@if1 .left)
 
 cast-t11 : tie.Need-cast-t11 Inv-loop μ-loop
-cast-t11 c = omega (arith, c .before .loop .inv .small)
+cast-t11 c = omega (arith, c@loop .inv .small)
 
 returns-2 : tie.Need-returns-2 Inv-loop μ-loop
 returns-2 c =
-    let p = c .before .before .before .before .args .at in
-    let t = c .before .before .before .before .args .source .now in
-    let q = c .before .before .digits-end .result in
-    let given = c .before .before .before .before .pre in
-    let piece = number-piece laws-1 t p q (given .0) (given .1) (c .before .before .digits-end .ensures) in
-    let value = read-all (c .before .before .digits-end .ensures) (c .before .loop .inv) (c .loop-test .left) in
-    (subst (λ v. Piece EDITION-1 t p q (token NUMBER v)) (sym value) piece, c .before .loop .inv .small)
+    let p = c@args .at in
+    let t = c@args .source .now in
+    let q = c@digits-end .result in
+    let given = c@pre in
+    let piece = number-piece laws-1 t p q (given .0) (given .1) (c@digits-end .ensures) in
+    let value = read-all (c@digits-end .ensures) (c@loop .inv) (c@loop-test .left) in
+    (subst (λ v. Piece EDITION-1 t p q (token NUMBER v)) (sym value) piece, c@loop .inv .small)
 
 pub number-spec : {M : Type 1} → statement M
 number-spec =
