@@ -1,6 +1,6 @@
 -- A number's base as a program finds it: by two bytes, and a digit behind them.
-use borrow.Author.Tests.{le-ltb, leb-true}
-use lib.Dec.{leb, ltb}
+use borrow.Author.Tests.{le-ltb, leb-true, ne-eqb}
+use lib.Dec.{eqb, leb, ltb}
 use lib.ListN.{length}
 use lib.Seq.{slice}
 use mathlib.Core.Bool.{Bool, true, false, _&&_}
@@ -15,10 +15,10 @@ use Rattle.language.proofs.Text.Marks.{laws-1, slice-two}
 use Rattle.language.proofs.Text.Pieces.{Tells, number-piece, based-piece}
 use Rattle.language.proofs.Text.Runs.{Run}
 use Rattle.language.proofs.Text.Spellings.{byte-inside}
-use Rattle.language.proofs.Text.Tables.{kind-of, row, every, every-row, found}
+use Rattle.language.proofs.Text.Tables.{kind-of, row, every, every-row, found, no-kind}
 use Rattle.language.specs.Text.{byte, is-digit, is-digit-of, is-hex-digit, worth, Piece, number-from}
 use Rattle.language.specs.Text.Content.{token}
-use Rattle.language.specs.Tokens.{Spelling, EDITION-1, bases, spelled, NUMBER}
+use Rattle.language.specs.Tokens.{Spelling, same, EDITION-1, bases, spelled, NUMBER}
 
 -- ---- the base that is told
 
@@ -30,6 +30,27 @@ or-none (some base) = base
 -- the base that bytes tell
 unfoldable pub base-told : Spelling → ℕ
 base-told s = or-none (spelled bases s)
+
+zero-first : Spelling → Bool
+zero-first [] = false
+zero-first (a ∷ s) = eqb a 48
+
+-- two bytes tell none where the first is no `0`, and else the second decides
+pub base-first : (a b : ℕ) → (a ≡ 48 → ⊥) → 0 ≡ base-told (a ∷ b ∷ [])
+unfolding base-told zero-first every
+base-first a b h = sym (ap or-none (no-kind zero-first bases (a ∷ b ∷ []) refl (ne-eqb a 48 h)))
+
+pub base-hex : (a b : ℕ) → a ≡ 48 → b ≡ 120 → 16 ≡ base-told (a ∷ b ∷ [])
+unfolding base-told spelled same
+base-hex a b e f = rw (e, f)
+
+pub base-binary : (a b : ℕ) → a ≡ 48 → b ≡ 98 → 2 ≡ base-told (a ∷ b ∷ [])
+unfolding base-told spelled same
+base-binary a b e f = rw (e, f)
+
+pub base-other : (a b : ℕ) → a ≡ 48 → (b ≡ 120 → ⊥) → (b ≡ 98 → ⊥) → 0 ≡ base-told (a ∷ b ∷ [])
+unfolding base-told spelled same
+base-other a b e f g = rw (e, ne-eqb 120 b (λ x. f (sym x)), ne-eqb 98 b (λ x. g (sym x)))
 
 -- none is over 16
 small : (s : Spelling) (base : ℕ) → spelled bases s ≡ some base → base ≤ 16

@@ -4,66 +4,52 @@ use lib.Seq.{slice}
 use mathlib.Core.Path.{sym, subst}
 use native.Mathlib.Omega.{arith}
 use Prim.Native.Nat.{_-_}
-use Rattle.language.proofs.Text.Marks.{laws-1}
-use Rattle.language.proofs.Text.Pieces.{number-piece}
 use Rattle.language.specs.Text.Content.{token}
 use Rattle.language.specs.Text.{Piece, number-from}
 use Rattle.language.specs.Tokens.{EDITION-1, NUMBER}
-use Rattle.tokens.proofs.Digits.{Read, read-none, read-digit, read-more, read-large, read-all}
+use Rattle.tokens.proofs.Digits.{Read, product, read-none, read-hex, read-worth, read-more, read-large, read-all}
 use Rattle.tokens.proofs.worth.number.Statement.{statement}
 use Rattle.tokens.proofs.worth.number.Tie as tie
 
 abbrev Inv-loop : tie.InvT-loop
-Inv-loop source at end value₀ i₀ value i = Read source at end i value
+Inv-loop source at digits from base end value₀ i₀ value i = Read base source from end i value
 
 abbrev μ-loop : tie.MeasureT-loop
-μ-loop source at end value₀ i₀ value i = end - i
+μ-loop source at digits from base end value₀ i₀ value i = end - i
+
+digits-at-requires : tie.Need-digits-at-requires Inv-loop μ-loop
+digits-at-requires c κs = c@pre
 
 digits-end-requires : tie.Need-digits-end-requires Inv-loop μ-loop
-digits-end-requires c κs = omega (arith, c@pre .0)
+digits-end-requires c κs = c@digits-at .ensures .within
 
 loop-holds : tie.Need-loop-holds Inv-loop μ-loop
 loop-holds c = read-none (c@digits-end .ensures)
 
 mul-value : tie.Need-mul-value Inv-loop μ-loop
-mul-value c = omega (arith, c@loop .inv .small)
+mul-value c = omega (arith, product (c@loop .inv .small) (c@digits-at .ensures .high))
 
 byte-requires : tie.Need-byte-requires Inv-loop μ-loop
 byte-requires c κs = search needs
 
-sub-value : tie.Need-sub-value Inv-loop μ-loop
-sub-value c =
-    let digit =
-    read-digit (c@digits-end .ensures) (c@loop .inv) (c@loop-test .taken)
-    (c@byte .ensures) in
-    omega arith
-
-cast-value : tie.Need-cast-value Inv-loop μ-loop
-cast-value c =
-    let digit =
-    read-digit (c@digits-end .ensures) (c@loop .inv) (c@loop-test .taken)
-    (c@byte .ensures) in
-    omega arith
+worth-requires : tie.Need-worth-requires Inv-loop μ-loop
+worth-requires c κs = read-hex (c@digits-end .ensures) (c@loop .inv) (c@loop-test .taken) (c@byte .ensures)
 
 add-value : tie.Need-add-value Inv-loop μ-loop
 add-value c =
-    let digit =
-    read-digit (c@digits-end .ensures) (c@loop .inv) (c@loop-test .taken)
-    (c@byte .ensures) in
-    let small = c@loop .inv .small in
-    omega arith
+    let l = c@loop .inv in
+    let less = read-worth (c@digits-end .ensures) l (c@loop-test .taken) (c@byte .ensures) (c@worth .ensures) in
+    let high = c@digits-at .ensures .high in
+    omega (arith, product (l .small) high)
 
 returns : tie.Need-returns Inv-loop μ-loop
 returns c =
-    let p = c@args .at in
     let t = c@args .source .now in
     let q = c@digits-end .result in
-    let given = c@pre in
-    let piece = number-piece laws-1 t p q (given .0) (given .1) (c@digits-end .ensures) in
-    let large =
-    read-large (c@digits-end .ensures) (c@loop .inv)
-    (c@loop-test .taken) (c@byte .ensures) (c@if1 .taken) in
-    (q, number-from 0 (slice p q t), piece, large)
+    let d = c@digits-at in
+    let run = c@digits-end .ensures in
+    let large = read-large run (c@loop .inv) (c@loop-test .taken) (c@byte .ensures) (c@worth .ensures) (d .ensures .low) (c@if1 .taken) in
+    (q, number-from (d .result .base) 0 (slice (d .result .from) q t), d .ensures .piece q run, large)
 
 add-i : tie.Need-add-i Inv-loop μ-loop
 add-i c = omega (arith, c@loop-test .taken, c@digits-end .ensures .within)
@@ -73,19 +59,17 @@ loop-less c = search needs
 
 loop-again : tie.Need-loop-again Inv-loop μ-loop
 loop-again c =
-    read-more (c@digits-end .ensures) (c@loop .inv)
-    (c@loop-test .taken) (c@byte .ensures) (c@if1 .left)
+    read-more (c@digits-end .ensures) (c@loop .inv) (c@loop-test .taken) (c@byte .ensures) (c@worth .ensures) (c@if1 .left)
 
-cast-t11 : tie.Need-cast-t11 Inv-loop μ-loop
-cast-t11 c = omega (arith, c@loop .inv .small)
+cast-t13 : tie.Need-cast-t13 Inv-loop μ-loop
+cast-t13 c = omega (arith, c@loop .inv .small)
 
 returns-2 : tie.Need-returns-2 Inv-loop μ-loop
 returns-2 c =
     let p = c@args .at in
     let t = c@args .source .now in
     let q = c@digits-end .result in
-    let given = c@pre in
-    let piece = number-piece laws-1 t p q (given .0) (given .1) (c@digits-end .ensures) in
+    let piece = c@digits-at .ensures .piece q (c@digits-end .ensures) in
     let value = read-all (c@digits-end .ensures) (c@loop .inv) (c@loop-test .left) in
     (subst (λ v. Piece EDITION-1 t p q (token NUMBER v)) (sym value) piece, c@loop .inv .small)
 
@@ -95,16 +79,16 @@ number-spec =
     (tie.spec
     Inv-loop
     μ-loop
+    digits-at-requires
     digits-end-requires
     loop-holds
     mul-value
     byte-requires
-    sub-value
-    cast-value
+    worth-requires
     add-value
     returns
     add-i
     loop-less
     loop-again
-    cast-t11
+    cast-t13
     returns-2)
