@@ -43,7 +43,10 @@ fn digits_at(source: &[u8], at: usize) -> Digits
 {
     let base = base_of(byte(source, at), byte(source, at + 1));
     if is_digit_of(base, byte(source, at + 2)) {
-        return Digits { from: at + 2, base: base };
+        return Digits {
+            from: at + 2,
+            base: base,
+        };
     }
     Digits { from: at, base: 10 }
 }

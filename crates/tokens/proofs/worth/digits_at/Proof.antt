@@ -18,7 +18,7 @@ place s = s .args .at
 
 -- where it began
 abbrev start : tie.After-base-of → tie.Start
-start c = c .before .before .before
+start c = c .before .before .before .before
 
 -- the base that the two bytes tell
 base : (c : tie.After-base-of)
