@@ -13,7 +13,7 @@ const GAPS: [&str; 8] = [
     "// b\n",
     "/*/**/ // */\n",
 ];
-const LOOSE: [&str; 12] = [
+const LOOSE: [&str; 19] = [
     "x",
     "y",
     "f0",
@@ -26,6 +26,13 @@ const LOOSE: [&str; 12] = [
     "256",
     "2147483647",
     "2147483648",
+    "0x",
+    "0b",
+    "0x1f",
+    "0b101",
+    "0x7FFFFFFF",
+    "0x80000000",
+    "b1",
 ];
 
 /// Spells the tokens out. Blanks and comments come where tokens would run
@@ -65,6 +72,7 @@ fn runs_together(left: &str, right: &str) -> bool {
     let wordlike = next.is_ascii_alphanumeric() || next == b'_';
     (first.is_ascii_alphabetic() && wordlike)
         || (first.is_ascii_digit() && next.is_ascii_digit())
+        || (left.starts_with("0x") && next.is_ascii_hexdigit())
         || (matches!(left, "=" | ":") && next == b'=')
         || (left == "/" && matches!(next, b'/' | b'*'))
 }
@@ -98,7 +106,7 @@ pub fn damage_tokens(chance: &mut Chance, tokens: &mut Vec<String>) {
 
 /// Takes out, changes, puts in or cuts off a few bytes.
 pub fn damage_bytes(chance: &mut Chance, sheet: &mut Vec<u8>) {
-    const TELLING: &[u8] = b"/*&|:=!<>_~.9 \n\x00\xff(){}";
+    const TELLING: &[u8] = b"/*&|:=!<>_~.9xb0f \n\x00\xff(){}";
     for _ in 0..chance.between(1, 3) {
         if sheet.is_empty() {
             return;
@@ -132,7 +140,7 @@ pub fn soup(chance: &mut Chance) -> Vec<String> {
 
 /// Bytes with no thought behind them.
 pub fn byte_soup(chance: &mut Chance) -> Vec<u8> {
-    const LIKELY: &[u8] = b"01 ax_+-*/&|<=:!;,(){}\n";
+    const LIKELY: &[u8] = b"001xbfg ax_+-*/&|<=:!;,(){}\n";
     let odd_one_in = chance.pick(&[10, 1000]);
     let byte = |chance: &mut Chance| match chance.one_in(odd_one_in) {
         true => chance.next_word() as u8,

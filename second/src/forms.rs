@@ -1,5 +1,6 @@
 //! The expressions of random programs: one function for each kind of form.
 
+use crate::numbers;
 use crate::sheets::{cell_of, Known, Writer};
 use crate::types::Type;
 
@@ -15,23 +16,6 @@ pub const SUM: u8 = 6;
 pub const PROD: u8 = 7;
 pub const UN: u8 = 8;
 pub const ATOM: u8 = 9;
-
-const NOTABLE: [&str; 14] = [
-    "0",
-    "00",
-    "10",
-    "65",
-    "127",
-    "255",
-    "256",
-    "32767",
-    "46341",
-    "65535",
-    "65536",
-    "1073741824",
-    "2147483646",
-    "2147483647",
-];
 
 impl Writer<'_> {
     /// Writes an expression of this type for a place of this rule level.
@@ -226,13 +210,8 @@ impl Writer<'_> {
         }
         match kind {
             Type::Int => {
-                let small = self.chance.below(10).to_string();
-                let number = if self.chance.one_in(5) {
-                    self.chance.pick(&NOTABLE)
-                } else {
-                    &small
-                };
-                self.put(number);
+                let number = numbers::spelled(self.chance);
+                self.put(&number);
             }
             Type::Bool => {
                 let truth = self.chance.pick(&["true", "false"]);

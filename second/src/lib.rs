@@ -19,6 +19,7 @@ pub mod long;
 pub mod near;
 pub mod neighbours;
 pub mod nests;
+pub mod numbers;
 pub mod paper;
 pub mod piped;
 pub mod quote;

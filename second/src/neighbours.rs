@@ -156,6 +156,15 @@ mod tests {
             || (left == "tt" && ["then", "{"].contains(&right))
     }
 
+    /// What is one number in hex or binary was a number and a name before, and
+    /// these are never neighbours: no sheet that passed then changes (R06.6).
+    #[test]
+    fn no_name_after_a_number() {
+        let possible = Grammar::new().neighbours();
+        assert!(!possible.contains(&("number".to_string(), "name".to_string())));
+        assert!(possible.contains(&("number".to_string(), "in".to_string())));
+    }
+
     #[test]
     fn all_neighbours_are_there() {
         let seen: BTreeSet<Pair> =

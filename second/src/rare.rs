@@ -1,5 +1,5 @@
 //! Sheets made to come close to one limit or the other. Plain random programs
-//! hardly ever do.
+//! hardly ever do. Those whose text matters, not their tree, are in `long`.
 
 use crate::chance::Chance;
 use crate::forms::SEQ;
@@ -9,10 +9,11 @@ use crate::types::Type;
 
 pub fn sheet(chance: &mut Chance) -> Vec<u8> {
     let make = chance.pick(&[
-        long_sheet as fn(&mut Chance) -> String,
-        many_tokens,
-        large_number,
-        open_comment,
+        long::long_sheet as fn(&mut Chance) -> String,
+        long::many_tokens,
+        long::large_number,
+        long::odd_number,
+        long::open_comment,
         many_functions,
         many_parameters,
         same_function,
@@ -39,62 +40,6 @@ pub fn part(chance: &mut Chance, kind: &Type) -> String {
     let mut writer = Writer::new(chance, fuel);
     writer.expression(kind, SEQ);
     writer.tokens.join(" ")
-}
-
-fn long_sheet(chance: &mut Chance) -> String {
-    let start = part(chance, &Type::Int);
-    let length = chance.between(8190, 8194);
-    let fill = chance.pick(&[" ", "\n", "-"]);
-    let comment = if fill == "-" { "//" } else { "" };
-    let missing = length.saturating_sub(start.len() + comment.len());
-    format!("{start}{comment}{}", fill.repeat(missing))
-}
-
-fn many_tokens(chance: &mut Chance) -> String {
-    let (unit, size) = chance.pick(&[
-        ("-", 1),
-        ("1+", 2),
-        ("tt;", 2),
-        ("(", 1),
-        ("1*1-", 4),
-        ("- -", 2),
-    ]);
-    let times = chance.between(1020 / size, 1028 / size);
-    let end = chance.pick(&[
-        "1",
-        "tt",
-        "2147483648",
-        "&",
-        "/*",
-        "1 1",
-        "1 3000000000",
-        "x",
-    ]);
-    format!("{}{end}", unit.repeat(times))
-}
-
-fn large_number(chance: &mut Chance) -> String {
-    let near = 2_147_483_640 + chance.below(16);
-    let zeros = "0".repeat(chance.pick(&[0, 0, 1, 30]));
-    let more = chance.pick(&["", "", "", "0", "999999999999999999999999"]);
-    let mark = chance.pick(&["+", "-", "*", "/", "<"]);
-    format!("{}{mark}{zeros}{near}{more}", part(chance, &Type::Int))
-}
-
-fn open_comment(chance: &mut Chance) -> String {
-    let depth = chance.between(1, 40);
-    let closed = (depth + 1 - chance.below(3)).min(depth + 1);
-    let before = if chance.one_in(2) {
-        part(chance, &Type::Int)
-    } else {
-        String::new()
-    };
-    let inside = chance.pick(&["", "/", "*", "//", "& | \u{e9}"]);
-    format!(
-        "{before} {}{inside}{} 1",
-        "/*".repeat(depth),
-        "*/".repeat(closed)
-    )
 }
 
 fn many_functions(chance: &mut Chance) -> String {

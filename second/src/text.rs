@@ -121,15 +121,27 @@ fn word(rest: &[u8]) -> (Kind, usize) {
 }
 
 fn number(rest: &[u8]) -> Result<(Kind, usize), u32> {
-    let length = run_of(rest, |b| b.is_ascii_digit());
+    // Without a digit behind it, `0x` or `0b` is the number 0 and a name.
+    let marked = [(&b"0x"[..], 16), (&b"0b"[..], 2)]
+        .into_iter()
+        .find(|(mark, base)| {
+            rest.starts_with(mark) && rest.get(2).is_some_and(|b| is_digit(*b, *base))
+        });
+    let (start, base) = marked.map_or((0, 10), |(mark, base)| (mark.len(), base));
+    let length = start + run_of(&rest[start..], |b| is_digit(b, base));
     let mut value = 0u64;
-    for digit in &rest[..length] {
-        value = value * 10 + u64::from(digit - b'0');
+    for byte in &rest[start..length] {
+        let digit = char::from(*byte).to_digit(base).expect("a digit");
+        value = value * u64::from(base) + u64::from(digit);
         if value > LARGEST {
             return Err(13);
         }
     }
     Ok((Kind::Number(value as i32), length))
+}
+
+fn is_digit(byte: u8, base: u32) -> bool {
+    char::from(byte).is_digit(base)
 }
 
 fn run_of(rest: &[u8], belongs: impl Fn(u8) -> bool) -> usize {
@@ -160,6 +172,13 @@ mod tests {
         assert_eq!(spelled("iff if"), ["name iff", "if"]);
         assert_eq!(spelled("1x_2"), ["number 1", "name x_2"]);
         assert_eq!(spelled("*//"), ["*"]);
+        assert_eq!(spelled("0x1else"), ["number 30", "name lse"]);
+        assert_eq!(spelled("0b1else"), ["number 1", "else"]);
+        assert_eq!(spelled("0b12"), ["number 1", "number 2"]);
+        assert_eq!(
+            spelled("0xg 0b 00x1"),
+            ["number 0", "name xg", "number 0", "name b", "number 0", "name x1"]
+        );
     }
 
     #[test]

@@ -8,6 +8,7 @@ pub mod Demand3
 pub mod NotAgain
 pub mod PlacesAside
 pub mod OldSheets
+pub mod DecimalSheets
 pub mod Examples
 pub mod FurtherExamples
 pub mod LetAfterElse

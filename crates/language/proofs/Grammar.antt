@@ -1,6 +1,7 @@
 -- What is true of the written grammar.
 pub mod Entries
 pub mod FirstTokens
+pub mod NumberThenName
 pub mod Association
 pub mod Reaching
 pub mod OneReading

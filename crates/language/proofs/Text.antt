@@ -12,7 +12,10 @@ pub mod OneSplit
 pub mod Pieces
 pub mod Alone
 pub mod Spots
+pub mod Bases
 pub mod Scanner
 pub mod Edition
 pub mod Examples
+pub mod BaseExamples
 pub mod SmallNumbers
+pub mod DecimalBefore

@@ -1,13 +1,13 @@
 -- How the bytes of a text split into tokens by a vocabulary, and the four things that stop a split (S009 to S021; rows 11
 -- to 14). Places are byte offsets. What a piece of text may be is said by its form; that the longest form counts is said
 -- once.
-use mathlib.Core.Bool.{Bool, true, _&&_, _||_, not}
+use mathlib.Core.Bool.{Bool, true, cond, _&&_, _||_, not}
 use mathlib.Core.List.{List, [], _∷_, _++_}
 use mathlib.Core.Option.{Option, none, some}
 use mathlib.Core.Path.{_≡_}
 use Prim.Native.Char.{Char, code}
 use Prim.Native.Nat.{ℕ, _+_, _*_, _-_, _≤_, _<_}
-use lib.Dec.{eqb, leb}
+use lib.Dec.{eqb, leb, ltb}
 use lib.ListN.{length, getD}
 use lib.Seq.{slice}
 use Rattle.language.specs.Sizes.{TOKENS, LARGEST}
@@ -35,6 +35,18 @@ is-digit b = between "0" "9" b
 
 unfoldable pub is-name-byte : ℕ → Bool
 is-name-byte b = is-letter b || is-digit b || eqb b (code "_")
+
+-- R06.2: letters of both cases go on behind the digit 9
+unfoldable pub is-hex-digit : ℕ → Bool
+is-hex-digit b = is-digit b || between "A" "F" b || between "a" "f" b
+
+-- what such a digit is worth
+unfoldable pub worth : ℕ → ℕ
+worth b = cond (leb b (code "9")) (b - code "0") (cond (leb b (code "F")) (b - code "A" + 10) (b - code "a" + 10))
+
+-- the digits of a base are worth less than it
+unfoldable pub is-digit-of : ℕ → ℕ → Bool
+is-digit-of base b = is-hex-digit b && ltb (worth b) base
 
 -- S020: not the LF that ends a line
 unfoldable pub is-in-line : ℕ → Bool
@@ -84,10 +96,10 @@ abbrev pub or-name : Option ℕ → ℕ
 or-name none = NAME
 or-name (some k) = k
 
--- S015: digits, read on from the number n
-unfoldable pub number-from : ℕ → Spelling → ℕ
-number-from n [] = n
-number-from n (d ∷ s) = number-from (n * 10 + (d - code "0")) s
+-- S015, R06.2: digits over a base, read on from the number n
+unfoldable pub number-from : (base : ℕ) → ℕ → Spelling → ℕ
+number-from base n [] = n
+number-from base n (d ∷ s) = number-from base (n * base + worth d) s
 
 -- the bytes from p up to q are there, one at least
 pub record Within (t : List ℕ) (p q : ℕ) : Type 0 where
@@ -113,7 +125,10 @@ module _ (voc : Vocabulary) where
     unended : Opens t p → ((e : ℕ) → Comment t p e → ⊥) → q ≡ length t → Form t p q unclosed
     name : Within t p q → is-letter (byte t p) ≡ true → Each is-name-byte t p q
         → Form t p q (token (word-kind (slice p q t)) 0)
-    number : Within t p q → Each is-digit t p q → Form t p q (token NUMBER (number-from 0 (slice p q t)))
+    number : Within t p q → Each is-digit t p q → Form t p q (token NUMBER (number-from 10 0 (slice p q t)))
+    -- R06.2, R06.4: its first two bytes tell the base, and a digit follows them
+    based : {base : ℕ} → spelled (voc .bases) (slice p (p + 2) t) ≡ some base → Within t (p + 2) q
+        → Each (is-digit-of base) t (p + 2) q → Form t p q (token NUMBER (number-from base 0 (slice (p + 2) q t)))
     mark : {k : ℕ} → Within t p q → spelled (voc .marks) (slice p q t) ≡ some k → Form t p q (token k 0)
 
   -- S010: and no form at p is longer

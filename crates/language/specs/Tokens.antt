@@ -167,14 +167,19 @@ marks =
     "==" is EQUAL ∷ ":=" is BECOMES ∷ "=" is IS ∷ "!" is BANG ∷ ";" is SEMI ∷ "," is COMMA ∷ ":" is COLON ∷
     "(" is LPAR ∷ ")" is RPAR ∷ "{" is LBRACE ∷ "}" is RBRACE ∷ []
 
--- An edition of the language is a vocabulary: tables of its words and of its marks. All else that is said of texts is the
--- same in every edition.
+-- R06.2: what stands before the digits of a number whose base is not ten, and the base
+abbrev pub bases : List (Entry String ℕ)
+bases = "0x" is 16 ∷ "0b" is 2 ∷ []
+
+-- An edition of the language is a vocabulary: tables of its words, of its marks and of its bases. All else that is said of
+-- texts is the same in every edition.
 pub record Vocabulary : Type 0 where
   pub words : List (Entry String ℕ)
   pub marks : List (Entry String ℕ)
+  pub bases : List (Entry String ℕ)
 
 abbrev pub EDITION-1 : Vocabulary
-EDITION-1 = record { words = words; marks = marks }
+EDITION-1 = record { words = words; marks = marks; bases = bases }
 
 -- the kind that a table of spellings gives
 unfoldable pub spelled : List (Entry String ℕ) → Spelling → Option ℕ

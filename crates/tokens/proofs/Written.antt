@@ -15,7 +15,8 @@ use Rattle.language.proofs.Text.Choices.{outcome}
 use Rattle.language.proofs.Text.Spots.{reached-spot}
 use Rattle.language.specs.Text.{Content, Form, token-of, Reaches}
 use Rattle.language.specs.Text.Content.{token}
-use Rattle.language.specs.Text.Form.{blank, line, comment, unended, name, number, mark}
+use Rattle.language.specs.Text.Form.{blank, line, comment, unended, name, number, mark, based}
+use Rattle.language.specs.Text.Reaches.{start, skip, next}
 use Rattle.language.specs.Tokens.{same, Vocabulary, Token, NAME, NUMBER, past}
 use Rattle.language.specs.Trees.{PUTCHAR}
 use Rattle.layout.proofs.TokenLaws.{same-self, first-is, lay-holds}
@@ -31,6 +32,7 @@ no-value t p q c (comment d) k v z n = absurd (let y : _≡_ {A = ℕ} 0 1 = cc 
 no-value t p q c (unended s m e) k v z n = absurd (let y : _≡_ {A = ℕ} 0 1 = cc in omega arith)
 no-value t p q c (name w l e) k v z n = cc
 no-value t p q c (number w e) k v z n = absurd (n (let y : k ≡ NUMBER = cc in y))
+no-value t p q c (based s w e) k v z n = absurd (n (let y : k ≡ NUMBER = cc in y))
 no-value t p q c (mark w e) k v z n = cc
 
 -- ---- the table of the tokens that are reached

@@ -9,13 +9,13 @@ use mathlib.Core.Path.{_≡_}
 use Prim.Native.Nat.{ℕ, _+_, _≤_, _<_}
 use Rattle.language.specs.Sizes.{TOKENS, TABLE, LARGEST}
 use Rattle.language.specs.Text as Text
-use Rattle.language.specs.Text.{is-digit, is-name-byte, is-in-line, Comment, Content, Form}
+use Rattle.language.specs.Text.{is-digit-of, is-name-byte, is-in-line, Comment, Content, Form}
 use Rattle.language.specs.Text.Content.{space, unclosed, token}
 use Rattle.language.specs.Tokens.{EDITION-1, Spelling, same, spelled, PAST, NAME, NUMBER}
 use Rattle.language.specs.Trees.{PUTCHAR}
 use Rattle.layout.specs.Table.{token-word}
 use Rattle.tokens.specs.declared.bytes.Class as class
-use Rattle.tokens.specs.declared.bytes.Class.the-variants.{NameByte, Digit, InLine}
+use Rattle.tokens.specs.declared.bytes.Class.the-variants.{NameByte, DigitOf, InLine}
 use Rattle.tokens.specs.declared.comments.Close as close
 use Rattle.tokens.specs.declared.comments.Close.the-variants.{At, Never}
 use Rattle.tokens.specs.declared.comments.Pair as pair
@@ -32,7 +32,7 @@ use Rattle.tokens.specs.declared.pieces.Piece.the-variants.{Space, Token
 -- the written class that the code's class is
 abbrev pub is-of : class.Class → ℕ → Bool
 is-of NameByte = is-name-byte
-is-of Digit = is-digit
+is-of (DigitOf base) = is-digit-of base
 is-of InLine = is-in-line
 
 -- ---- what stands at a place

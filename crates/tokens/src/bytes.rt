@@ -1,10 +1,12 @@
 // Bytes of a text: how one is read, the classes that tell what may begin at a place, and where a run of
 // bytes of one class ends.
+ghost use mathlib.Core.Bool.{true};
 ghost use mathlib.Core.Path.{_≡_};
 ghost use Prim.Native.Nat.{_≤_};
 ghost use lib.ListN.{length};
 ghost use Rattle.language.specs.Text as Text;
-ghost use Rattle.language.specs.Text.{is-blank, is-letter, is-digit, is-name-byte, is-in-line};
+ghost use Rattle.language.specs.Text.{is-blank, is-letter, is-digit, is-hex-digit, is-digit-of};
+ghost use Rattle.language.specs.Text.{is-name-byte, is-in-line};
 ghost use Rattle.language.proofs.Text.Runs.{Run};
 ghost use Rattle.language.proofs.Text.Spellings.{stands};
 ghost use Rattle.tokens.specs.Found.{is-of};
@@ -41,6 +43,47 @@ pub fn is_digit(b: u8) -> bool
     b <= b'9'
 }
 
+pub fn is_hex_digit(b: u8) -> bool
+    ensures { λ r. ⌜ r ≡ is-hex-digit b ⌝ }
+{
+    if is_digit(b) {
+        return true;
+    }
+    if b < b'A' {
+        return false;
+    }
+    if b <= b'F' {
+        return true;
+    }
+    if b < b'a' {
+        return false;
+    }
+    b <= b'f'
+}
+
+// What such a digit is worth.
+pub fn worth(b: u8) -> u64
+    requires { ⌜ is-hex-digit b ≡ true ⌝ }
+    ensures { λ r. ⌜ r ≡ Text.worth b ⌝ }
+{
+    if b <= b'9' {
+        return (b - b'0') as u64;
+    }
+    if b <= b'F' {
+        return (b - b'A' + 10) as u64;
+    }
+    (b - b'a' + 10) as u64
+}
+
+pub fn is_digit_of(base: u64, b: u8) -> bool
+    ensures { λ r. ⌜ r ≡ is-digit-of base b ⌝ }
+{
+    if !is_hex_digit(b) {
+        return false;
+    }
+    worth(b) < base
+}
+
 pub fn is_name_byte(b: u8) -> bool
     ensures { λ r. ⌜ r ≡ is-name-byte b ⌝ }
 {
@@ -71,7 +114,8 @@ pub fn is_blank(b: u8) -> bool
 // What the bytes of a run have in common.
 pub enum Class {
     NameByte,
-    Digit,
+    // A digit of this base.
+    DigitOf(u64),
     // Not the LF that ends a line.
     InLine,
 }
@@ -81,7 +125,7 @@ pub fn is_of(class: Class, b: u8) -> bool
 {
     match class {
         Class::NameByte => is_name_byte(b),
-        Class::Digit => is_digit(b),
+        Class::DigitOf(base) => is_digit_of(base, b),
         Class::InLine => b != b'\n',
     }
 }
@@ -109,12 +153,12 @@ pub fn name_end(source: &[u8], at: usize) -> usize
     run_end(source, at, Class::NameByte)
 }
 
-// Where the digits that go on at a place end.
-pub fn digits_end(source: &[u8], at: usize) -> usize
+// Where the digits of a base that go on at a place end.
+pub fn digits_end(source: &[u8], at: usize, base: u64) -> usize
     requires { ⌜ at ≤ length (now source) ⌝ }
-    ensures { λ r. ⌜ Run is-digit (now (source .entry)) at r ⌝ }
+    ensures { λ r. ⌜ Run (is-digit-of base) (now (source .entry)) at r ⌝ }
 {
-    run_end(source, at, Class::Digit)
+    run_end(source, at, Class::DigitOf(base))
 }
 
 // Where the line that goes on at a place ends: at its LF, which is not among its bytes, or with the text.

@@ -1,14 +1,55 @@
-// Numbers: where one ends and what it is worth.
+// Numbers: how one is written, where it ends and what it is worth.
 ghost use Prim.Native.Nat.{_<_};
 ghost use mathlib.Core.Bool.{true};
+ghost use mathlib.Core.List.{[], _∷_};
 ghost use mathlib.Core.Path.{_≡_};
 ghost use lib.ListN.{length};
+ghost use Rattle.language.proofs.Text.Bases as Bases;
+ghost use Rattle.language.proofs.Text.Bases.{base-told};
 ghost use Rattle.language.specs.Text as Text;
 ghost use Rattle.language.specs.Text.{is-digit};
 ghost use Rattle.tokens.specs.Found.{IsNumber};
 use crate::bytes::byte;
 use crate::bytes::digits_end;
+use crate::bytes::is_digit_of;
+use crate::bytes::worth;
 use language::LARGEST;
+
+// Where the digits of a number begin, and their base.
+pub struct Digits {
+    from: usize,
+    base: u64,
+}
+
+// The base that two bytes tell; where they tell none 0, which has no digit.
+fn base_of(a: u8, b: u8) -> u64
+    ensures { λ r. ⌜ r ≡ base-told (a ∷ b ∷ []) ⌝ }
+{
+    if a != b'0' {
+        return 0;
+    }
+    match b {
+        b'x' => 16,
+        b'b' => 2,
+        _ => 0,
+    }
+}
+
+// How the number that begins with the digit at a place is written. Without a digit of its own a base is
+// none, and the number is the digits that stand there.
+fn digits_at(source: &[u8], at: usize) -> Digits
+    requires { ⌜ (at < length (now source)) × (is-digit (Text.byte (now source) at) ≡ true) ⌝ }
+    ensures { λ r. ⌜ Bases.Digits (now (source .entry)) at (r .from) (r .base) ⌝ }
+{
+    let base = base_of(byte(source, at), byte(source, at + 1));
+    if is_digit_of(base, byte(source, at + 2)) {
+        return Digits {
+            from: at + 2,
+            base: base,
+        };
+    }
+    Digits { from: at, base: 10 }
+}
 
 pub enum Worth {
     // The end of the number, and its value.
@@ -22,11 +63,14 @@ pub fn number(source: &[u8], at: usize) -> Worth
     requires { ⌜ (at < length (now source)) × (is-digit (Text.byte (now source) at) ≡ true) ⌝ }
     ensures { λ r. ⌜ IsNumber (now (source .entry)) at r ⌝ }
 {
-    let end = digits_end(source, at);
+    let digits = digits_at(source, at);
+    let from = digits.from;
+    let base = digits.base;
+    let end = digits_end(source, from, base);
     let mut value: u64 = 0;
-    let mut i = at;
+    let mut i = from;
     while i < end {
-        value = value * 10 + ((byte(source, i) - b'0') as u64);
+        value = value * base + worth(byte(source, i));
         if LARGEST < value {
             return Worth::TooLarge;
         }

@@ -1,28 +1,29 @@
 -- A token's spelling is a token by itself: wherever its bytes stand with a blank or the end of the text behind them, they are
 -- a piece of the same kind and value. A form is said once here, by what it asks of its own bytes; all else follows.
 use lib.ListN.{length, getD, take}
-use lib.Seq.{slice, length-slice, getD-take, getD-drop}
+use lib.Seq.{slice, slice-cons, length-slice, getD-take, getD-drop}
 use mathlib.Core.Bool.{Bool, true, false, not, _&&_}
 use mathlib.Core.List.{List, [], _∷_}
 use mathlib.Core.Logic.{⊎-elim, _⊎_, inl, inr}
 use mathlib.Core.Option.{some}
 use mathlib.Core.Path.{_≡_, refl, sym, ap, subst, _∙_}
 use native.Mathlib.Nat.{le-refl}
+use native.Mathlib.Numerals.{add-one}
 use native.Mathlib.Omega.{arith}
 use borrow.Author.Tests.{not-true}
 use Prim.Native.Nat.{ℕ, zero, suc, _+_, _-_, _≤_, _<_}
 use Rattle.language.proofs.Text.Choices.{either, clash, and-both}
-use Rattle.language.proofs.Text.Classes.{high-not-blank, name-not-blank, digit-not-blank}
-use Rattle.language.proofs.Text.Marks.{Laws, Shape, mark-shape, mark-some, unbroken}
+use Rattle.language.proofs.Text.Classes.{high-not-blank, name-not-blank, letter-not-blank, digit-not-blank, name-digit-of}
+use Rattle.language.proofs.Text.Marks.{Laws, Shape, mark-shape, mark-some, unbroken, slice-two, base-shape}
 use Rattle.language.proofs.Text.OnePiece.{form-bounds}
 use Rattle.language.proofs.Text.Places.{Sort, sort, sort-line, sort-open, Opened, Slashed, View, view}
 use Rattle.language.proofs.Text.Places.Opened.{closed, left}
 use Rattle.language.proofs.Text.Places.Sort.{lines, opens}
 use Rattle.language.proofs.Text.Spellings.{byte-inside}
-use Rattle.language.specs.Text.{byte, Each, Stands, is-blank, is-letter, is-digit, is-name-byte}
+use Rattle.language.specs.Text.{byte, Each, Stands, is-blank, is-letter, is-digit, is-digit-of, is-name-byte}
 use Rattle.language.specs.Text.{Opens, Content, Within, Form, Piece, word-kind, number-from}
 use Rattle.language.specs.Text.Content.{space, unclosed, token}
-use Rattle.language.specs.Text.Form.{blank, line, comment, unended, name, number, mark}
+use Rattle.language.specs.Text.Form.{blank, line, comment, unended, name, number, based, mark}
 use Rattle.language.specs.Tokens.{Spelling, spell, Vocabulary, NUMBER, spelled}
 
 -- ---- bytes of a slice
@@ -63,6 +64,36 @@ module _ {t : List ℕ} {p q : ℕ} {u : List ℕ} {m n : ℕ} (c : Copied t p q
       let e : p + (m - m) ≡ p = omega arith in
       copied-byte m (le-refl m) (c .there .some) ∙ ap (byte t) e
 
+-- a slice by its first two bytes
+two-first : (t : List ℕ) (p q : ℕ) → p + 2 ≤ q → q ≤ length t → slice p q t ≡ byte t p ∷ byte t (p + 1) ∷ slice (p + 2) q t
+two-first t p q h l =
+    let e : suc (p + 1) ≡ p + 2 = omega arith in
+    rw (slice-cons p q t 0 (omega arith) l, sym (add-one p), slice-cons (p + 1) q t 0 (omega arith) l, e)
+
+behind-two : {a b c d : ℕ} {s u : Spelling} → (a ∷ b ∷ s) ≡ (c ∷ d ∷ u) → s ≡ u
+behind-two e = cc
+
+module _ {t : List ℕ} {p q : ℕ} {u : List ℕ} {m n : ℕ} (c : Copied t p q u m n) (h : p + 2 < q) where
+  -- what follows the first two is the same too
+  copied-rest : Copied t (p + 2) q u (m + 2) n
+  copied-rest = record {
+    within = record { some = h; inside = c .within .inside };
+    there = record { some = long; inside = c .there .inside };
+    same = behind-two (sym (two-first u m n (omega (arith, long)) (c .there .inside)) ∙ c .same ∙ two-first t p q (omega arith) (c .within .inside));
+  }
+    where
+      long : m + 2 < n
+      long = omega (arith, copied-long c)
+
+  copied-two : slice m (m + 2) u ≡ slice p (p + 2) t
+  copied-two =
+      let l = copied-rest .there .some in
+      let w = c .there .inside in
+      let x = c .within .inside in
+      let e : p + (m + 1 - m) ≡ p + 1 = omega arith in
+      let second : byte u (m + 1) ≡ byte t (p + 1) = copied-byte c (m + 1) (omega arith) (omega arith) ∙ ap (byte t) e in
+      rw (slice-two u m (omega arith), slice-two t p (omega arith), copied-first c, second)
+
 -- ---- a token's form
 
 -- it comes to a token
@@ -99,8 +130,12 @@ module _ {voc : Vocabulary} (laws : Laws voc) where
       subst (λ (s : Spelling). Form voc u m n (token (word-kind voc s) 0)) (w .same)
       (name (w .there) (rw (copied-first w) l) (copied-each w is-name-byte e))
   form-copied {t} {p} {q} {u} {m} {n} c i w (number a e) =
-      subst (λ (s : Spelling). Form voc u m n (token NUMBER (number-from 0 s))) (w .same)
+      subst (λ (s : Spelling). Form voc u m n (token NUMBER (number-from 10 0 s))) (w .same)
       (number (w .there) (copied-each w is-digit e))
+  form-copied {t} {p} {q} {u} {m} {n} c i w (based {base = base} s a e) =
+      let r = copied-rest w (a .some) in
+      subst (λ (s : Spelling). Form voc u m n (token NUMBER (number-from base 0 s))) (r .same)
+      (based {base = base} (rw (copied-two w (a .some)) s) (r .there) (copied-each r (is-digit-of base) e))
   form-copied {t} {p} {q} {u} {m} {n} c i w (mark {k = k} a e) = mark {k = k} (w .there) (rw (w .same) e)
 
   -- none of its bytes is a blank
@@ -111,6 +146,12 @@ module _ {voc : Vocabulary} (laws : Laws voc) where
   form-solid c x (unended s n e) i h l = absurd x
   form-solid {t} c x (name a b e) i h l = name-not-blank (byte t i) (e i l h)
   form-solid {t} c x (number a e) i h l = digit-not-blank (byte t i) (e i l h)
+  form-solid {t} {p} {q} c x (based {base = base} s a e) i h l =
+      let b = base-shape laws t p base (omega (arith, a .some, a .inside)) s in
+      ⊎-elim
+      (λ k. ⊎-elim (λ j. let z : i ≡ p = omega arith in rw z (digit-not-blank (byte t p) (b .0)))
+      (λ j. let z : i ≡ p + 1 = omega arith in rw z (letter-not-blank (byte t (p + 1)) (b .1))) (either i (p + 1)))
+      (λ k. name-not-blank (byte t i) (name-digit-of base (byte t i) (e i l k))) (either i (p + 2))
   form-solid {t} {p} {q} c x (mark {k = k} a e) i h l =
       rw (byte-slice t p q i h l)
       (solid (slice p q t) (mark-whole (slice p q t) k e) (i - p) (omega (arith, length-slice p q t (a .inside))))
@@ -158,6 +199,7 @@ module _ {voc : Vocabulary} (laws : Laws voc) where
     longest e d (unended s z w) = absurd (no-comment s)
     longest e d (name a b z) = longer e _ tt (name a b z)
     longest e d (number a z) = longer e _ tt (number a z)
+    longest e d (based {base = base} s a z) = longer e _ tt (based {base = base} s a z)
     longest e d (mark {k = k} a z) = longer e _ tt (mark {k = k} a z)
 
   -- so the bytes of a token are that token wherever they stand alone

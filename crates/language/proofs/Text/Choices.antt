@@ -33,6 +33,11 @@ pub or-either : (x y : Bool) → (x || y) ≡ true → (x ≡ true) ⊎ (y ≡ t
 or-either true y e = inl refl
 or-either false y e = inr e
 
+-- where the second passes, one does
+pub or-true : (x : Bool) {y : Bool} → y ≡ true → (x || y) ≡ true
+or-true true e = refl
+or-true false e = e
+
 -- what holds in both outcomes of a test holds of the choice by it
 pub choose : {A : Type 0} (P : A → Type 0) (x : Bool) (a b : A) → (x ≡ true → P a) → (x ≡ false → P b)
     → P (elim x [ true ↦ a | false ↦ b ])

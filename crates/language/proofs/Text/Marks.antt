@@ -1,17 +1,19 @@
--- What the theorems on texts ask of a vocabulary, which is little and of its marks alone; and that today's has it.
+-- What the theorems on texts ask of a vocabulary, which is little and of its marks and bases alone; and that today's has it.
 use borrow.Author.Tests.{ltb-true, not-true, eq-eqb}
 use lib.Dec.{eqb, ltb}
 use lib.ListN.{length}
+use lib.Seq.{slice, slice-cons, slice-empty}
 use mathlib.Core.Bool.{Bool, true, false, not, _&&_, false≢true}
 use mathlib.Core.List.{List, [], _∷_}
 use mathlib.Core.Option.{some}
 use mathlib.Core.Path.{_≡_, refl}
+use native.Mathlib.Numerals.{add-one}
 use native.Mathlib.Omega.{arith}
-use Prim.Native.Nat.{ℕ, _+_, _≤_, _<_}
+use Prim.Native.Nat.{ℕ, suc, _+_, _≤_, _<_}
 use Rattle.language.proofs.Text.Choices.{clash, and-both}
 use Rattle.language.proofs.Text.Spellings.{byte-inside}
 use Rattle.language.proofs.Text.Tables.{spelling-of, every, passes}
-use Rattle.language.specs.Text.{Stands, between, is-blank, is-letter, is-digit}
+use Rattle.language.specs.Text.{byte, Stands, between, is-blank, is-letter, is-digit}
 use Rattle.language.specs.Tokens.{Spelling, Vocabulary, EDITION-1, spelled}
 
 -- ---- the shape of a mark
@@ -75,17 +77,32 @@ pub record Shape (a : ℕ) (s : Spelling) : Type 0 where
   pub slash : a ≡ 47 → length s ≡ 0
   pub whole : unbroken (a ∷ s) ≡ true
 
+-- ---- the shape of what tells a base
+
+-- a digit, and behind it a letter
+unfoldable pub led : Spelling → Bool
+led [] = false
+led (a ∷ []) = false
+led (a ∷ b ∷ s) = is-digit a && is-letter b
+
 -- ---- the laws
 
 -- each mark begins with a byte that is no letter or digit, has no byte 0 and no blank, and is its first byte alone where that
--- is `/`
+-- is `/`; a base is told by a digit and a letter, so that no other number goes on there
 pub record Laws (voc : Vocabulary) : Type 0 where
   pub shapes : every (λ r. shaped (spelling-of r)) (voc .marks) ≡ true
+  pub leads : every (λ r. led (spelling-of r)) (voc .bases) ≡ true
 
 -- those of today
 pub laws-1 : Laws EDITION-1
-unfolding shaped every is-plain unbroken is-blank is-letter is-digit between
-laws-1 = record { shapes = refl }
+unfolding shaped led every is-plain unbroken is-blank is-letter is-digit between
+laws-1 = record { shapes = refl; leads = refl }
+
+-- two bytes of a text
+pub slice-two : (t : List ℕ) (p : ℕ) → p + 2 ≤ length t → slice p (p + 2) t ≡ byte t p ∷ byte t (p + 1) ∷ []
+slice-two t p h =
+    let e : p + 2 ≡ suc (suc p) = omega arith in
+    rw (slice-cons p (p + 2) t 0 (omega arith) h, slice-cons (suc p) (p + 2) t 0 (omega arith) h, e, slice-empty (suc (suc p)) t, add-one p)
 
 module _ {voc : Vocabulary} (laws : Laws voc) where
   pub mark-shape : (a : ℕ) (s : Spelling) (k : ℕ) → spelled (voc .marks) (a ∷ s) ≡ some k → Shape a s
@@ -96,6 +113,15 @@ module _ {voc : Vocabulary} (laws : Laws voc) where
       let y = and-both (positive (a ∷ s)) end (x .1) in
       let z = and-both (alone a s) (unbroken (a ∷ s)) (y .1) in
       record { first = plain a (x .0); bytes = y .0; slash = alone-none a s (z .0); whole = z .1 }
+
+  -- where two bytes tell a base, the first is a digit and the second a letter
+  pub base-shape : (t : List ℕ) (p base : ℕ) → p + 2 ≤ length t → spelled (voc .bases) (slice p (p + 2) t) ≡ some base
+      → (is-digit (byte t p) ≡ true) × (is-letter (byte t (p + 1)) ≡ true)
+  unfolding led
+  base-shape t p base h e =
+      let f = passes led (voc .bases) (slice p (p + 2) t) base (laws .leads) e in
+      let g : led (byte t p ∷ byte t (p + 1) ∷ []) ≡ true = rw (slice-two t p h) at f in
+      and-both (is-digit (byte t p)) (is-letter (byte t (p + 1))) g
 
   -- a mark has a byte
   pub mark-some : (k : ℕ) → spelled (voc .marks) [] ≡ some k → ⊥

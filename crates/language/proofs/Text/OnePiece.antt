@@ -1,20 +1,38 @@
 -- At a place of a text stands at most one piece: two pieces there have the same end and the same content.
 use lib.ListN.{length}
 use mathlib.Core.List.{List}
-use mathlib.Core.Logic.{inl, inr}
+use mathlib.Core.Logic.{⊎-elim, inl, inr}
 use mathlib.Core.Path.{_≡_, sym, _∙_}
 use native.Mathlib.Omega.{arith}
-use Prim.Native.Nat.{ℕ, _≤_, _<_}
+use Prim.Native.Nat.{ℕ, _+_, _≤_, _<_}
 use Rattle.language.proofs.Text.Comments.{open-inside, comment-bounds}
-use Rattle.language.proofs.Text.Marks.{Laws}
-use Rattle.language.proofs.Text.Places.{Sort, sort, Marked, Opened, Slashed, View, view}
+use Rattle.language.proofs.Text.Choices.{either, clash}
+use Rattle.language.proofs.Text.Classes.{letter-not-digit}
+use Rattle.language.proofs.Text.Marks.{Laws, base-shape}
+use Rattle.language.proofs.Text.Places.{Sort, sort, Marked, Based, Opened, Slashed, View, view}
+use Rattle.language.proofs.Text.Runs.{Scanned}
 use Rattle.language.proofs.Text.Places.Opened.{closed, left}
 use Rattle.language.proofs.Text.Places.Sort.{blanks, letters, digits, lines, opens, others}
-use Rattle.language.specs.Text.{Content, Form, Piece}
-use Rattle.language.specs.Text.Form.{blank, line, comment, unended, name, number, mark}
+use Rattle.language.specs.Text.{byte, Content, Form, Piece, is-digit}
+use Rattle.language.specs.Text.Form.{blank, line, comment, unended, name, number, based, mark}
 use Rattle.language.specs.Tokens.{Vocabulary}
 
+-- a base is told at p, so digits alone are one byte there
+pub not-decimal : {voc : Vocabulary} → Laws voc → (t : List ℕ) (p q e : ℕ) {c : Content} → Based voc t p q c → Scanned is-digit t p e → e ≤ p + 1
+not-decimal laws t p q e x s =
+    let z = base-shape laws t p (x .base) (omega (arith, x .some, x .within)) (x .spells) in
+    ⊎-elim (λ l. absurd (clash (s .each (p + 1) l (omega arith)) (letter-not-digit (byte t (p + 1)) (z .1)))) (λ l. l) (either (p + 1) e)
+
 module _ {voc : Vocabulary} (laws : Laws voc) (t : List ℕ) (p q : ℕ) (c d : Content) where
+  same-based : Based voc t p q c → Based voc t p q d → c ≡ d
+  same-based x y =
+      let e = x .spells in
+      let f = y .spells in
+      let g = x .comes in
+      let h = y .comes in
+      let z : x .base ≡ y .base = cc in
+      cc
+
   same-mark : Marked voc t p q c → Marked voc t p q d → c ≡ d
   same-mark x y =
       let e = x .spells in
@@ -39,7 +57,10 @@ module _ {voc : Vocabulary} (laws : Laws voc) (t : List ℕ) (p q : ℕ) (c d : 
   same-view : (s : Sort) → View voc t p q c s → View voc t p q d s → c ≡ d
   same-view blanks x y = x .1 ∙ sym (y .1)
   same-view letters x y = x .1 ∙ sym (y .1)
-  same-view digits x y = x .1 ∙ sym (y .1)
+  same-view digits (inl x) (inl y) = x .1 ∙ sym (y .1)
+  same-view digits (inl x) (inr y) = absurd (omega (arith, not-decimal laws t p q q y (x .0), y .some))
+  same-view digits (inr x) (inl y) = absurd (omega (arith, not-decimal laws t p q q x (y .0), x .some))
+  same-view digits (inr x) (inr y) = same-based x y
   same-view lines x y = same-slashed (λ a b. a .1 ∙ sym (b .1)) x y
   same-view opens x y = same-slashed same-opened x y
   same-view others x y = same-mark x y
@@ -64,4 +85,5 @@ form-bounds t p q c (comment d) = omega (arith, comment-bounds t p q d)
 form-bounds t p q c (unended s n e) = omega (arith, open-inside t p s)
 form-bounds t p q c (name w l e) = (w .some, w .inside)
 form-bounds t p q c (number w e) = (w .some, w .inside)
+form-bounds t p q c (based s w e) = omega (arith, w .some, w .inside)
 form-bounds t p q c (mark w e) = (w .some, w .inside)

@@ -18,7 +18,7 @@ use Rattle.language.specs.Tokens.{Vocabulary, Token}
 
 -- ---- one step of a split
 
-data Step (voc : Vocabulary) (t : List ℕ) (p : ℕ) (ts : List Token) (q : ℕ) (us : List Token) : Type 0 where
+pub data Step (voc : Vocabulary) (t : List ℕ) (p : ℕ) (ts : List Token) (q : ℕ) (us : List Token) : Type 0 where
   over : Piece voc t p q space → us ≡ ts → Step voc t p ts q us
   put : {k v : ℕ} → Piece voc t p q (token k v) → v ≤ LARGEST → us ≡ ts ++ (token-of t p q k v ∷ []) → Step voc t p ts q us
 
@@ -69,7 +69,7 @@ module _ {voc : Vocabulary} (laws : Laws voc) (t : List ℕ) (p : ℕ) where
 -- ---- many steps
 
 -- from p and ts on, q and us are reached
-data Later (voc : Vocabulary) (t : List ℕ) (q : ℕ) (us : List Token) : ℕ → List Token → Type 0 where
+pub data Later (voc : Vocabulary) (t : List ℕ) (q : ℕ) (us : List Token) : ℕ → List Token → Type 0 where
   here : Later voc t q us q us
   step : {p e : ℕ} {ts vs : List Token} → Step voc t p ts e vs → Later voc t q us e vs → Later voc t q us p ts
 
@@ -78,7 +78,7 @@ module _ {voc : Vocabulary} {t : List ℕ} where
   later-place here = omega arith
   later-place (step {p = p} s l) = omega (arith, forward t p s, later-place l)
 
-  later-more : {p q : ℕ} {ts us : List Token} → Later voc t q us p ts → length ts ≤ length us
+  pub later-more : {p q : ℕ} {ts us : List Token} → Later voc t q us p ts → length ts ≤ length us
   later-more here = omega arith
   later-more (step {p = p} s l) = omega (arith, more t p s, later-more l)
 
@@ -86,7 +86,7 @@ module _ {voc : Vocabulary} {t : List ℕ} where
   later-same here h = refl
   later-same (step {p = p} s l) h = absurd (omega (arith, forward t p s, later-place l))
 
-  from-start : {p q : ℕ} {ts us : List Token} → Reaches voc t p ts → Later voc t q us p ts → Later voc t q us 0 []
+  pub from-start : {p q : ℕ} {ts us : List Token} → Reaches voc t p ts → Later voc t q us p ts → Later voc t q us 0 []
   from-start start l = l
   from-start (skip a x) l = from-start a (step (over x refl) l)
   from-start (next a x h e) l = from-start a (step (put x h e) l)

@@ -5,23 +5,26 @@ use mathlib.Core.Bool.{true}
 use mathlib.Core.List.{List, [], _∷_}
 use mathlib.Core.Logic.{⊎-elim, inl, inr}
 use mathlib.Core.Option.{none, some, Option·none-ne-some}
-use mathlib.Core.Path.{_≡_, refl, sym, _∙_}
+use mathlib.Core.Path.{_≡_, refl, sym, _∙_, subst}
+use native.Mathlib.Nat.{le-refl}
 use native.Mathlib.Omega.{arith}
 use Prim.Native.Nat.{ℕ, suc, _+_, _≤_, _<_}
 use Rattle.language.proofs.Text.Choices.{either}
-use Rattle.language.proofs.Text.Classes.{name-letter}
+use Rattle.language.proofs.Text.Classes.{name-letter, digit-of-some}
 use Rattle.language.proofs.Text.Comments.{one-end, comment-bounds, open-inside}
-use Rattle.language.proofs.Text.Marks.{Laws, mark-shape, mark-some, stands-inside}
-use Rattle.language.proofs.Text.Places.{Sort, sort, Begins, Opened, Slashed, View, view}
+use Rattle.language.proofs.Text.Marks.{Laws, base-shape, mark-shape, mark-some, stands-inside}
+use Rattle.language.proofs.Text.OnePiece.{not-decimal}
+use Rattle.language.proofs.Text.Places.{Sort, sort, Begins, Based, Opened, Slashed, View, view}
 use Rattle.language.proofs.Text.Places.{sort-blank, sort-letter, sort-digit, sort-line, sort-open, sort-other}
 use Rattle.language.proofs.Text.Places.Opened.{closed, left}
 use Rattle.language.proofs.Text.Places.Sort.{blanks, letters, digits, lines, opens, others}
 use Rattle.language.proofs.Text.Runs.{Run, run-longest, run-some}
+use Rattle.language.proofs.Text.Spellings.{byte-inside}
 use Rattle.language.proofs.Text.Tables.{most, most-bytes}
-use Rattle.language.specs.Text.{byte, Stands, is-blank, is-letter, is-digit, is-name-byte, is-in-line}
+use Rattle.language.specs.Text.{byte, Stands, Each, is-blank, is-letter, is-digit, is-digit-of, is-name-byte, is-in-line}
 use Rattle.language.specs.Text.{Opens, Comment, Content, Within, Form, Piece, word-kind, number-from}
 use Rattle.language.specs.Text.Content.{space, unclosed, token}
-use Rattle.language.specs.Text.Form.{blank, line, comment, unended, name, number, mark}
+use Rattle.language.specs.Text.Form.{blank, line, comment, unended, name, number, based, mark}
 use Rattle.language.specs.Tokens.{Spelling, spell, Vocabulary, NUMBER, spelled}
 
 -- no mark from p on has more than n bytes
@@ -63,14 +66,48 @@ module _ {voc : Vocabulary} (laws : Laws voc) (t : List ℕ) (p : ℕ) where
         longest = upto q letters (sort-letter t p b) (λ e d x. run-longest r (x .0));
       }
 
-  -- from a digit on the longest run of digits is a number
-  pub number-piece : (q : ℕ) → p < length t → is-digit (byte t p) ≡ true → Run is-digit t p q
-      → Piece voc t p q (token NUMBER (number-from 0 (slice p q t)))
-  number-piece q h b r =
+  -- the two bytes at p tell this base, and a digit of it stands behind them
+  abbrev pub Tells : ℕ → Type 0
+  Tells base = (spelled (voc .bases) (slice p (p + 2) t) ≡ some base) × (is-digit-of base (byte t (p + 2)) ≡ true)
+
+  based-tells : {q : ℕ} {c : Content} (x : Based voc t p q c) → Tells (x .base)
+  based-tells x = (x .spells, x .each (p + 2) (x .some) (le-refl (p + 2)))
+
+  -- from a digit on, where no base is told, the longest run of digits is a number
+  pub number-piece : (q : ℕ) → p < length t → is-digit (byte t p) ≡ true → ((base : ℕ) → Tells base → ⊥) → Run is-digit t p q
+      → Piece voc t p q (token NUMBER (number-from 10 0 (slice p q t)))
+  number-piece q h b n r =
       record {
         form = number (record { some = run-some h b r; inside = r .within }) (r .each);
-        longest = upto q digits (sort-digit t p b) (λ e d x. run-longest r (x .0));
+        longest = upto q digits (sort-digit t p b) (λ e d x. ⊎-elim (λ y. run-longest r (y .0)) (λ y. absurd (n (y .base) (based-tells y))) x);
       }
+
+  -- where one is told, the longest run of its digits is
+  pub based-piece : (base q : ℕ) → Tells base → Run (is-digit-of base) t (p + 2) q
+      → Piece voc t p q (token NUMBER (number-from base 0 (slice (p + 2) q t)))
+  based-piece base q s r =
+      record {
+        form = based {base = base} (s .0) (record { some = some; inside = r .within }) (r .each);
+        longest = upto q digits (sort-digit t p (base-shape laws t p base (omega arith) (s .0) .0)) ends;
+      }
+    where
+      there : p + 2 < length t
+      there = byte-inside t (p + 2) (byte t (p + 2)) refl (digit-of-some base (byte t (p + 2)) (s .1))
+
+      some : p + 2 < q
+      some = run-some there (s .1) r
+
+      this : Based voc t p q (token NUMBER (number-from base 0 (slice (p + 2) q t)))
+      this = record { base = base; spells = s .0; some = some; within = r .within; each = r .each; comes = refl }
+
+      ends : (e : ℕ) (d : Content) → View voc t p e d digits → e ≤ q
+      ends e d (inl x) = omega (arith, not-decimal laws t p q e this (x .0))
+      ends e d (inr x) =
+          let f = s .0 in
+          let g = x .spells in
+          let z : x .base ≡ base = cc in
+          let each = subst (λ b. Each (is-digit-of b) t (p + 2) e) z (x .each) in
+          run-longest r (record { order = omega (arith, x .some); within = x .within; each = each })
 
   slashed-upto : (q e : ℕ) (d : Content) {A : Type 0} → p + 2 ≤ q → (A → e ≤ q) → Slashed voc t p e d A → e ≤ q
   slashed-upto q e d h f (inl x) = f (x .1)

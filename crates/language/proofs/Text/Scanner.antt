@@ -7,25 +7,28 @@ use lib.Seq.{slice}
 use mathlib.Core.Bool.{Bool, true, false}
 use mathlib.Core.List.{List, [], _∷_, _++_}
 use mathlib.Core.Logic.{_⊎_, inl, inr}
-use mathlib.Core.Option.{Option, none, some}
-use mathlib.Core.Path.{_≡_, refl, ap, ap₂, subst}
+use mathlib.Core.Option.{Option, none, some, Option·none-ne-some}
+use mathlib.Core.Path.{_≡_, refl, sym, _∙_, ap, ap₂, subst}
 use native.Mathlib.Numerals.{add-one}
 use native.Mathlib.Omega.{arith}
 use Prim.Native.Nat.{ℕ, zero, suc, _+_, _-_, _≤_, _<_}
-use Rattle.language.proofs.Text.Choices.{choose}
+use Rattle.language.proofs.Text.Choices.{choose, clash}
+use Rattle.language.proofs.Text.Classes.{digit-of-some}
 use Rattle.language.proofs.Text.Comments.{Depth, depth-start, depth-open, depth-close, depth-byte, depth-end, depth-done}
 use Rattle.language.proofs.Text.Marks.{Laws}
 use Rattle.language.proofs.Text.OnePiece.{form-bounds}
 use Rattle.language.proofs.Text.OneSplit.{one-split, one-flaw, not-both}
-use Rattle.language.proofs.Text.Pieces.{blank-piece, name-piece, number-piece, line-piece, comment-piece, open-piece}
+use Rattle.language.proofs.Text.Pieces.{blank-piece, name-piece, Tells, number-piece, based-piece}
+use Rattle.language.proofs.Text.Pieces.{line-piece, comment-piece, open-piece}
 use Rattle.language.proofs.Text.Pieces.{AtMost, at-most, at-most-less, mark-piece, no-form}
 use Rattle.language.proofs.Text.Places.{Sort, sort, Begins, begins}
 use Rattle.language.proofs.Text.Places.Sort.{blanks, letters, digits, lines, opens, others}
 use Rattle.language.proofs.Text.Runs.{Scanned, Run, scan-none, scan-more, scan-stop, scan-end}
-use Rattle.language.proofs.Text.Spellings.{stands, stands-yes, stands-no, two-inside}
+use Rattle.language.proofs.Text.Spellings.{stands, stands-yes, stands-no, byte-inside, two-inside}
 use Rattle.language.proofs.Text.Tables.{Table, most}
 use Rattle.language.specs.Sizes.{TOKENS, LARGEST}
-use Rattle.language.specs.Text.{byte, between, is-blank, is-letter, is-digit, is-name-byte, is-in-line, Opens, Comment}
+use Rattle.language.specs.Text.{byte, between, is-blank, is-letter, is-digit, is-hex-digit, worth, is-digit-of}
+use Rattle.language.specs.Text.{is-name-byte, is-in-line, Opens, Comment}
 use Rattle.language.specs.Text.{Content, Form, Piece, word-kind, number-from, token-of, Reaches, Splits, Flaw, Flawed}
 use Rattle.language.specs.Text.Content.{space, unclosed, token}
 use Rattle.language.specs.Text.Flaw.{strange-byte, open-comment, large-number, many-tokens}
@@ -112,8 +115,17 @@ mark-seen marks t p (suc n) =
       | false ↦ mark-seen marks t p n
     ]
 
-number-seen : List ℕ → ℕ → ℕ → Seen
-number-seen t p q = seen q (token NUMBER (number-from 0 (slice p q t)))
+number-seen : ℕ → List ℕ → ℕ → ℕ → Seen
+number-seen base t p q = seen q (token NUMBER (number-from base 0 (slice p q t)))
+
+-- the number at p, whose first two bytes tell a base or none
+digits-seen : List ℕ → ℕ → Option ℕ → Seen
+digits-seen t p none = number-seen 10 t p (run-from is-digit t p)
+digits-seen t p (some base) =
+    elim (is-digit-of base (byte t (p + 2))) [
+      | true ↦ number-seen base t (p + 2) (run-from (is-digit-of base) t (p + 2))
+      | false ↦ number-seen 10 t p (run-from is-digit t p)
+    ]
 
 comment-seen : List ℕ → Close → Seen
 comment-seen t (at q) = seen q space
@@ -130,7 +142,7 @@ module _ (voc : Vocabulary) where
   piece-of : List ℕ → ℕ → Sort → Seen
   piece-of t p blanks = seen (p + 1) space
   piece-of t p letters = name-seen t p (run-from is-name-byte t p)
-  piece-of t p digits = number-seen t p (run-from is-digit t p)
+  piece-of t p digits = digits-seen t p (spelled (voc .bases) (slice p (p + 2) t))
   piece-of t p lines = seen (run-from is-in-line t (p + 2)) space
   piece-of t p opens = comment-seen t (close-end t (length t) 1 (p + 2))
   piece-of t p others = mark-seen (voc .marks) t p (most (voc .marks))
@@ -140,6 +152,22 @@ module _ {voc : Vocabulary} (laws : Laws voc) (t : List ℕ) (p : ℕ) (h : p < 
   unfolding comment-seen
   comment-is (at q) s x = comment-piece laws t p q x
   comment-is never s x = open-piece laws t p s x
+
+  decimal-is : is-digit (byte t p) ≡ true → ((base : ℕ) → Tells laws t p base → ⊥)
+      → Seen-is voc t p (number-seen 10 t p (run-from is-digit t p))
+  unfolding number-seen
+  decimal-is b n = number-piece laws t p (run-from is-digit t p) h b n (run is-digit t p (omega arith))
+
+  digits-is : is-digit (byte t p) ≡ true → (o : Option ℕ) → spelled (voc .bases) (slice p (p + 2) t) ≡ o
+      → Seen-is voc t p (digits-seen t p o)
+  unfolding digits-seen number-seen
+  digits-is b none e = decimal-is b (λ base x. Option·none-ne-some base (sym e ∙ x .0))
+  digits-is b (some base) e =
+      choose (Seen-is voc t p) (is-digit-of base (byte t (p + 2))) _ _
+      (λ x. let l = byte-inside t (p + 2) (byte t (p + 2)) refl (digit-of-some base (byte t (p + 2)) x) in
+      based-piece laws t p base (run-from (is-digit-of base) t (p + 2)) (e, x) (run (is-digit-of base) t (p + 2) (omega arith)))
+      (λ x. decimal-is b (λ base′ y. let f = y .0 in let z : base′ ≡ base = cc in
+      clash (y .1) (subst (λ n. is-digit-of n (byte t (p + 2)) ≡ false) (sym z) x)))
 
   mark-or-is : (n : ℕ) (s : Seen) → Begins t p others → AtMost voc t p (n + 1) → p + (n + 1) ≤ length t
       → (AtMost voc t p n → Seen-is voc t p s) → (o : Option ℕ) → spelled (voc .marks) (slice p (p + (n + 1)) t) ≡ o
@@ -160,10 +188,10 @@ module _ {voc : Vocabulary} (laws : Laws voc) (t : List ℕ) (p : ℕ) (h : p < 
       (λ x. mark-is n b (at-most-less f′ (λ y. absurd (omega (arith, leb-false (p + suc n) (length t) x)))))
 
   piece-is : (s : Sort) → Begins t p s → Seen-is voc t p (piece-of voc t p s)
-  unfolding piece-of name-seen number-seen
+  unfolding piece-of name-seen
   piece-is blanks b = blank-piece laws t p h b
   piece-is letters b = name-piece laws t p (run-from is-name-byte t p) h b (run is-name-byte t p (omega arith))
-  piece-is digits b = number-piece laws t p (run-from is-digit t p) h b (run is-digit t p (omega arith))
+  piece-is digits b = digits-is b (spelled (voc .bases) (slice p (p + 2) t)) refl
   piece-is lines b =
       line-piece laws t p (run-from is-in-line t (p + 2)) b (run is-in-line t (p + 2) (two-inside t p 47 47 b (omega arith)))
   piece-is opens b =
@@ -202,8 +230,8 @@ module _ (voc : Vocabulary) where
 
   -- the answer for a text; whoever unfolds it unfolds all that it computes with
   unfoldable pub scan : List ℕ → Result
-  unfolding scan-from settle piece-of name-seen number-seen comment-seen mark-seen mark-or most close-end run-from run-end
-      sort stands is-blank is-letter is-digit is-name-byte is-in-line between word-kind spelled same number-from
+  unfolding scan-from settle piece-of name-seen digits-seen number-seen comment-seen mark-seen mark-or most close-end run-from run-end
+      sort stands is-blank is-letter is-digit is-hex-digit worth is-digit-of is-name-byte is-in-line between word-kind spelled same number-from
   scan t = scan-from t (length t) 0 []
 
 settled : {voc : Vocabulary} (t : List ℕ) (p : ℕ) (ts : List Token) (go : ℕ → List Token → Result)

@@ -12,24 +12,25 @@ enum-told c = search needs
 is-name-byte-requires : tie.Need-is-name-byte-requires
 is-name-byte-requires c κs = search needs
 
+enum-known-class : tie.Need-enum-known-class
+enum-known-class c = search needs
+
+is-digit-of-requires : tie.Need-is-digit-of-requires
+is-digit-of-requires c κs = search needs
+
 enum-told-2 : tie.Need-enum-told-2
 enum-told-2 c = search needs
-
-is-digit-requires : tie.Need-is-digit-requires
-is-digit-requires c κs = search needs
-
-enum-told-3 : tie.Need-enum-told-3
-enum-told-3 c = search needs
 
 returns : tie.Need-returns
 returns c = c .is-name-byte .ensures ∙ ap (λ x. is-of x (c .before .before .before .args .b)) (sym (c .before .enum-told .given .1))
 
 returns-2 : tie.Need-returns-2
-returns-2 c = c .is-digit .ensures ∙ ap (λ x. is-of x (c .before .before .before .args .b)) (sym (c .before .enum-told2 .given .1))
+returns-2 c =
+    c .is-digit-of .ensures ∙ ap (λ x. is-of x (c .before .before .before .before .args .b)) (sym (c .before .before .class .given .1))
 
 returns-3 : tie.Need-returns-3
 unfolding is-in-line
-returns-3 c = ap (λ x. is-of x (c .before .before .args .b)) (sym (c .enum-told3 .given .1))
+returns-3 c = ap (λ x. is-of x (c .before .before .args .b)) (sym (c .enum-told2 .given .1))
 
 pub is-of-spec : {M : Type 1} → statement M
 is-of-spec =
@@ -37,9 +38,9 @@ is-of-spec =
     (tie.spec
     enum-told
     is-name-byte-requires
+    enum-known-class
+    is-digit-of-requires
     enum-told-2
-    is-digit-requires
-    enum-told-3
     returns
     returns-2
     returns-3)

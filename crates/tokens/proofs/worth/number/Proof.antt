@@ -4,88 +4,80 @@ use lib.Seq.{slice}
 use mathlib.Core.Path.{sym, subst}
 use native.Mathlib.Omega.{arith}
 use Prim.Native.Nat.{_-_}
-use Rattle.language.proofs.Text.Marks.{laws-1}
-use Rattle.language.proofs.Text.Pieces.{number-piece}
 use Rattle.language.specs.Text.Content.{token}
 use Rattle.language.specs.Text.{Piece, number-from}
 use Rattle.language.specs.Tokens.{EDITION-1, NUMBER}
-use Rattle.tokens.proofs.Digits.{Read, read-none, read-digit, read-more, read-large, read-all}
+use Rattle.tokens.proofs.Digits.{Read, product, read-none, read-hex, read-worth, read-more, read-large, read-all}
 use Rattle.tokens.proofs.worth.number.Statement.{statement}
 use Rattle.tokens.proofs.worth.number.Tie as tie
 
 abbrev Inv-loop : tie.InvT-loop
-Inv-loop source at end value₀ i₀ value i = Read source at end i value
+Inv-loop source at from base end value₀ i₀ value i = Read base source from end i value
 
 abbrev μ-loop : tie.MeasureT-loop
-μ-loop source at end value₀ i₀ value i = end - i
+μ-loop source at from base end value₀ i₀ value i = end - i
+
+digits-at-requires : tie.Need-digits-at-requires Inv-loop μ-loop
+digits-at-requires c κs = c .before .pre
 
 digits-end-requires : tie.Need-digits-end-requires Inv-loop μ-loop
-digits-end-requires c κs = omega (arith, c .before .pre .0)
+digits-end-requires c κs = c .digits-at .ensures .within
 
 loop-holds : tie.Need-loop-holds Inv-loop μ-loop
 loop-holds c = read-none (c .digits-end .ensures)
 
 mul-value : tie.Need-mul-value Inv-loop μ-loop
-mul-value c = omega (arith, c .before .loop .inv .small)
+mul-value c = omega (arith, product (c .before .loop .inv .small) (c .before .before .before .digits-at .ensures .high))
 
 byte-requires : tie.Need-byte-requires Inv-loop μ-loop
 byte-requires c κs = search needs
 
-sub-value : tie.Need-sub-value Inv-loop μ-loop
-sub-value c =
-    let digit =
-    read-digit (c .before .before .before .digits-end .ensures) (c .before .before .loop .inv) (c .before .loop-test .taken)
-    (c .byte .ensures) in
-    omega arith
-
-cast-value : tie.Need-cast-value Inv-loop μ-loop
-cast-value c =
-    let digit =
-    read-digit (c .before .before .before .digits-end .ensures) (c .before .before .loop .inv) (c .before .loop-test .taken)
-    (c .byte .ensures) in
-    omega arith
+worth-requires : tie.Need-worth-requires Inv-loop μ-loop
+worth-requires c κs =
+    let h = c .before .before in
+    read-hex (h .before .digits-end .ensures) (h .loop .inv) (c .before .loop-test .taken) (c .byte .ensures)
 
 add-value : tie.Need-add-value Inv-loop μ-loop
 add-value c =
-    let digit =
-    read-digit (c .before .before .before .digits-end .ensures) (c .before .before .loop .inv) (c .before .loop-test .taken)
-    (c .byte .ensures) in
-    let small = c .before .before .loop .inv .small in
-    omega arith
+    let h = c .before .before .before in
+    let l = h .loop .inv in
+    let test = c .before .before .loop-test .taken in
+    let less = read-worth (h .before .digits-end .ensures) l test (c .before .byte .ensures) (c .worth .ensures) in
+    let high = h .before .before .digits-at .ensures .high in
+    omega (arith, product (l .small) high)
 
 returns : tie.Need-returns Inv-loop μ-loop
 returns c =
-    let p = c .before .before .before .before .before .before .args .at in
-    let t = c .before .before .before .before .before .before .args .source .now in
-    let q = c .before .before .before .before .digits-end .result in
-    let given = c .before .before .before .before .before .before .pre in
-    let piece = number-piece laws-1 t p q (given .0) (given .1) (c .before .before .before .before .digits-end .ensures) in
-    let large =
-    read-large (c .before .before .before .before .digits-end .ensures) (c .before .before .before .loop .inv)
-    (c .before .before .loop-test .taken) (c .before .byte .ensures) (c .if1 .taken) in
-    (q, number-from 0 (slice p q t), piece, large)
+    let h = c .before .before .before .before in
+    let t = h .before .before .before .before .args .source .now in
+    let q = h .before .digits-end .result in
+    let d = h .before .before .digits-at in
+    let run = h .before .digits-end .ensures in
+    let test = c .before .before .before .loop-test .taken in
+    let large = read-large run (h .loop .inv) test (c .before .before .byte .ensures) (c .before .worth .ensures) (d .ensures .low) (c .if1 .taken) in
+    (q, number-from (d .result .base) 0 (slice (d .result .from) q t), d .ensures .piece q run, large)
 
 add-i : tie.Need-add-i Inv-loop μ-loop
-add-i c = omega (arith, c .before .before .loop-test .taken, c .before .before .before .before .digits-end .ensures .within)
+add-i c = omega (arith, c .before .before .before .loop-test .taken, c .before .before .before .before .before .digits-end .ensures .within)
 
 loop-less : tie.Need-loop-less Inv-loop μ-loop
 loop-less c = search needs
 
 loop-again : tie.Need-loop-again Inv-loop μ-loop
 loop-again c =
-    read-more (c .before .before .before .before .digits-end .ensures) (c .before .before .before .loop .inv)
-    (c .before .before .loop-test .taken) (c .before .byte .ensures) (c .if1 .left)
+    let h = c .before .before .before .before in
+    let test = c .before .before .before .loop-test .taken in
+    read-more (h .before .digits-end .ensures) (h .loop .inv) test (c .before .before .byte .ensures) (c .before .worth .ensures) (c .if1 .left)
 
-cast-t11 : tie.Need-cast-t11 Inv-loop μ-loop
-cast-t11 c = omega (arith, c .before .loop .inv .small)
+cast-t13 : tie.Need-cast-t13 Inv-loop μ-loop
+cast-t13 c = omega (arith, c .before .loop .inv .small)
 
 returns-2 : tie.Need-returns-2 Inv-loop μ-loop
 returns-2 c =
-    let p = c .before .before .before .before .args .at in
-    let t = c .before .before .before .before .args .source .now in
+    let p = c .before .before .before .before .before .args .at in
+    let t = c .before .before .before .before .before .args .source .now in
     let q = c .before .before .digits-end .result in
-    let given = c .before .before .before .before .pre in
-    let piece = number-piece laws-1 t p q (given .0) (given .1) (c .before .before .digits-end .ensures) in
+    let piece = c .before .before .before .digits-at .ensures .piece q (c .before .before .digits-end .ensures) in
     let value = read-all (c .before .before .digits-end .ensures) (c .before .loop .inv) (c .loop-test .left) in
     (subst (λ v. Piece EDITION-1 t p q (token NUMBER v)) (sym value) piece, c .before .loop .inv .small)
 
@@ -95,16 +87,16 @@ number-spec =
     (tie.spec
     Inv-loop
     μ-loop
+    digits-at-requires
     digits-end-requires
     loop-holds
     mul-value
     byte-requires
-    sub-value
-    cast-value
+    worth-requires
     add-value
     returns
     add-i
     loop-less
     loop-again
-    cast-t11
+    cast-t13
     returns-2)
