@@ -3,3 +3,4 @@ pub mod Runs
 pub mod Services
 pub mod Determined
 pub mod Demands
+pub mod HeadOffice

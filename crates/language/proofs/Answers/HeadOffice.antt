@@ -16,6 +16,7 @@ use Rattle.language.specs.Numbers.{Told, passed, refused, stopped, numbe
 use Rattle.language.specs.Answers.{Origin, nowhere, at, Passes, Ending, ended, ending, CheckReport, Checked, check-short, check-refused, check-passed, Check, Lent, Enough, RunReport, after-run, Ran, run-short, run-large, run-refused, run-ended, Run}
 use Rattle.language.proofs.Meaning.CellTypes.{none-some, some-one}
 use Rattle.language.proofs.Meaning.NeverStuck as NeverStuck
+use Rattle.language.proofs.Meaning.Strict.{strict-run, strict-same}
 use Rattle.language.proofs.Meaning.ValueTypes.{OfType, value-of-type}
 use Rattle.language.proofs.Meaning.StopPlaces.{stop-inside}
 use Rattle.language.proofs.Meaning.MoreUnits.{plus, same-value, same-stop}
@@ -47,6 +48,8 @@ pub record Sound {P : Type 0} (o : Origin P) (c : CheckReport P) : Type 0 where
   -- whatever is allowed and however long the output is, its meaning meets no operand of a wrong kind, no name without a
   -- binding and no argument that is missing: each of these is `stuck`, and what is stuck stays so to the end of the run
   pub never-stuck : (allowance room : ℕ) → run program allowance room ≡ stuck → ⊥
+  -- nor is an operand of a wrong kind there without being met: a meaning that asks each as soon as it is worked out is the same
+  pub none-unmet : (allowance room : ℕ) → strict-run program allowance room ≡ run program allowance room
   -- with the memory asked for and an allowance up to the limit, run answers with the same type, and a value or a stop
   pub ends : {table work output : List ℕ} {allowance : ℕ} {r : RunReport P} {table′ work′ output′ : List ℕ}
       → TABLE ≤ length table → WORK ≤ length work → allowance ≤ ALLOWANCE → Run o table work output allowance r table′ work′ output′
@@ -105,6 +108,7 @@ module _ {P : Type 0} {o : Origin P} (law : Lawful o) {ts : List Token} {p : Pro
     typed = a .proper .typed;
     type-told = told;
     never-stuck = λ allowance room. NeverStuck.never-stuck p t allowance room (a .proper .typed);
+    none-unmet = λ allowance room. strict-same p t allowance room (a .proper .typed);
     ends = λ long wide fair x.
         let k = ran-ends record { table = long; work = wide } fair (x .answer) in
         (k .0 ∙ sym told, k .1);
