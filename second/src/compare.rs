@@ -3,6 +3,7 @@
 
 use crate::answer::{Left, TABLE_WORDS, WORK_WORDS};
 use crate::chance::Chance;
+use crate::promise;
 use crate::services::{wanted, Service};
 use crate::trial::Trial;
 use crate::write::write;
@@ -79,6 +80,9 @@ impl Memory<u32> {
 pub fn compare(other: &dyn Other, trial: &Trial) -> Result<(), String> {
     for service in Service::ALL {
         hold(other, trial, service)?;
+    }
+    if trial.fill.is_multiple_of(2) {
+        promise::kept(other, trial).map_err(|e| format!("promise: {e}"))?;
     }
     let text = write(&trial.sheet, trial.lent.table, trial.room).text;
     if text.is_empty() || !trial.fill.is_multiple_of(3) {
@@ -160,6 +164,9 @@ mod tests {
                 }
                 "a word past the end" if work.len() > WORK_WORDS => work[WORK_WORDS] ^= 1,
                 "a byte too many" if output.len() > used => output[used] ^= 1,
+                "a unit for each allowed" if call.service == Service::Run && number == 0 => {
+                    call.report[3] = call.allowance
+                }
                 "no line feed" if call.service == Service::Write && number == 0 => {
                     output[used - 1] = b' '
                 }
@@ -190,6 +197,18 @@ mod tests {
             self.spoil(&mut call, told.number, told.output.len());
             Ok(told.number)
         }
+    }
+
+    /// A fault that only shows between two runs: here the first is this
+    /// interpreter's too, so nothing else could tell.
+    #[test]
+    fn a_promise_broken_is_found() {
+        let broken = on_big_stack(|| {
+            let trials = (0..300).map(|index| trial::make(6, index));
+            let mut kept = trials.map(|t| promise::kept(&Mirror("a unit for each allowed"), &t));
+            kept.any(|verdict| verdict.is_err())
+        });
+        assert!(broken);
     }
 
     fn failures(fault: &'static str) -> usize {

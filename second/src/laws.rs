@@ -3,6 +3,7 @@
 
 use crate::answer::{self, Answer, Lent};
 use crate::cases::check_from_run;
+use crate::promise::{fits, larger, ENDS};
 use crate::services::{wanted, Service};
 use crate::text::{self, Kind};
 use crate::trial::Trial;
@@ -14,6 +15,7 @@ pub fn hold(trial: &Trial) -> Result<(), String> {
     let answer = answer::run(&trial.sheet, &trial.lent);
     let mut laws = run_laws(trial, &answer);
     laws.extend(write_laws(trial, &answer));
+    laws.extend(promises(trial, &answer));
     match laws.iter().find(|(holds, _)| !holds) {
         Some((_, law)) => Err(law.to_string()),
         None => Ok(()),
@@ -71,6 +73,30 @@ fn write_laws(trial: &Trial, answer: &Answer) -> Vec<Law> {
         (
             places_aside(&back) == places_aside(answer),
             "another answer read back",
+        ),
+    ]
+}
+
+/// R11.2 and R11.3.
+fn promises(trial: &Trial, answer: &Answer) -> Vec<Law> {
+    let passes = answer::check(&trial.sheet, trial.lent.table).number == 0;
+    if !passes || [40, 41].contains(&answer.number) {
+        return vec![];
+    }
+    let more = Lent {
+        allowance: larger(trial.lent.allowance, trial.fill),
+        ..trial.lent
+    };
+    let again = || answer::run(&trial.sheet, &more);
+    vec![
+        (ENDS.contains(&answer.number), "an end that is not listed"),
+        (
+            answer.number != 0 || fits(answer.kind, answer.value),
+            "a value of another type",
+        ),
+        (
+            answer.number == 50 || again() == *answer,
+            "more units, another end",
         ),
     ]
 }

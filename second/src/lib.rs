@@ -22,6 +22,7 @@ pub mod nests;
 pub mod numbers;
 pub mod paper;
 pub mod piped;
+pub mod promise;
 pub mod quote;
 pub mod rare;
 pub mod run;

@@ -37,10 +37,10 @@ ran-by passed r = Ran.Value (r .type) (r .value) (r .units) (r .printed)
 ran-by (refused y) r = Ran.Refused (refusal-of y) (r .place)
 ran-by (stopped w) r = Ran.Stopped (stop-of w) (r .place) (r .type) (r .units) (r .printed)
 
-abbrev ran-of : RunReport ℕ → Ran
+abbrev pub ran-of : RunReport ℕ → Ran
 ran-of r = ran-by (r .told) r
 
-ran-back : (r : Ran) → ran-of (ran-report r) ≡ r
+pub ran-back : (r : Ran) → ran-of (ran-report r) ≡ r
 ran-back (Ran.Value t v u n) = refl
 ran-back (Ran.Stopped w i t u n) = ap (λ (w : Stop). Ran.Stopped w i t u n) (stop-back w)
 ran-back (Ran.Refused y i) = ap (λ (y : Refusal). Ran.Refused y i) (refusal-back y)

@@ -4,3 +4,4 @@ pub mod Services
 pub mod Determined
 pub mod Demands
 pub mod Rewriting
+pub mod HeadOffice

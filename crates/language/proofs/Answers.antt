@@ -5,6 +5,7 @@ pub mod Endings
 pub mod OneAnswer
 pub mod Demand1
 pub mod Demand3
+pub mod HeadOffice
 pub mod NotAgain
 pub mod PlacesAside
 pub mod OldSheets

@@ -2,6 +2,7 @@
 pub mod CellTypes
 pub mod Safety
 pub mod NeverStuck
+pub mod Strict
 pub mod ValueTypes
 pub mod MoreUnits
 pub mod Spending

@@ -8,14 +8,15 @@ use Prim.Native.Nat.{ℕ, _≤_}
 use native.Mathlib.Decide.{decLe}
 use native.Mathlib.Omega.{arith}
 use lib.ListN.{length}
-use Rattle.language.specs.Sizes.{SOURCE, TOKENS}
-use Rattle.language.specs.Tokens.{Token}
+use Rattle.language.specs.Sizes.{SOURCE, TOKENS, LARGEST}
+use Rattle.language.specs.Tokens.{Token, value-at}
 use Rattle.language.specs.Trees.{Ty, Program}
 use Rattle.language.specs.Numbers.{Refusal, text, no-reading, long-text}
 use Rattle.language.specs.Answers.{Origin, place-in, TextDenies, too-long, flawed, TextGives, from-text, Passes, Refused, by-origin, by-tokens, keeps, unread, faulty}
 use Rattle.language.proofs.Text.Marks.{laws-1}
 use Rattle.language.proofs.Text.OneSplit.{one-split, one-flaw}
 use Rattle.language.proofs.Text.OneSplit as OneSplit
+use Rattle.language.proofs.Text.SmallNumbers.{split-small}
 use Rattle.language.proofs.Text.Edition as Scanner
 use Rattle.language.proofs.Text.Edition.{scan, scanned}
 use Rattle.language.proofs.Answers.Verdict.{Verdict, denied, proper, verdict, Says, verdict-says, proper-is, denied-is}
@@ -30,6 +31,8 @@ pub record Lawful {P : Type 0} (o : Origin P) : Type 0 where
   pub some : ((ts : List Token) × o .gives ts) ⊎ ((r : Refusal) × (x : P) × o .denies r x)
   -- no more tokens than a source may have
   pub few : (ts : List Token) → o .gives ts → length ts ≤ TOKENS
+  -- no number larger than can be written
+  pub small : (ts : List Token) → o .gives ts → (i : ℕ) → value-at ts i ≤ LARGEST
   -- neither short memory nor a reading nor what is written is a matter of an origin's
   pub not-memory : (r : Refusal) (x : P) → o .denies r x → keeps r ≡ false
   pub not-reading : (x : P) → o .denies no-reading x → ⊥
@@ -81,6 +84,7 @@ module _ (source : List ℕ) where
     never-both = text-never-both;
     some = text-some;
     few = λ ts a. a .splits .few;
+    small = λ ts a. split-small (a .splits);
     not-memory = text-not-memory;
     not-reading = λ x a. text-not-reading no-reading x a refl;
     not-written = λ x a. text-not-written long-text x a refl;

@@ -9,13 +9,13 @@ use lib.IntN.{ℤ}
 use borrow.Author.Tests.{eqb-true}
 use Rattle.language.specs.Sizes.{ACTIVE}
 use Rattle.language.specs.Tokens.{same}
-use Rattle.language.specs.Trees.{Name, Ty, Exp, Exps, Def, Program, Scope, empty, push, nearest}
+use Rattle.language.specs.Trees.{Name, Ty, Exp, Exps, Def, Program, Scope, empty, push, nearest, PUTCHAR}
 use Rattle.language.specs.Types.{Sig, Typed, t-name, t-whole, t-truth, t-trivial, t-unary, t-binary, t-follow, t-group, t-block, t-call, t-bind, t-branch, t-loop, TypedAll, t-last, t-more, fine, with-def, TypedFrom, typed-main, typed-def, given, HasType}
 use Rattle.language.specs.State.{Outcome, value, stop, stuck}
-use Rattle.language.specs.Meaning.{in-range, Fun, functions, start, run}
+use Rattle.language.specs.Meaning.{in-range, Fun, putchar, functions, start, run}
 use Rattle.language.proofs.Grammar.OwnTokens.{Own, owns, def-owns, program-owns, front, back, everywhere, main-owned}
 use Rattle.language.proofs.Meaning.CellTypes.{none-some, some-one, holds-none, env-empty}
-use Rattle.language.proofs.Meaning.Safety.{Good, good-value, good-stop, Fair, FunFits, fun-putchar, fun-defined, eval-good}
+use Rattle.language.proofs.Meaning.Safety.{Good, good-value, good-stop, Fair, FunFits, fun-putchar, fun-defined, Ready, eval-good}
 
 pub and-left : (a b : Bool) → a && b ≡ true → a ≡ true
 and-left true b e = refl
@@ -74,7 +74,7 @@ knows-push Δ g r e f s h = go (same f g) refl
     go true d = absurd (none-some (sym e ∙ ap (λ x. nearest x Δ) (sym (same-true f g d)) ∙ h))
     go false d = h
 
-unfoldable final : Scope Sig → List Def → Scope Sig
+unfoldable pub final : Scope Sig → List Def → Scope Sig
 final Δ [] = Δ
 final Δ (d ∷ ds) = final (with-def Δ d) ds
 
@@ -110,26 +110,31 @@ module _ {R : ℤ → Type 0} where
       let body = weaken (with-def Δ d) _ (λ f s e. k f s (knows-final q f s e)) n in
       tables os q (back (owns (d .body)) _ m) k (tabled-push (fun-defined c refl body (front (owns (d .body)) _ m)) h)
 
-main-typed : {Δ : Scope Sig} {ds : List Def} {e : Exp} {t : Ty} → TypedFrom Δ ds e t → Typed (final Δ ds) empty e t
+pub main-typed : {Δ : Scope Sig} {ds : List Def} {e : Exp} {t : Ty} → TypedFrom Δ ds e t → Typed (final Δ ds) empty e t
 unfolding final
 main-typed (typed-main p) = p
 main-typed (typed-def p q) = main-typed q
+
+-- the functions of a program are what its types say
+pub program-ready : {R : ℤ → Type 0} (p : Program) (t : Ty) → HasType p t → Fair R (program-owns p)
+    → Ready R (final given (p .defs)) (functions (p .defs) (push PUTCHAR putchar empty))
+unfolding program-owns
+program-ready p t h m f s e = find f s (tables (owns (p .main)) h m (λ g r k. k) (tabled-push fun-putchar tabled-none)) e
 
 -- a run is not stuck; with numbers that are what is asked, so is every int that it makes
 pub run-good : {R : ℤ → Type 0} → ((z : ℤ) → in-range z ≡ true → R z) → (p : Program) (t : Ty) (allowance room : ℕ) → HasType p t
     → Fair R (program-owns p) → Good R [] t (run p allowance room)
 unfolding run program-owns
 run-good wide p t allowance room h m =
-    eval-good wide (final given (p .defs)) _
-    (λ f s e. find f s (tables (owns (p .main)) h m (λ g r k. k) (tabled-push fun-putchar tabled-none)) e) ACTIVE empty
-    (start allowance room) (main-typed h) (main-owned (p .defs) _ m) env-empty record { counted = refl; holds = holds-none }
+    eval-good wide (final given (p .defs)) _ (program-ready p t h m) ACTIVE empty (start allowance room) (main-typed h)
+    (main-owned (p .defs) _ m) env-empty record { counted = refl; holds = holds-none }
 
 abbrev IsMoving : Outcome → Type 0
 IsMoving (value v s) = Unit {0}
 IsMoving (stop n i s) = Unit {0}
 IsMoving stuck = ⊥
 
-not-stuck : {R : ℤ → Type 0} {Σ : List Ty} {t : Ty} {o : Outcome} → Good R Σ t o → o ≡ stuck → ⊥
+pub not-stuck : {R : ℤ → Type 0} {Σ : List Ty} {t : Ty} {o : Outcome} → Good R Σ t o → o ≡ stuck → ⊥
 not-stuck (good-value g p q) e = subst IsMoving e tt
 not-stuck good-stop e = subst IsMoving e tt
 

@@ -35,8 +35,8 @@ pub data FunFits (R : ℤ → Type 0) (Δ : Scope Sig) : Fun → Sig → Type 0 
 abbrev pub Ready : (ℤ → Type 0) → Scope Sig → Scope Fun → Type 0
 Ready R Δ fs = (f : Name) (s : Sig) → nearest f Δ ≡ some s → (g : Fun) × (nearest f fs ≡ some g) × FunFits R Δ g s
 
-record Safe (R : ℤ → Type 0) (Δ : Scope Sig) (go : Exp → Env → State → Outcome) : Type 0 where
-  at : {Σ : List Ty} {Γ : Scope Ty} {e : Exp} {t : Ty} (env : Env) (s : State)
+pub record Safe (R : ℤ → Type 0) (Δ : Scope Sig) (go : Exp → Env → State → Outcome) : Type 0 where
+  pub at : {Σ : List Ty} {Γ : Scope Ty} {e : Exp} {t : Ty} (env : Env) (s : State)
       → Typed Δ Γ e t → Fair R (owns e) → EnvFits R Σ env Γ → StateFits R Σ s → Good R Σ t (go e env s)
 
 -- every int within the range is what is asked
@@ -45,7 +45,7 @@ module _ {R : ℤ → Type 0} (wide : (z : ℤ) → in-range z ≡ true → R z)
   lift g (good-value h p q) = good-value (grows-trans g h) p q
   lift g good-stop = good-stop
 
-  good-then : {Σ : List Ty} {t u : Ty} {o : Outcome} (k : Value → State → Outcome) → Good R Σ t o
+  pub good-then : {Σ : List Ty} {t u : Ty} {o : Outcome} (k : Value → State → Outcome) → Good R Σ t o
       → ((Σ′ : List Ty) (v : Value) (s : State) → Grows Σ Σ′ → StateFits R Σ′ s → Fits R Σ′ v t → Good R Σ′ u (k v s)) → Good R Σ u (then o k)
   unfolding then
   good-then k (good-value {Σ′} {v} {s} g p q) f = lift g (f Σ′ v s g p q)
@@ -69,7 +69,7 @@ module _ {R : ℤ → Type 0} (wide : (z : ℤ) → in-range z ≡ true → R z)
   unfolding when-some
   good-cell k (fits-ref {b} p) f = f b p
 
-  good-choose : {Σ : List Ty} {u : Ty} (b : Bool) (x y : Unit {0} → Outcome) → (b ≡ true → Good R Σ u (x tt))
+  pub good-choose : {Σ : List Ty} {u : Ty} (b : Bool) (x y : Unit {0} → Outcome) → (b ≡ true → Good R Σ u (x tt))
       → (b ≡ false → Good R Σ u (y tt)) → Good R Σ u (choose b x y)
   unfolding choose
   good-choose true x y f g = f refl
@@ -87,7 +87,7 @@ module _ {R : ℤ → Type 0} (wide : (z : ℤ) → in-range z ≡ true → R z)
   good-charge zero i s k p f = good-stop
   good-charge (suc n) i s k p f = f _ record { counted = p .counted; holds = p .holds }
 
-  good-begin : {Σ : List Ty} {u : Ty} (i : ℕ) (s : State) (k : State → Outcome) → StateFits R Σ s
+  pub good-begin : {Σ : List Ty} {u : Ty} (i : ℕ) (s : State) (k : State → Outcome) → StateFits R Σ s
       → ((s : State) → StateFits R Σ s → Good R Σ u (k s)) → Good R Σ u (begin i s k)
   unfolding begin
   good-begin i s k p f = good-charge (s .units) i s k p f
@@ -115,7 +115,7 @@ module _ {R : ℤ → Type 0} (wide : (z : ℤ) → in-range z ≡ true → R z)
       good-cell _ q λ b r. good-when _ _ _ (λ w e. good-value stays p (held-fits Σ b t w (s .cells) r (p .holds) e)) λ _. good-stop
   unary-good i v s (u-new h) p q = good-create i v s p q
 
-  binary-good : {Σ : List Ty} {o : Binary} {t u r : Ty} (i : ℕ) (v w : Value) (s : State)
+  pub binary-good : {Σ : List Ty} {o : Binary} {t u r : Ty} (i : ℕ) (v w : Value) (s : State)
       → BinopType o t u r → StateFits R Σ s → Fits R Σ v t → Fits R Σ w u → Good R Σ r (apply-binary i o v w s)
   unfolding apply-binary
   binary-good i v w s b-add p q r = good-int _ q λ x. good-int _ r λ y. good-fit i _ s p
@@ -140,7 +140,7 @@ module _ {R : ℤ → Type 0} (wide : (z : ℤ) → in-range z ≡ true → R z)
   false-true e = subst IsFalse e tt
 
   -- where the left side settles it, its value is the result
-  settled : {Σ : List Ty} {o : Binary} {t u r : Ty} {v : Value} → BinopType o t u r → settles o v ≡ true → Fits R Σ v t → Fits R Σ v r
+  pub settled : {Σ : List Ty} {o : Binary} {t u r : Ty} {v : Value} → BinopType o t u r → settles o v ≡ true → Fits R Σ v t → Fits R Σ v r
   unfolding settles
   settled b-add e p = absurd (false-true e)
   settled b-sub e p = absurd (false-true e)
@@ -215,7 +215,7 @@ module _ {R : ℤ → Type 0} (wide : (z : ℤ) → in-range z ≡ true → R z)
         good-unit _ q₂ (passes-good n env s₂ a m b k (env-grows (grows-trans g₁ g₂) h) p₂))
         λ _. good-value stays p₁ fits-unit
 
-    step-good : {Σ : List Ty} {Γ : Scope Ty} {e : Exp} {t : Ty} (env : Env) (s : State)
+    pub step-good : {Σ : List Ty} {Γ : Scope Ty} {e : Exp} {t : Ty} (env : Env) (s : State)
         → Typed Δ Γ e t → Fair R (owns e) → EnvFits R Σ env Γ → StateFits R Σ s → Good R Σ t (step fs go e env s)
     unfolding step literal-value owns
     step-good {Σ} env s (t-name {x = x} {t = t} e) m h p =

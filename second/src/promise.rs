@@ -1,0 +1,91 @@
+//! What is promised of every run, whatever it means (R11.2, R11.3): a sheet that
+//! passes ends in a value or a listed stop, of the type that Check gives it, and
+//! unless it ran out of units, more of them change nothing. Here the other
+//! implementation is held against itself.
+
+use crate::answer::{Lent, MOST_UNITS, TABLE_WORDS, WORK_WORDS};
+use crate::chance::Chance;
+use crate::compare::{Call, Other};
+use crate::services::Service;
+use crate::trial::Trial;
+
+/// What a passing sheet may end in.
+pub const ENDS: [u32; 9] = [0, 50, 51, 52, 53, 54, 55, 56, 57];
+
+/// Whether a value told with this type can be one of it.
+pub fn fits(kind: u64, value: i64) -> bool {
+    match kind {
+        1 => i32::try_from(value).is_ok(),
+        2 => [0, 1].contains(&value),
+        3 => value == 0,
+        // A reference: cells are counted from 1, and each takes a unit.
+        _ => (1..=MOST_UNITS as i64).contains(&value),
+    }
+}
+
+/// Number, place, type, value, units, printed; and the output.
+type Ended = (Vec<u64>, Vec<u8>);
+
+fn call(other: &dyn Other, service: Service, trial: &Trial, lent: &Lent) -> Result<Ended, String> {
+    let mut table = vec![0; TABLE_WORDS];
+    let mut work = vec![0; WORK_WORDS];
+    let mut output = vec![0; lent.output];
+    let mut report = vec![0; service.words()];
+    other.call(Call {
+        service,
+        source: &trial.sheet,
+        table: &mut table,
+        work: &mut work,
+        output: &mut output,
+        allowance: lent.allowance,
+        report: &mut report,
+    })?;
+    Ok((report, output))
+}
+
+/// Whether both promises hold on this trial, with the memory asked for.
+pub fn kept(other: &dyn Other, trial: &Trial) -> Result<(), String> {
+    if trial.lent.allowance > MOST_UNITS {
+        return Ok(());
+    }
+    let (check, _) = call(other, Service::Check, trial, &trial.lent)?;
+    let first = call(other, Service::Run, trial, &trial.lent)?;
+    let [number, _, kind, value, ..] = first.0[..] else {
+        unreachable!("six words");
+    };
+    if check[0] != 0 {
+        return match number == check[0] {
+            true => Ok(()),
+            false => Err(format!(
+                "check refuses with {}, run says {number}",
+                check[0]
+            )),
+        };
+    }
+    if !ENDS.map(u64::from).contains(&number) || kind != check[2] {
+        return Err(format!("it passes and ends in {number} with type {kind}"));
+    }
+    if number == 0 && !fits(kind, value as i64) {
+        return Err(format!("{value} is no value of type {kind}"));
+    }
+    if number == 50 {
+        return Ok(());
+    }
+    let more = larger(trial.lent.allowance, trial.fill);
+    let lent = Lent {
+        allowance: more,
+        ..trial.lent
+    };
+    match call(other, Service::Run, trial, &lent)? == first {
+        true => Ok(()),
+        false => Err(format!("with {more} units it ends otherwise")),
+    }
+}
+
+/// Another allowance, one more, twice as many, the most or any between.
+pub fn larger(allowance: u64, fill: u64) -> u64 {
+    let mut chance = Chance::new(fill, allowance);
+    let between = allowance + chance.below((MOST_UNITS - allowance) as usize + 1) as u64;
+    let choice = chance.pick(&[allowance + 1, 2 * allowance, MOST_UNITS, between]);
+    choice.min(MOST_UNITS)
+}
