@@ -8,7 +8,7 @@ use native.Mathlib.Numerals.{add-one}
 use native.Mathlib.Omega.{arith}
 use Prim.Native.Nat.{ℕ, suc, _+_, _≤_, _<_}
 use Rattle.language.specs.Text.{is-digit}
-use Rattle.page.specs.Numbers.{all-digits, is-number}
+use Rattle.page.specs.Amounts.{all-digits, is-number}
 
 -- the first i bytes are digits, and the rest decides
 pub record Passed (w : List ℕ) (i : ℕ) : Type 0 where

@@ -9,7 +9,8 @@ use mathlib.Core.Path.{_≡_, refl, _∙_, ap, subst}
 use native.Mathlib.Numerals.{add-one}
 use native.Mathlib.Omega.{arith}
 use Prim.Native.Nat.{ℕ, zero, suc, _+_, _-_, _≤_, _<_}
-use Rattle.page.specs.Lines.{feeds, ahead, behind, Spotted}
+use Rattle.page.specs.Characters.{is-readable}
+use Rattle.page.specs.Lines.{feeds, ahead, behind, columns-of, Spotted}
 
 -- ---- a byte at the end
 
@@ -135,14 +136,26 @@ unfolding ahead
 ahead-length [] = omega arith
 ahead-length (x ∷ t) = ahead-short (eqb x 10) (ahead t) (length t) (ahead-length t)
 
-ahead-few : (t : List ℕ) (i : ℕ) → ahead (drop i t) ≤ length t - i
+-- a line ends with the text at the latest
+pub ahead-few : (t : List ℕ) (i : ℕ) → ahead (drop i t) ≤ length t - i
 ahead-few t i = omega (arith, ahead-length (drop i t), length-drop i t)
 
 -- ---- what the searches found, put together
 
 -- the place is no further than the end
-pub spotted : (t : List ℕ) {p at n from to : ℕ} → at ≡ p → p ≤ length t → n ≡ feeds (take at t) → from + behind (take at t) ≡ at
-    → to ≡ at + ahead (drop at t) → Spotted t p (record { line = n + 1; column = at - from + 1; from = from; to = to })
-spotted t {at = at} {n} {from} {to} e l a b d =
-    subst (λ (k : ℕ). Spotted t k (record { line = n + 1; column = at - from + 1; from = from; to = to })) e
-    (record { line = omega arith; column = omega arith; from = b; to = d; ordered = omega arith; within = omega (arith, ahead-few t at) })
+pub spotted : (t : List ℕ) {p at n from to k : ℕ} {q : Bool} → at ≡ p → p ≤ length t → n ≡ feeds (take at t) → from + behind (take at t) ≡ at
+    → to ≡ at + ahead (drop at t) → q ≡ is-readable (take (to - from) (drop from t)) → k ≡ columns-of q (take (at - from) (drop from t))
+    → Spotted t p (record { line = n + 1; column = k + 1; from = from; here = at; to = to; plain = q })
+spotted t {at = at} {n} {from} {to} {k} {q} e l a b d r j =
+    subst (λ (p : ℕ). Spotted t p (record { line = n + 1; column = k + 1; from = from; here = at; to = to; plain = q })) e
+    (record {
+      line = omega arith;
+      from = b;
+      here = refl;
+      to = d;
+      plain = r;
+      column = omega arith;
+      before = omega arith;
+      ordered = omega arith;
+      within = omega (arith, ahead-few t at);
+    })

@@ -1,5 +1,9 @@
+pub mod Adding
+pub mod Decimals
 pub mod Digits
 pub mod Feeds
+pub mod Letters
 pub mod Negative
-pub mod Parts
+pub mod Returns
+pub mod Seen
 pub mod Spelling

@@ -1,3 +1,5 @@
+pub mod Characters
 pub mod Lines
-pub mod Numbers
+pub mod Amounts
 pub mod Sheet
+pub mod Text

@@ -1,45 +1,36 @@
-// What the program around the box does with bytes: it tells a number among its arguments and reads one,
-// sets the call of a shift under a rate sheet, finds the line and the column of a place, and takes a
-// number's sign off.
+// What the program around the box does with bytes: it reads a number among its arguments, sets the call of
+// a shift under a rate sheet, finds the line and the column of a place, puts text behind text so that it can
+// be seen, and takes a number's sign off.
 ghost use mathlib.Core.Path.{_≡_};
 ghost use Prim.Native.Nat.{min};
 ghost use lib.IntN.{natAbs};
 ghost use lib.ListN.{length};
 ghost use Rattle.page.specs.Lines.{Spotted};
-ghost use Rattle.page.specs.Numbers.{is-number};
 
+mod amounts;
 mod bytes;
+mod characters;
 pub mod lines;
-mod numbers;
 mod sheet;
+mod text;
 
-use crate::bytes::is_digit;
 use crate::lines::Spot;
+use crate::lines::columns;
 use crate::lines::feeds_before;
 use crate::lines::line_end;
 use crate::lines::line_start;
-pub use numbers::allowance;
-pub use sheet::Composed;
+pub use amounts::Number;
+pub use amounts::up_to;
+pub use characters::readable;
+pub use lines::trimmed;
 pub use sheet::compose;
+pub use text::blanks;
+pub use text::decimal;
+pub use text::put;
+pub use text::shown;
 
-// Is this a number: at least one byte, and each a digit?
-pub fn is_number(word: &[u8]) -> bool
-    ensures { λ r. ⌜ r ≡ is-number (now (word .entry)) ⌝ }
-{
-    if word.len() == 0 {
-        return false;
-    }
-    let mut i = 0;
-    while i < word.len() {
-        if !is_digit(word[i]) {
-            return false;
-        }
-        i += 1;
-    }
-    true
-}
-
-fn least(a: usize, b: usize) -> usize
+// The lesser of the two.
+pub fn least(a: usize, b: usize) -> usize
     ensures { λ r. ⌜ r ≡ min a b ⌝ }
 {
     if a < b { a } else { b }
@@ -49,15 +40,19 @@ fn least(a: usize, b: usize) -> usize
 pub fn spot(source: &[u8], place: usize) -> Spot
     ensures { λ r. ⌜ Spotted (now (source .entry)) (min place (length (now (source .entry)))) r ⌝ }
 {
-    let at = least(place, source.len());
-    let before = feeds_before(source, at);
-    let from = line_start(source, at);
-    let to = line_end(source, at);
+    let here = least(place, source.len());
+    let before = feeds_before(source, here);
+    let from = line_start(source, here);
+    let to = line_end(source, here);
+    let plain = readable(&source[from..to]);
+    let columns = columns(&source[from..here], plain);
     Spot {
         line: before + 1,
-        column: at - from + 1,
+        column: columns + 1,
         from,
+        here,
         to,
+        plain,
     }
 }
 

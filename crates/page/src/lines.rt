@@ -2,15 +2,19 @@
 ghost use mathlib.Core.Path.{_≡_};
 ghost use Prim.Native.Nat.{_+_, _≤_};
 ghost use lib.ListN.{length, take, drop};
-ghost use Rattle.page.specs.Lines.{feeds, behind, ahead};
+ghost use Rattle.io.specs.Counts.{Counts};
+ghost use Rattle.page.specs.Lines.{feeds, behind, ahead, columns-of, without-return};
+use crate::characters::characters;
 
-// The line and the column of a place, both counted from 1, and the bytes from one up to another that are
-// its line.
+// The line and the column of a place, both counted from 1; the bytes from one up to another that are its
+// line, the place among them, and whether they are UTF-8.
 pub struct Spot {
     pub line: usize,
     pub column: usize,
     pub from: usize,
+    pub here: usize,
     pub to: usize,
+    pub plain: bool,
 }
 
 // How many line feeds stand before a place.
@@ -57,4 +61,29 @@ pub fn line_end(source: &[u8], at: usize) -> usize
         i += 1;
     }
     i
+}
+
+// How many columns these bytes take: one for each character where the line is UTF-8, and else for each byte.
+pub fn columns(bytes: &[u8], plain: bool) -> usize
+    ensures { λ r. ⌜ r ≡ columns-of plain (now (bytes .entry)) ⌝ }
+{
+    if plain {
+        return characters(bytes);
+    }
+    bytes.len()
+}
+
+// How many bytes of a line are shown: a carriage return at its end is not.
+pub fn trimmed(line: &[u8]) -> usize
+    ensures { λ r. ⌜ Counts r (now (line .entry)) ⌝ }
+    ensures { λ r. ⌜ take r (now (line .entry)) ≡ without-return (now (line .entry)) ⌝ }
+{
+    let n = line.len();
+    if n == 0 {
+        return n;
+    }
+    if line[n - 1] == b'\r' {
+        return n - 1;
+    }
+    n
 }

@@ -1,32 +1,26 @@
-// What the arguments ask for.
-ghost use Rattle.slip.specs.Tasks.{Asks};
+// The words that the program is started with.
+use clerk::asked;
+use clerk::asked::Asked;
 
-pub enum Task {
-    Pay,
-    Check,
-    Run,
-    Unclear,
+// Takes one word more. One that does not fit the buffer is as strange as one that has no meaning.
+fn step(asked: Asked, i: usize) -> Asked {
+    let mut word = io::buffer();
+    let length = os::arg(i, &mut word);
+    if os::errno() != 0 {
+        return asked::unknown(asked, i);
+    }
+    let meaning = asked::meaning(&word[..length]);
+    asked::take(asked, meaning, i)
 }
 
-// The task, by the number of words, the program's own name among them, and the first word behind it.
-pub fn asked(count: usize, first: &[u8]) -> Task
-    ensures { λ r. ⌜ Asks count (now (first .entry)) r ⌝ }
-{
-    if check::same(first, b"check") {
-        return if count == 3 {
-            Task::Check
-        } else {
-            Task::Unclear
-        };
+// What all of them ask for.
+pub fn read() -> Asked {
+    let count = os::arg_count();
+    let mut asked = asked::nothing();
+    let mut i = 1;
+    while i < count {
+        asked = step(asked, i);
+        i += 1;
     }
-    if check::same(first, b"run") {
-        return if count == 3 {
-            Task::Run
-        } else if count == 4 {
-            Task::Run
-        } else {
-            Task::Unclear
-        };
-    }
-    if count == 4 { Task::Pay } else { Task::Unclear }
+    asked
 }

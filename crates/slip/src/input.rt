@@ -1,7 +1,8 @@
-// Reading what the arguments name.
+// Reading what the words name.
 ghost use Rattle.io.specs.Counts.{Counts};
 ghost use Rattle.slip.specs.Sheets.{Loaded};
-use crate::report::complain;
+use crate::output;
+use page::Number;
 
 // The bytes of a sheet, or nothing, when the reason was told.
 pub enum Sheet {
@@ -29,7 +30,7 @@ fn read(fd: i32, name: &[u8], bytes: &mut [u8]) -> Sheet
 {
     let got = libc::read(fd, bytes);
     if got < 0 {
-        os::fail(name);
+        output::fail(name);
         return Sheet::Nothing;
     }
     if got == 0 {
@@ -40,29 +41,25 @@ fn read(fd: i32, name: &[u8], bytes: &mut [u8]) -> Sheet
     let more = io::read_full(fd, &mut bytes[first..]);
     let length = first + more;
     if length < bytes.len() && !has_ended(fd) {
-        complain(b"slip: the sheet cannot be read to its end");
+        output::tell(b"slip: the sheet cannot be read to its end\n");
         return Sheet::Nothing;
     }
     let all = within(length, bytes);
     Sheet::Bytes(all)
 }
 
-// Reads the sheet that this argument names.
-pub fn load(argument: usize, bytes: &mut [u8]) -> Sheet
+// Reads the sheet that this word names.
+pub fn load(word: usize, bytes: &mut [u8]) -> Sheet
     ensures { λ r. ⌜ Loaded r (now (bytes .exit)) ⌝ }
 {
     let mut name = io::buffer();
-    let length = os::arg(argument, &mut name);
-    if os::errno() != 0 {
-        os::fail(b"slip: the sheet's name");
-        return Sheet::Nothing;
-    }
+    let length = os::arg(word, &mut name);
     if check::same(&name[..length], b"-") {
         return read(libc::STDIN_FILENO, &name[..length], bytes);
     }
     let fd = os::open_read(&name[..length]);
     if fd < 0 {
-        os::fail(&name[..length]);
+        output::fail(&name[..length]);
         return Sheet::Nothing;
     }
     let found = read(fd, &name[..length], bytes);
@@ -70,14 +67,43 @@ pub fn load(argument: usize, bytes: &mut [u8]) -> Sheet
     found
 }
 
-// Reads an argument that has to be a number; 0 bytes where it is none.
-pub fn number(argument: usize, word: &mut [u8]) -> usize
-    ensures { λ r. ⌜ Counts r (now (word .exit)) ⌝ }
-{
-    let length = os::arg(argument, word);
-    if page::is_number(&word[..length]) {
-        length
-    } else {
-        0
+// Reads a word that has to be a number up to a limit; where it is none, that was told.
+pub fn number(word: usize, what: &[u8], most: u32) -> Number {
+    let mut name = io::buffer();
+    let length = os::arg(word, &mut name);
+    let found = page::up_to(&name[..length], most);
+    match found {
+        Number::Of(_) => found,
+        Number::None => {
+            let mut text = [0u8; 20000];
+            let n = clerk::mistakes::no_number(&mut text, 0, what, &name[..length], most);
+            output::tell(&text[..n]);
+            found
+        }
     }
+}
+
+// Says of a word that it has no meaning, or that it is too long.
+pub fn strange(word: usize) {
+    let mut name = io::buffer();
+    let length = os::arg(word, &mut name);
+    if os::errno() != 0 {
+        os::fail(b"slip: a word");
+        return;
+    }
+    let mut text = [0u8; 20000];
+    let n = clerk::mistakes::strange(&mut text, 0, &name[..length]);
+    output::tell(&text[..n]);
+}
+
+// Are these two words, and the same?
+pub fn same(first: usize, second: usize) -> bool {
+    if second == 0 {
+        return false;
+    }
+    let mut one = io::buffer();
+    let mut other = io::buffer();
+    let a = os::arg(first, &mut one);
+    let b = os::arg(second, &mut other);
+    check::same(&one[..a], &other[..b])
 }

@@ -1,37 +1,19 @@
-// slip: works out what a shift is paid, by a rate sheet.
+// slip: works out what a shift is paid, by a rate sheet. `help.rt` says how it is asked.
 //
-//     slip RATE-SHEET PICKS RATE       sets pay(PICKS,RATE) under the sheet and runs it
-//     slip check SHEET                 reads and checks a whole sheet
-//     slip run SHEET [ALLOWANCE]       runs a whole sheet
-//
-// A sheet is a file; `-` is standard input. What the sheet puts out goes to standard output as it is, and
-// then a report. Where the arguments do not serve, one line on standard error says which, and nothing
-// else happens.
+// What the sheet prints goes to standard output and nothing else does; the report goes to standard error,
+// and with `--report FILE` also to a file, for machines. The last thing that is told is the status, a digit
+// on descriptor 3: 0 paid, or passed; 1 refused or stopped; 2 where the words do not serve, or something
+// cannot be read or written. A program cannot end with a status of its own; the script `slip` at the top of
+// the repository listens on that descriptor and ends with it.
 mod arguments;
+mod help;
 mod input;
-mod report;
+mod output;
+mod reports;
 mod serve;
-mod words;
-
-use crate::arguments::Task;
 
 fn main() {
-    let mut first = io::buffer();
-    let length = os::arg(1, &mut first);
-    match arguments::asked(os::arg_count(), &first[..length]) {
-        Task::Pay => {
-            serve::pay();
-        }
-        Task::Check => {
-            serve::check();
-        }
-        Task::Run => {
-            serve::run();
-        }
-        Task::Unclear => {
-            report::complain(
-                b"use: slip RATE-SHEET PICKS RATE, slip check SHEET, or slip run SHEET [ALLOWANCE]",
-            );
-        }
-    }
+    let asked = arguments::read();
+    let status = serve::serve(asked);
+    output::end(status);
 }

@@ -1,130 +1,160 @@
-// The three tasks.
+// What is done for each task: one function each, which answers the status, and one row in `serve`.
+use crate::help;
 use crate::input;
 use crate::input::Sheet;
-use crate::report;
+use crate::output;
+use crate::reports;
+use clerk::asked::Asked;
+use clerk::asked::Task;
+use clerk::asked::Wanted;
+use clerk::ends;
+use clerk::ends::End;
+use clerk::tasks;
 use grumpy::answers::Checked;
-use grumpy::answers::Ran;
 use language::ALLOWANCE;
 use language::SOURCE;
 use language::TABLE;
 use language::WORK;
-use page::Composed;
+use page::Number;
 
-// Runs a whole sheet, and reports.
-fn run_whole(source: &[u8], allowance: u64) {
+// The largest picks, rate and allowance.
+const LARGEST: u32 = language::LARGEST as u32;
+
+const UNITS: u32 = language::ALLOWANCE as u32;
+
+fn examine(source: &[u8]) -> Checked {
+    let mut words = [0u32; TABLE];
+    let table: &mut [u32] = &mut words;
+    grumpy::check(source, table)
+}
+
+// Reports what came of a run; what was printed stands first in `out`.
+fn ran(asked: Asked, sheet: &[u8], out: &[u8], allowance: u64, end: End) -> u32 {
+    let n = input::within(ends::printed(end), out);
+    reports::report(asked, sheet, &out[..n], allowance, end)
+}
+
+// Runs a source, which is the sheet with its call or the sheet itself, and reports.
+fn execute(asked: Asked, sheet: &[u8], source: &[u8], allowance: u64) -> u32 {
     let mut words = [0u32; TABLE];
     let mut cells = [0u32; WORK];
     let mut bytes = io::large_buffer();
     let table: &mut [u32] = &mut words;
     let work: &mut [u32] = &mut cells;
     let out: &mut [u8] = &mut bytes;
-    match grumpy::run(source, table, work, out, allowance) {
-        Ran::Value {
-            type_number,
-            value,
-            units,
-            printed,
-        } => {
-            report::printed(out, printed);
-            report::number(0);
-            report::kind(type_number);
-            report::value(type_number, value);
-            report::units(units, allowance);
-        }
-        Ran::Stopped {
-            why,
-            place,
-            type_number,
-            units,
-            printed,
-        } => {
-            report::printed(out, printed);
-            report::number(numbers::of_stop(why));
-            report::place(source, place);
-            report::kind(type_number);
-            report::units(units, allowance);
-        }
-        Ran::Refused(why, place) => {
-            report::refusal(source, numbers::of_refusal(why), place);
-        }
-    }
+    let answer = grumpy::run(source, table, work, out, allowance);
+    ran(asked, sheet, out, allowance, ends::of_run(answer))
 }
 
-fn check_whole(source: &[u8]) {
-    let mut words = [0u32; TABLE];
-    let table: &mut [u32] = &mut words;
-    match grumpy::check(source, table) {
-        Checked::Passed(type_number) => {
-            report::number(0);
-            report::kind(type_number);
-        }
-        Checked::Refused(why, place) => {
-            report::refusal(source, numbers::of_refusal(why), place);
-        }
-    }
-}
-
-pub fn check() {
-    let mut sheet = [0u8; SOURCE + 1];
-    let Sheet::Bytes(length) = input::load(2, &mut sheet) else {
-        return;
+fn check_whole(asked: Asked) -> u32 {
+    let mut bytes = [0u8; SOURCE + 1];
+    let Sheet::Bytes(length) = input::load(asked.sheet, &mut bytes) else {
+        return reports::failed(asked);
     };
-    let n = input::within(length, &sheet);
-    check_whole(&sheet[..n]);
+    let n = input::within(length, &bytes);
+    let end = ends::of_check(examine(&bytes[..n]));
+    reports::report(asked, &bytes[..n], b"", 0, end)
 }
 
-pub fn run() {
-    let mut sheet = [0u8; SOURCE + 1];
-    let mut word = io::buffer();
+fn run_whole(asked: Asked, sheet: &[u8], allowance: u64) -> u32 {
+    execute(asked, sheet, sheet, allowance)
+}
+
+fn run(asked: Asked) -> u32 {
+    let mut bytes = [0u8; SOURCE + 1];
     let mut allowance = ALLOWANCE;
-    if os::arg_count() == 4 {
-        let digits = input::number(3, &mut word);
-        if digits == 0 {
-            report::complain(b"slip: the allowance is no number");
-            return;
-        }
-        allowance = page::allowance(&word[..digits]);
+    if asked.second != 0 {
+        let Number::Of(n) = input::number(asked.second, b"allowance", UNITS) else {
+            return reports::failed(asked);
+        };
+        allowance = n as u64;
     }
-    let Sheet::Bytes(length) = input::load(2, &mut sheet) else {
-        return;
+    let Sheet::Bytes(length) = input::load(asked.sheet, &mut bytes) else {
+        return reports::failed(asked);
     };
-    let n = input::within(length, &sheet);
-    run_whole(&sheet[..n], allowance);
+    let n = input::within(length, &bytes);
+    run_whole(asked, &bytes[..n], allowance)
 }
 
-// The sheet with its call under it.
-fn run_call(sheet: &[u8], picks: &[u8], rate: &[u8]) {
-    let mut whole = [0u8; SOURCE];
-    match page::compose(sheet, picks, rate, &mut whole) {
-        Composed::Whole(length) => {
-            let n = input::within(length, &whole);
-            run_whole(&whole[..n], ALLOWANCE);
+// What a rate sheet with its call under it comes to; where that is no program, the sheet alone may be one.
+fn judge(sheet: &[u8], whole: &[u8]) -> End {
+    let answer = examine(whole);
+    let end = ends::of_called_check(sheet.len(), answer);
+    if ends::unread(answer) {
+        return ends::completed(end, ends::unread(examine(sheet)));
+    }
+    end
+}
+
+// Sets the call under the sheet, checks the whole and, if it is to be paid, runs it. The sheet has one byte
+// more than a source may have at most, and the call no more than 27.
+fn call(asked: Asked, sheet: &[u8], picks: u32, rate: u32, paid: bool) -> u32 {
+    let mut whole = [0u8; SOURCE + 64];
+    let n = page::compose(&mut whole, sheet, picks as u64, rate as u64);
+    let end = judge(sheet, &whole[..n]);
+    if paid {
+        if ends::status(end) == 0 {
+            return execute(asked, sheet, &whole[..n], ALLOWANCE);
         }
-        Composed::TooLong => {
-            report::complain(
-                b"slip: the sheet is too long: with its call it has more than 8192 bytes",
-            );
-        }
+    }
+    reports::report(asked, sheet, b"", 0, end)
+}
+
+fn check(asked: Asked) -> u32 {
+    let mut bytes = [0u8; SOURCE + 1];
+    let Sheet::Bytes(length) = input::load(asked.sheet, &mut bytes) else {
+        return reports::failed(asked);
+    };
+    let n = input::within(length, &bytes);
+    call(asked, &bytes[..n], 0, 0, false)
+}
+
+fn pay(asked: Asked) -> u32 {
+    let mut bytes = [0u8; SOURCE + 1];
+    let Number::Of(picks) = input::number(asked.second, b"picks", LARGEST) else {
+        return reports::failed(asked);
+    };
+    let Number::Of(rate) = input::number(asked.third, b"rate", LARGEST) else {
+        return reports::failed(asked);
+    };
+    let Sheet::Bytes(length) = input::load(asked.sheet, &mut bytes) else {
+        return reports::failed(asked);
+    };
+    let n = input::within(length, &bytes);
+    call(asked, &bytes[..n], picks, rate, true)
+}
+
+fn perform(asked: Asked, task: Task) -> u32 {
+    match task {
+        Task::Pay => pay(asked),
+        Task::Check => check(asked),
+        Task::CheckWhole => check_whole(asked),
+        Task::Run => run(asked),
+        Task::Help => help::help(),
+        Task::Version => help::version(),
     }
 }
 
-pub fn pay() {
-    let mut sheet = [0u8; SOURCE + 1];
-    let mut picks = io::buffer();
-    let mut rate = io::buffer();
-    let first = input::number(2, &mut picks);
-    if first == 0 {
-        report::complain(b"slip: the picks are no number");
-        return;
+fn unclear(asked: Asked, text: &[u8]) -> u32 {
+    output::tell(text);
+    reports::failed(asked)
+}
+
+pub fn serve(asked: Asked) -> u32 {
+    if asked.strange != 0 {
+        input::strange(asked.strange);
+        return reports::failed(asked);
     }
-    let second = input::number(3, &mut rate);
-    if second == 0 {
-        report::complain(b"slip: the rate is no number");
-        return;
+    if input::same(asked.sheet, asked.report) {
+        output::tell(b"slip: --report names the sheet itself\n");
+        return 2;
     }
-    let Sheet::Bytes(length) = input::load(1, &mut sheet) else {
-        return;
-    };
-    let n = input::within(length, &sheet);
-    run_call(&sheet[..n], &picks[..first], &rate[..second]);
+    match tasks::settled(asked) {
+        Wanted::Do(task) => perform(asked, task),
+        Wanted::NoName => unclear(asked, b"slip: --report wants a file's name behind it\n"),
+        Wanted::Unclear => unclear(
+            asked,
+            b"use: slip RATE-SHEET PICKS RATE, slip check [--whole] SHEET, slip run SHEET [ALLOWANCE]\n",
+        ),
+    }
 }

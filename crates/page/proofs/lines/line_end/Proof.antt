@@ -22,7 +22,10 @@ shared-slice-read-if1 : tie.Need-shared-slice-read-if1 Inv-loop μ-loop
 shared-slice-read-if1 c = search needs
 
 returns : tie.Need-returns Inv-loop μ-loop
-returns c = omega (arith, c .before .before .before .loop .inv, ahead-none (c .before .before .before .before .args .source .now) (c .before .before .before .loop .i) (c .before .before .loop-test .taken) (c .if1 .taken))
+returns c =
+    let at-loop = c .before .before .before in
+    let start = at-loop .before in
+    omega (arith, at-loop .loop .inv, ahead-none (start .args .source .now) (at-loop .loop .i) (c .before .before .loop-test .taken) (c .if1 .taken))
 
 add-i : tie.Need-add-i Inv-loop μ-loop
 add-i c = search needs
@@ -31,7 +34,10 @@ loop-less : tie.Need-loop-less Inv-loop μ-loop
 loop-less c = search needs
 
 loop-again : tie.Need-loop-again Inv-loop μ-loop
-loop-again c = omega (arith, c .before .before .before .loop .inv, ahead-more (c .before .before .before .before .args .source .now) (c .before .before .before .loop .i) (c .before .before .loop-test .taken) (c .if1 .left))
+loop-again c =
+    let at-loop = c .before .before .before in
+    let start = at-loop .before in
+    omega (arith, at-loop .loop .inv, ahead-more (start .args .source .now) (at-loop .loop .i) (c .before .before .loop-test .taken) (c .if1 .left))
 
 returns-2 : tie.Need-returns-2 Inv-loop μ-loop
 returns-2 c = omega (arith, c .before .loop .inv, ahead-end (c .before .before .args .source .now) (c .before .loop .i) (omega arith))

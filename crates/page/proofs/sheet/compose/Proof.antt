@@ -1,68 +1,64 @@
--- `compose` puts the parts one behind the other, once it knows that all have room.
-use native.Mathlib.Omega.{arith}
+-- `compose` puts the parts one behind the other.
+use Rattle.page.proofs.Adding.{both}
+use Rattle.page.specs.Sheet.{whole-of}
 use borrow.Author.Needs.{needs}
-use mathlib.Core.Path.{refl}
-use Rattle.page.proofs.Parts.{composed, enough, lacking}
 use Rattle.page.proofs.sheet.compose.Statement.{statement}
 use Rattle.page.proofs.sheet.compose.Tie as tie
 
-fits-requires : tie.Need-fits-requires
-fits-requires c κs = search needs
+put-requires : tie.Need-put-requires
+put-requires c κs = search needs
 
-returns : tie.Need-returns
-returns c = (lacking (c .before .before .before .before .before .before .args .sheet .now) (c .before .before .before .before .before .before .args .picks .now) (c .before .before .before .before .before .before .args .rate .now) (c .before .before .before .before .before .before .args .whole .now) (c .before .fits2 .ensures) (c .if1 .taken), refl)
+slice-aggregate-put : tie.Need-slice-aggregate-put
+slice-aggregate-put c = search needs
 
-append-requires : tie.Need-append-requires
-append-requires c κs = let room = enough (c .before .before .before .before .before .before .before .args .sheet .now) (c .before .before .before .before .before .before .before .args .picks .now) (c .before .before .before .before .before .before .before .args .rate .now) (c .before .before .before .before .before .before .before .args .whole .now) (c .before .before .fits2 .ensures) (c .before .if1 .left) in omega (arith, room)
+put-requires-2 : tie.Need-put-requires-2
+put-requires-2 c κs = search needs
 
-slice-aggregate-append : tie.Need-slice-aggregate-append
-slice-aggregate-append c = search needs
+decimal-requires : tie.Need-decimal-requires
+decimal-requires c κs = search needs
 
-append-requires-2 : tie.Need-append-requires-2
-append-requires-2 c κs = let room = enough (c .before .before .before .before .before .before .before .before .before .before .before .before .args .sheet .now) (c .before .before .before .before .before .before .before .before .before .before .before .before .args .picks .now) (c .before .before .before .before .before .before .before .before .before .before .before .before .args .rate .now) (c .before .before .before .before .before .before .before .before .before .before .before .before .args .whole .now) (c .before .before .before .before .before .before .before .fits2 .ensures) (c .before .before .before .before .before .before .if1 .left) in omega (arith, room, c .before .before .before .before .append .kept, c .before .before .before .before .append .ensures .0)
+slice-aggregate-put-2 : tie.Need-slice-aggregate-put-2
+slice-aggregate-put-2 c = search needs
 
-append-requires-3 : tie.Need-append-requires-3
-append-requires-3 c κs = let room = enough (c .before .before .before .before .before .before .before .before .before .before .before .before .before .before .before .before .args .sheet .now) (c .before .before .before .before .before .before .before .before .before .before .before .before .before .before .before .before .args .picks .now) (c .before .before .before .before .before .before .before .before .before .before .before .before .before .before .before .before .args .rate .now) (c .before .before .before .before .before .before .before .before .before .before .before .before .before .before .before .before .args .whole .now) (c .before .before .before .before .before .before .before .before .before .before .before .fits2 .ensures) (c .before .before .before .before .before .before .before .before .before .before .if1 .left) in omega (arith, room, c .before .before .before .before .before .before .before .before .append .kept, c .before .before .before .before .before .before .before .before .append .ensures .0, c .before .before .before .append2 .kept, c .before .before .before .append2 .ensures .0)
+put-requires-3 : tie.Need-put-requires-3
+put-requires-3 c κs = search needs
 
-slice-aggregate-append-2 : tie.Need-slice-aggregate-append-2
-slice-aggregate-append-2 c = search needs
+decimal-requires-2 : tie.Need-decimal-requires-2
+decimal-requires-2 c κs = search needs
 
-append-requires-4 : tie.Need-append-requires-4
-append-requires-4 c κs = let room = enough (c .before .before .before .before .before .before .before .before .before .before .before .before .before .before .before .before .before .before .before .before .before .args .sheet .now) (c .before .before .before .before .before .before .before .before .before .before .before .before .before .before .before .before .before .before .before .before .before .args .picks .now) (c .before .before .before .before .before .before .before .before .before .before .before .before .before .before .before .before .before .before .before .before .before .args .rate .now) (c .before .before .before .before .before .before .before .before .before .before .before .before .before .before .before .before .before .before .before .before .before .args .whole .now) (c .before .before .before .before .before .before .before .before .before .before .before .before .before .before .before .before .fits2 .ensures) (c .before .before .before .before .before .before .before .before .before .before .before .before .before .before .before .if1 .left) in omega (arith, room, c .before .before .before .before .before .before .before .before .before .before .before .before .before .append .kept, c .before .before .before .before .before .before .before .before .before .before .before .before .before .append .ensures .0, c .before .before .before .before .before .before .before .before .append2 .kept, c .before .before .before .before .before .before .before .before .append2 .ensures .0, c .before .before .before .before .append3 .kept, c .before .before .before .before .append3 .ensures .0)
+slice-aggregate-put-3 : tie.Need-slice-aggregate-put-3
+slice-aggregate-put-3 c = search needs
 
-append-requires-5 : tie.Need-append-requires-5
-append-requires-5 c κs = let room = enough (c .before .before .before .before .before .before .before .before .before .before .before .before .before .before .before .before .before .before .before .before .before .before .before .before .before .args .sheet .now) (c .before .before .before .before .before .before .before .before .before .before .before .before .before .before .before .before .before .before .before .before .before .before .before .before .before .args .picks .now) (c .before .before .before .before .before .before .before .before .before .before .before .before .before .before .before .before .before .before .before .before .before .before .before .before .before .args .rate .now) (c .before .before .before .before .before .before .before .before .before .before .before .before .before .before .before .before .before .before .before .before .before .before .before .before .before .args .whole .now) (c .before .before .before .before .before .before .before .before .before .before .before .before .before .before .before .before .before .before .before .before .fits2 .ensures) (c .before .before .before .before .before .before .before .before .before .before .before .before .before .before .before .before .before .before .before .if1 .left) in omega (arith, room, c .before .before .before .before .before .before .before .before .before .before .before .before .before .before .before .before .before .append .kept, c .before .before .before .before .before .before .before .before .before .before .before .before .before .before .before .before .before .append .ensures .0, c .before .before .before .before .before .before .before .before .before .before .before .before .append2 .kept, c .before .before .before .before .before .before .before .before .before .before .before .before .append2 .ensures .0, c .before .before .before .before .before .before .before .before .append3 .kept, c .before .before .before .before .before .before .before .before .append3 .ensures .0, c .before .before .before .append4 .kept, c .before .before .before .append4 .ensures .0)
-
-slice-aggregate-append-3 : tie.Need-slice-aggregate-append-3
-slice-aggregate-append-3 c = search needs
-
-append-requires-6 : tie.Need-append-requires-6
-append-requires-6 c κs = let room = enough (c .before .before .before .before .before .before .before .before .before .before .before .before .before .before .before .before .before .before .before .before .before .before .before .before .before .before .before .before .before .before .args .sheet .now) (c .before .before .before .before .before .before .before .before .before .before .before .before .before .before .before .before .before .before .before .before .before .before .before .before .before .before .before .before .before .before .args .picks .now) (c .before .before .before .before .before .before .before .before .before .before .before .before .before .before .before .before .before .before .before .before .before .before .before .before .before .before .before .before .before .before .args .rate .now) (c .before .before .before .before .before .before .before .before .before .before .before .before .before .before .before .before .before .before .before .before .before .before .before .before .before .before .before .before .before .before .args .whole .now) (c .before .before .before .before .before .before .before .before .before .before .before .before .before .before .before .before .before .before .before .before .before .before .before .before .before .fits2 .ensures) (c .before .before .before .before .before .before .before .before .before .before .before .before .before .before .before .before .before .before .before .before .before .before .before .before .if1 .left) in omega (arith, room, c .before .before .before .before .before .before .before .before .before .before .before .before .before .before .before .before .before .before .before .before .before .before .append .kept, c .before .before .before .before .before .before .before .before .before .before .before .before .before .before .before .before .before .before .before .before .before .before .append .ensures .0, c .before .before .before .before .before .before .before .before .before .before .before .before .before .before .before .before .before .append2 .kept, c .before .before .before .before .before .before .before .before .before .before .before .before .before .before .before .before .before .append2 .ensures .0, c .before .before .before .before .before .before .before .before .before .before .before .before .before .append3 .kept, c .before .before .before .before .before .before .before .before .before .before .before .before .before .append3 .ensures .0, c .before .before .before .before .before .before .before .before .append4 .kept, c .before .before .before .before .before .before .before .before .append4 .ensures .0, c .before .before .before .before .append5 .kept, c .before .before .before .before .append5 .ensures .0)
+put-requires-4 : tie.Need-put-requires-4
+put-requires-4 c κs = search needs
 
 same-length : tie.Need-same-length
 same-length c = search needs
 
-returns-2 : tie.Need-returns-2
-returns-2 c =
-    let a = c .before .before .before .before .before .before .before .before .before .before .before .before .before .before .before .before .before .before .before .before .before .before .before .before .before .before .before .before .before .before .before .before .before .args in
-    let room = enough (c .before .before .before .before .before .before .before .before .before .before .before .before .before .before .before .before .before .before .before .before .before .before .before .before .before .before .before .before .before .before .before .before .before .args .sheet .now) (c .before .before .before .before .before .before .before .before .before .before .before .before .before .before .before .before .before .before .before .before .before .before .before .before .before .before .before .before .before .before .before .before .before .args .picks .now) (c .before .before .before .before .before .before .before .before .before .before .before .before .before .before .before .before .before .before .before .before .before .before .before .before .before .before .before .before .before .before .before .before .before .args .rate .now) (c .before .before .before .before .before .before .before .before .before .before .before .before .before .before .before .before .before .before .before .before .before .before .before .before .before .before .before .before .before .before .before .before .before .args .whole .now) (c .before .before .before .before .before .before .before .before .before .before .before .before .before .before .before .before .before .before .before .before .before .before .before .before .before .before .before .before .fits2 .ensures) (c .before .before .before .before .before .before .before .before .before .before .before .before .before .before .before .before .before .before .before .before .before .before .before .before .before .before .before .if1 .left) in
-    composed (a .sheet .now) (a .picks .now) (a .rate .now) (a .whole .now) room (c .before .before .before .before .before .before .before .before .before .before .before .before .before .before .before .before .before .before .before .before .before .before .before .before .before .append .ensures) (c .before .before .before .before .before .before .before .before .before .before .before .before .before .before .before .before .before .before .before .before .append2 .ensures) (c .before .before .before .before .before .before .before .before .before .before .before .before .before .before .before .before .append3 .ensures) (c .before .before .before .before .before .before .before .before .before .before .before .append4 .ensures)
-    (c .before .before .before .before .before .before .before .append5 .ensures) (c .before .before .append6 .ensures)
+returns : tie.Need-returns
+unfolding whole-of
+returns c =
+    let k6 = c .before .before in
+    let k5 = k6 .before .before .before .before .before in
+    let k4 = k5 .before .before .before .before in
+    let k3 = k4 .before .before .before .before .before in
+    let k2 = k3 .before .before .before .before in
+    let k1 = k2 .before .before .before .before .before in
+    both (both (both (both (both (k1 .put .ensures) (k2 .put2 .ensures)) (k3 .decimal .ensures)) (k4 .put3 .ensures)) (k5 .decimal2 .ensures))
+    (k6 .put4 .ensures)
 
 pub compose-spec : {M : Type 1} → statement M
 compose-spec =
     tie.close
     (tie.spec
-    fits-requires
-    returns
-    append-requires
-    slice-aggregate-append
-    append-requires-2
-    append-requires-3
-    slice-aggregate-append-2
-    append-requires-4
-    append-requires-5
-    slice-aggregate-append-3
-    append-requires-6
+    put-requires
+    slice-aggregate-put
+    put-requires-2
+    decimal-requires
+    slice-aggregate-put-2
+    put-requires-3
+    decimal-requires-2
+    slice-aggregate-put-3
+    put-requires-4
     same-length
-    returns-2)
+    returns)

@@ -1,0 +1,76 @@
+-- `whole` goes by the task.
+use mathlib.Core.Path.{sym, ap, _∙_}
+use Rattle.clerk.specs.Asked.{with-whole}
+use Rattle.clerk.specs.declared.asked.Task.{Task}
+use borrow.Author.Needs.{needs}
+use Rattle.clerk.proofs.asked.whole.Statement.{statement}
+use Rattle.clerk.proofs.asked.whole.Tie as tie
+
+enum-told : tie.Need-enum-told
+enum-told c = search needs
+
+tasked-requires : tie.Need-tasked-requires
+tasked-requires c κs = search needs
+
+enum-told-2 : tie.Need-enum-told-2
+enum-told-2 c = search needs
+
+enum-told-3 : tie.Need-enum-told-3
+enum-told-3 c = search needs
+
+unknown-requires : tie.Need-unknown-requires
+unknown-requires c κs = search needs
+
+enum-told-4 : tie.Need-enum-told-4
+enum-told-4 c = search needs
+
+unknown-requires-2 : tie.Need-unknown-requires-2
+unknown-requires-2 c κs = search needs
+
+enum-told-5 : tie.Need-enum-told-5
+enum-told-5 c = search needs
+
+enum-told-6 : tie.Need-enum-told-6
+enum-told-6 c = search needs
+
+returns : tie.Need-returns
+returns c = rw (c .before .enum-told .given .1) (c .tasked .ensures)
+
+returns-2 : tie.Need-returns-2
+returns-2 c = search needs
+
+returns-3 : tie.Need-returns-3
+returns-3 c =
+    let a = c .before .before .before .args in
+    c .unknown .ensures ∙ ap (λ (x : Task). with-whole x (a .asked) (a .i)) (sym (c .before .enum-told3 .given .1))
+
+returns-4 : tie.Need-returns-4
+returns-4 c =
+    let a = c .before .before .before .args in
+    c .unknown2 .ensures ∙ ap (λ (x : Task). with-whole x (a .asked) (a .i)) (sym (c .before .enum-told4 .given .1))
+
+returns-5 : tie.Need-returns-5
+returns-5 c = search needs
+
+returns-6 : tie.Need-returns-6
+returns-6 c = search needs
+
+pub whole-spec : {M : Type 1} → statement M
+whole-spec =
+    tie.close
+    (tie.spec
+    enum-told
+    tasked-requires
+    enum-told-2
+    enum-told-3
+    unknown-requires
+    enum-told-4
+    unknown-requires-2
+    enum-told-5
+    enum-told-6
+    returns
+    returns-2
+    returns-3
+    returns-4
+    returns-5
+    returns-6)

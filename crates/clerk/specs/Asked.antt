@@ -1,0 +1,236 @@
+-- What the words behind the program's name ask for.
+use mathlib.Core.Bool.{Bool, true, false, cond}
+use mathlib.Core.List.{List}
+use mathlib.Core.Path.{_≡_}
+use lib.Dec.{eqb, ltb}
+use lib.ListN.{length, getD}
+use Prim.Native.Char.{code}
+use Prim.Native.Nat.{ℕ}
+use Rattle.language.specs.Tokens.{spell}
+use Rattle.clerk.specs.declared.asked.Asked.{Asked}
+use Rattle.clerk.specs.declared.asked.Count.{Count}
+use Rattle.clerk.specs.declared.asked.Task.{Task}
+use Rattle.clerk.specs.declared.asked.Turn.{Turn}
+use Rattle.clerk.specs.declared.asked.Wanted.{Wanted}
+use Rattle.clerk.specs.declared.asked.Word.{Word}
+
+-- ---- a word by itself
+
+-- it begins with two dashes
+unfoldable pub looks-optional : List ℕ → Bool
+looks-optional t =
+    cond (ltb (length t) 2) false (cond (eqb (getD t 0 0) (code "-")) (eqb (getD t 1 0) (code "-")) false)
+
+abbrev Not : (w : List ℕ) → (row : List ℕ) → Type 0
+Not w row = w ≡ row → ⊥
+
+-- the rows of commands
+abbrev pub CommandIs : List ℕ → Task → Type 0
+CommandIs t Task.Pay = ⊥
+CommandIs t Task.Check = t ≡ spell "check"
+CommandIs t Task.CheckWhole = ⊥
+CommandIs t Task.Run = t ≡ spell "run"
+CommandIs t Task.Help = t ≡ spell "--help"
+CommandIs t Task.Version = t ≡ spell "--version"
+
+-- what is told of a word by what it means: its spelling, or for a word that has no row of its own, that it has none
+abbrev pub Means : List ℕ → Word → Type 0
+Means t (Word.Command k) = CommandIs t k
+Means t (Word.Instead k) = CommandIs t k
+Means t Word.Whole = t ≡ spell "--whole"
+Means t Word.Report = t ≡ spell "--report"
+Means t Word.Rest = t ≡ spell "--"
+Means t Word.Strange = looks-optional t ≡ true
+Means t Word.Plain = Not t (spell "check") × Not t (spell "run") × (looks-optional t ≡ false)
+
+-- ---- one word more, which is the word with the number i
+
+abbrev pub with-task : Asked → Task → Asked
+with-task a t =
+    record {
+      task = t;
+      turn = a .turn;
+      plain = a .plain;
+      sheet = a .sheet;
+      second = a .second;
+      third = a .third;
+      report = a .report;
+      strange = a .strange;
+    }
+
+abbrev pub with-turn : Asked → Turn → Asked
+with-turn a t =
+    record {
+      task = a .task;
+      turn = t;
+      plain = a .plain;
+      sheet = a .sheet;
+      second = a .second;
+      third = a .third;
+      report = a .report;
+      strange = a .strange;
+    }
+
+abbrev pub with-report : Asked → ℕ → Asked
+with-report a i =
+    record {
+      task = a .task;
+      turn = Turn.Meaning;
+      plain = a .plain;
+      sheet = a .sheet;
+      second = a .second;
+      third = a .third;
+      report = i;
+      strange = a .strange;
+    }
+
+abbrev pub with-strange : Asked → ℕ → Asked
+with-strange a i =
+    record {
+      task = a .task;
+      turn = a .turn;
+      plain = a .plain;
+      sheet = a .sheet;
+      second = a .second;
+      third = a .third;
+      report = a .report;
+      strange = i;
+    }
+
+abbrev pub unasked : Asked
+unasked =
+    record {
+      task = Task.Pay;
+      turn = Turn.Meaning;
+      plain = Count.None;
+      sheet = 0;
+      second = 0;
+      third = 0;
+      report = 0;
+      strange = 0;
+    }
+
+-- a word that means nothing by itself
+abbrev pub with-plain : Count → Asked → ℕ → Asked
+with-plain Count.None a i =
+    record {
+      task = a .task;
+      turn = a .turn;
+      plain = Count.One;
+      sheet = i;
+      second = a .second;
+      third = a .third;
+      report = a .report;
+      strange = a .strange;
+    }
+with-plain Count.One a i =
+    record {
+      task = a .task;
+      turn = a .turn;
+      plain = Count.Two;
+      sheet = a .sheet;
+      second = i;
+      third = a .third;
+      report = a .report;
+      strange = a .strange;
+    }
+with-plain Count.Two a i =
+    record {
+      task = a .task;
+      turn = a .turn;
+      plain = Count.Three;
+      sheet = a .sheet;
+      second = a .second;
+      third = i;
+      report = a .report;
+      strange = a .strange;
+    }
+with-plain Count.Three a i =
+    record {
+      task = a .task;
+      turn = a .turn;
+      plain = Count.More;
+      sheet = a .sheet;
+      second = a .second;
+      third = a .third;
+      report = a .report;
+      strange = a .strange;
+    }
+with-plain Count.More a i = a
+
+-- a word for a task asks for it where nothing was asked for before it, and is else a plain word
+abbrev pub first-word : Task → Asked → Task → ℕ → Asked
+first-word Task.Pay a t i = with-task a t
+first-word Task.Check a t i = with-plain (a .plain) a i
+first-word Task.CheckWhole a t i = with-plain (a .plain) a i
+first-word Task.Run a t i = with-plain (a .plain) a i
+first-word Task.Help a t i = a
+first-word Task.Version a t i = a
+
+abbrev pub with-command : Count → Asked → Task → ℕ → Asked
+with-command Count.None a t i = first-word (a .task) a t i
+with-command Count.One a t i = with-plain (a .plain) a i
+with-command Count.Two a t i = with-plain (a .plain) a i
+with-command Count.Three a t i = with-plain (a .plain) a i
+with-command Count.More a t i = with-plain (a .plain) a i
+
+abbrev pub with-whole : Task → Asked → ℕ → Asked
+with-whole Task.Check a i = with-task a Task.CheckWhole
+with-whole Task.CheckWhole a i = a
+with-whole Task.Pay a i = with-strange a i
+with-whole Task.Run a i = with-strange a i
+with-whole Task.Help a i = a
+with-whole Task.Version a i = a
+
+abbrev pub with-word : Asked → Word → ℕ → Asked
+with-word a (Word.Command t) i = with-command (a .plain) a t i
+with-word a (Word.Instead t) i = with-task a t
+with-word a Word.Whole i = with-whole (a .task) a i
+with-word a Word.Report i = with-turn a Turn.Name
+with-word a Word.Rest i = with-turn a Turn.Plain
+with-word a Word.Strange i = with-strange a i
+with-word a Word.Plain i = with-plain (a .plain) a i
+
+abbrev pub in-turn : Turn → Asked → Word → ℕ → Asked
+in-turn Turn.Meaning a w i = with-word a w i
+in-turn Turn.Name a w i = with-report a i
+in-turn Turn.Plain a w i = with-plain (a .plain) a i
+
+-- ---- what all of them ask for
+
+abbrev pub one-word : Count → Bool
+one-word Count.None = false
+one-word Count.One = true
+one-word Count.Two = false
+one-word Count.Three = false
+one-word Count.More = false
+
+abbrev pub two-words : Count → Bool
+two-words Count.None = false
+two-words Count.One = true
+two-words Count.Two = true
+two-words Count.Three = false
+two-words Count.More = false
+
+abbrev pub three-words : Count → Bool
+three-words Count.None = false
+three-words Count.One = false
+three-words Count.Two = false
+three-words Count.Three = true
+three-words Count.More = false
+
+abbrev pub fitting : Task → Count → Bool
+fitting Task.Pay n = three-words n
+fitting Task.Check n = one-word n
+fitting Task.CheckWhole n = one-word n
+fitting Task.Run n = two-words n
+fitting Task.Help n = true
+fitting Task.Version n = true
+
+abbrev pub wanted-if : Bool → Task → Wanted
+wanted-if fit t = cond fit (Wanted.Do t) Wanted.Unclear
+
+abbrev pub wanted-of : Turn → Asked → Wanted
+wanted-of Turn.Meaning a = wanted-if (fitting (a .task) (a .plain)) (a .task)
+wanted-of Turn.Name a = Wanted.NoName
+wanted-of Turn.Plain a = wanted-if (fitting (a .task) (a .plain)) (a .task)

@@ -1,0 +1,81 @@
+-- What came of a sheet, from what the box answered, and the status that the program ends with.
+use mathlib.Core.Bool.{Bool, true, false, cond}
+use lib.Dec.{eqb, ltb}
+use Prim.Native.Nat.{ℕ}
+use Rattle.grumpy.specs.declared.answers.Checked as checked
+use Rattle.grumpy.specs.declared.answers.Ran as ran
+use Rattle.numbers.specs.declared.Refusal.{Refusal}
+use Rattle.clerk.specs.declared.causes.Cause as cause
+use Rattle.clerk.specs.declared.ends.End.{End}
+use Rattle.clerk.specs.declared.ends.End.the-variants.{Passed, Value, Refused, Stopped}
+
+abbrev pub is-long : Refusal → Bool
+is-long Refusal.ShortMemory = false
+is-long Refusal.LargeAllowance = false
+is-long Refusal.LongSource = true
+is-long (Refusal.Text f) = false
+is-long Refusal.NoReading = false
+is-long (Refusal.Types r) = false
+is-long Refusal.LongText = false
+
+abbrev pub is-unread : Refusal → Bool
+is-unread Refusal.ShortMemory = false
+is-unread Refusal.LargeAllowance = false
+is-unread Refusal.LongSource = false
+is-unread (Refusal.Text f) = false
+is-unread Refusal.NoReading = true
+is-unread (Refusal.Types r) = false
+is-unread Refusal.LongText = false
+
+-- ---- a rate sheet of `own` bytes, with a call under it that begins behind them
+
+abbrev pub sided : (called : Bool) → Refusal → (place : ℕ) → End
+sided called r place =
+    cond called (Refused (cause.the-variants.Called r) 0) (Refused (cause.the-variants.Refused r) place)
+
+-- a sheet that is too long with its call is so by its call
+abbrev pub refused-under : (own : ℕ) → Refusal → (place : ℕ) → End
+refused-under own r place = cond (is-long r) (sided true r place) (sided (ltb own place) r place)
+
+-- what a call gives has to be an int, whose number is 1 (S067)
+abbrev pub passed-under : (type-number : ℕ) → End
+passed-under k = cond (eqb k 1) (Passed k) (Refused (cause.the-variants.NoWage k) 0)
+
+abbrev pub checked-under : (own : ℕ) → checked.Checked → End
+checked-under own (checked.the-variants.Passed k) = passed-under k
+checked-under own (checked.the-variants.Refused r p) = refused-under own r p
+
+-- no program with its call, and one without it: then it is whole already
+abbrev pub completed-if : (unread : Bool) → End → End
+completed-if unread end = cond unread end (Refused cause.the-variants.Complete 0)
+
+-- ---- a sheet as it stands
+
+abbrev pub checked-end : checked.Checked → End
+checked-end (checked.the-variants.Passed k) = Passed k
+checked-end (checked.the-variants.Refused r p) = Refused (cause.the-variants.Refused r) p
+
+abbrev pub ran-end : ran.Ran → End
+ran-end (ran.the-variants.Value k v u n) = Value k v u n
+ran-end (ran.the-variants.Stopped s p k u n) = Stopped (cause.the-variants.Stopped s) p k u n
+ran-end (ran.the-variants.Refused r p) = Refused (cause.the-variants.Refused r) p
+
+abbrev pub unread-end : checked.Checked → Bool
+unread-end (checked.the-variants.Passed k) = false
+unread-end (checked.the-variants.Refused r p) = is-unread r
+
+-- ---- what is asked of an end
+
+-- 0 where all is well, and else 1
+abbrev pub status-of : End → ℕ
+status-of (Passed k) = 0
+status-of (Value k v u n) = 0
+status-of (Refused w p) = 1
+status-of (Stopped w p k u n) = 1
+
+-- how many bytes were printed
+abbrev pub printed-of : End → ℕ
+printed-of (Passed k) = 0
+printed-of (Value k v u n) = n
+printed-of (Refused w p) = 0
+printed-of (Stopped w p k u n) = n

@@ -1,0 +1,4 @@
+pub mod Asked
+pub mod Causes
+pub mod Ends
+pub mod Told

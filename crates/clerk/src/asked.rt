@@ -1,0 +1,260 @@
+// What the words behind the program's name ask for. A word that means something by itself is a row of
+// `meaning`; any other is taken in its turn, as the sheet or as one of the two words that may follow it. A
+// new command is a task, its row in `meaning` and its row in `tasks::fits`.
+ghost use mathlib.Core.Path.{_≡_};
+ghost use Rattle.clerk.specs.Asked.{looks-optional, Means, unasked, with-task, with-turn, with-report};
+ghost use Rattle.clerk.specs.Asked.{with-strange, with-plain, first-word, with-command};
+ghost use Rattle.clerk.specs.Asked.{with-whole, with-word, in-turn};
+use check::same;
+
+// What is to be done.
+pub enum Task {
+    Pay,
+    Check,
+    CheckWhole,
+    Run,
+    Help,
+    Version,
+}
+
+// What a word means by itself.
+pub enum Word {
+    Command(Task),
+    // Asked for wherever it stands.
+    Instead(Task),
+    Whole,
+    Report,
+    // No word behind it means anything by itself.
+    Rest,
+    // It looks like an option and is none.
+    Strange,
+    Plain,
+}
+
+// How the next word is taken: by what it means, as the name of the report's file, or as it stands.
+pub enum Turn {
+    Meaning,
+    Name,
+    Plain,
+}
+
+// How many plain words there are.
+pub enum Count {
+    None,
+    One,
+    Two,
+    Three,
+    More,
+}
+
+// What the words so far ask for. A word is kept by its number; 0 is the program's name, and so no word.
+pub struct Asked {
+    pub task: Task,
+    pub turn: Turn,
+    // The plain words: how many, and which are the first three.
+    pub plain: Count,
+    pub sheet: usize,
+    pub second: usize,
+    pub third: usize,
+    // The report's file.
+    pub report: usize,
+    // The last word that looks like an option and is none here.
+    pub strange: usize,
+}
+
+// What all the words ask for: a task; a file's name is missing; there are too many words or too few.
+pub enum Wanted {
+    Do(Task),
+    NoName,
+    Unclear,
+}
+
+// Does it look like an option?
+fn is_option(text: &[u8]) -> bool
+    ensures { λ r. ⌜ r ≡ looks-optional (now (text .entry)) ⌝ }
+{
+    if text.len() < 2 {
+        return false;
+    }
+    if text[0] == b'-' {
+        return text[1] == b'-';
+    }
+    false
+}
+
+// The rows.
+pub fn meaning(text: &[u8]) -> Word
+    ensures { λ r. ⌜ Means (now (text .entry)) r ⌝ }
+{
+    if same(text, b"check") {
+        return Word::Command(Task::Check);
+    }
+    if same(text, b"run") {
+        return Word::Command(Task::Run);
+    }
+    if same(text, b"--whole") {
+        return Word::Whole;
+    }
+    if same(text, b"--report") {
+        return Word::Report;
+    }
+    if same(text, b"--help") {
+        return Word::Instead(Task::Help);
+    }
+    if same(text, b"--version") {
+        return Word::Instead(Task::Version);
+    }
+    if same(text, b"--") {
+        return Word::Rest;
+    }
+    if is_option(text) {
+        return Word::Strange;
+    }
+    Word::Plain
+}
+
+pub fn nothing() -> Asked
+    ensures { λ r. ⌜ r ≡ unasked ⌝ }
+{
+    Asked {
+        task: Task::Pay,
+        turn: Turn::Meaning,
+        plain: Count::None,
+        sheet: 0,
+        second: 0,
+        third: 0,
+        report: 0,
+        strange: 0,
+    }
+}
+
+fn tasked(asked: Asked, task: Task) -> Asked
+    ensures { λ r. ⌜ r ≡ with-task asked task ⌝ }
+{
+    Asked { task, ..asked }
+}
+
+fn turned(asked: Asked, turn: Turn) -> Asked
+    ensures { λ r. ⌜ r ≡ with-turn asked turn ⌝ }
+{
+    Asked { turn, ..asked }
+}
+
+// A word that names the report's file.
+fn named(asked: Asked, i: usize) -> Asked
+    ensures { λ r. ⌜ r ≡ with-report asked i ⌝ }
+{
+    Asked {
+        report: i,
+        turn: Turn::Meaning,
+        ..asked
+    }
+}
+
+// A word that looks like an option and is none here.
+pub fn unknown(asked: Asked, i: usize) -> Asked
+    ensures { λ r. ⌜ r ≡ with-strange asked i ⌝ }
+{
+    Asked {
+        strange: i,
+        ..asked
+    }
+}
+
+// A word that means nothing by itself.
+fn plain(asked: Asked, i: usize) -> Asked
+    ensures { λ r. ⌜ r ≡ with-plain (asked .plain) asked i ⌝ }
+{
+    let before = asked.plain;
+    match before {
+        Count::None => Asked {
+            plain: Count::One,
+            sheet: i,
+            ..asked
+        },
+        Count::One => Asked {
+            plain: Count::Two,
+            second: i,
+            ..asked
+        },
+        Count::Two => Asked {
+            plain: Count::Three,
+            third: i,
+            ..asked
+        },
+        Count::Three => Asked {
+            plain: Count::More,
+            ..asked
+        },
+        Count::More => asked,
+    }
+}
+
+// A word for a task, where no plain word stands before it: the first one asks for it.
+fn first(asked: Asked, task: Task, i: usize) -> Asked
+    ensures { λ r. ⌜ r ≡ first-word (asked .task) asked task i ⌝ }
+{
+    let before = asked.task;
+    match before {
+        Task::Pay => tasked(asked, task),
+        Task::Check => plain(asked, i),
+        Task::CheckWhole => plain(asked, i),
+        Task::Run => plain(asked, i),
+        Task::Help => asked,
+        Task::Version => asked,
+    }
+}
+
+fn command(asked: Asked, task: Task, i: usize) -> Asked
+    ensures { λ r. ⌜ r ≡ with-command (asked .plain) asked task i ⌝ }
+{
+    let before = asked.plain;
+    match before {
+        Count::None => first(asked, task, i),
+        Count::One => plain(asked, i),
+        Count::Two => plain(asked, i),
+        Count::Three => plain(asked, i),
+        Count::More => plain(asked, i),
+    }
+}
+
+// `--whole` belongs to `check`.
+fn whole(asked: Asked, i: usize) -> Asked
+    ensures { λ r. ⌜ r ≡ with-whole (asked .task) asked i ⌝ }
+{
+    let before = asked.task;
+    match before {
+        Task::Check => tasked(asked, Task::CheckWhole),
+        Task::CheckWhole => asked,
+        Task::Pay => unknown(asked, i),
+        Task::Run => unknown(asked, i),
+        Task::Help => asked,
+        Task::Version => asked,
+    }
+}
+
+fn meant(asked: Asked, word: Word, i: usize) -> Asked
+    ensures { λ r. ⌜ r ≡ with-word asked word i ⌝ }
+{
+    match word {
+        Word::Command(task) => command(asked, task, i),
+        Word::Instead(task) => tasked(asked, task),
+        Word::Whole => whole(asked, i),
+        Word::Report => turned(asked, Turn::Name),
+        Word::Rest => turned(asked, Turn::Plain),
+        Word::Strange => unknown(asked, i),
+        Word::Plain => plain(asked, i),
+    }
+}
+
+// Takes one word more, which has this number and means this by itself.
+pub fn take(asked: Asked, word: Word, i: usize) -> Asked
+    ensures { λ r. ⌜ r ≡ in-turn (asked .turn) asked word i ⌝ }
+{
+    let turn = asked.turn;
+    match turn {
+        Turn::Meaning => meant(asked, word, i),
+        Turn::Name => named(asked, i),
+        Turn::Plain => plain(asked, i),
+    }
+}

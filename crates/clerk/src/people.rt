@@ -1,0 +1,143 @@
+// The report for people.
+ghost use Rattle.io.specs.Counts.{Counts};
+ghost use Rattle.page.specs.Text.{Adds};
+ghost use Rattle.clerk.specs.Told.{number-words, Positioned};
+use crate::causes;
+use crate::causes::Cause;
+use crate::ends::End;
+use crate::fields;
+use crate::words;
+use page::blanks;
+use page::decimal;
+use page::put;
+use page::shown;
+use page::spot;
+
+// A number, where there is one, and what is meant.
+fn meaning(out: &mut [u8], at: usize, why: Cause) -> usize
+    ensures { λ r. ⌜ Counts r (now (out .exit)) ⌝ }
+{
+    let number = causes::number(why);
+    if number == 0 {
+        let a = words::words(out, at, why);
+        return put(out, a, b"\n");
+    }
+    let a = put(out, at, b"number ");
+    let b = decimal(out, a, number as u64);
+    let c = put(out, b, b": ");
+    let d = words::words(out, c, why);
+    put(out, d, b"\n")
+}
+
+// File, line and column of a place in the sheet.
+pub fn position(out: &mut [u8], at: usize, file: &[u8], sheet: &[u8], place: usize) -> usize
+    ensures { λ r. ⌜ Counts r (now (out .exit)) ⌝ }
+    ensures { λ r. ⌜ Positioned (now (file .entry)) (now (sheet .entry)) place (now (out .entry)) (now (out .exit)) at r ⌝ }
+{
+    let spot = spot(sheet, place);
+    let a = fields::name(out, at, file);
+    let b = put(out, a, b":");
+    let c = decimal(out, b, spot.line as u64);
+    let d = put(out, c, b":");
+    decimal(out, d, spot.column as u64)
+}
+
+// A number, behind that.
+pub fn numbered(out: &mut [u8], at: usize, number: u32) -> usize
+    ensures { λ r. ⌜ Counts r (now (out .exit)) ⌝ }
+    ensures { λ r. ⌜ Adds (number-words number) (now (out .entry)) (now (out .exit)) at r ⌝ }
+{
+    let a = put(out, at, b": number ");
+    let b = decimal(out, a, number as u64);
+    put(out, b, b": ")
+}
+
+// A line, and a mark behind blanks as wide as what stands before the place. A carriage return at the line's
+// end is not shown.
+fn marked(out: &mut [u8], at: usize, line: &[u8], before: &[u8], plain: bool) -> usize
+    ensures { λ r. ⌜ Counts r (now (out .exit)) ⌝ }
+{
+    let n = page::trimmed(line);
+    let a = shown(out, at, &line[..n], plain);
+    let b = put(out, a, b"\n");
+    let c = blanks(out, b, before, plain);
+    put(out, c, b"^\n")
+}
+
+// A cause at a place of the sheet.
+fn there(out: &mut [u8], at: usize, file: &[u8], sheet: &[u8], why: Cause, place: usize) -> usize
+    ensures { λ r. ⌜ Counts r (now (out .exit)) ⌝ }
+{
+    let spot = spot(sheet, place);
+    let from = spot.from;
+    let here = spot.here;
+    let to = spot.to;
+    let a = position(out, at, file, sheet, place);
+    let b = numbered(out, a, causes::number(why));
+    let c = words::words(out, b, why);
+    let d = put(out, c, b"\n");
+    marked(out, d, &sheet[from..to], &sheet[from..here], spot.plain)
+}
+
+// A cause, with its place if it has one.
+fn cause(out: &mut [u8], at: usize, file: &[u8], sheet: &[u8], why: Cause, place: usize) -> usize
+    ensures { λ r. ⌜ Counts r (now (out .exit)) ⌝ }
+{
+    if causes::is_placed(why) {
+        return there(out, at, file, sheet, why, place);
+    }
+    let a = fields::name(out, at, file);
+    let b = put(out, a, b": ");
+    meaning(out, b, why)
+}
+
+fn well(out: &mut [u8], at: usize) -> usize
+    ensures { λ r. ⌜ Counts r (now (out .exit)) ⌝ }
+{
+    put(out, at, b"number 0: all is well\n")
+}
+
+fn units(out: &mut [u8], at: usize, used: u32, allowance: u64) -> usize
+    ensures { λ r. ⌜ Counts r (now (out .exit)) ⌝ }
+{
+    let a = put(out, at, b"units ");
+    let b = decimal(out, a, used as u64);
+    let c = put(out, b, b" of ");
+    let d = decimal(out, c, allowance);
+    put(out, d, b"\n")
+}
+
+// The whole report. `file` is the sheet's name.
+pub fn report(out: &mut [u8], file: &[u8], sheet: &[u8], allowance: u64, end: End) -> usize
+    ensures { λ r. ⌜ Counts r (now (out .exit)) ⌝ }
+{
+    match end {
+        End::Passed(type_number) => {
+            let a = well(out, 0);
+            fields::type_line(out, a, type_number)
+        }
+        End::Value {
+            type_number,
+            value,
+            units: used,
+            printed: _,
+        } => {
+            let a = well(out, 0);
+            let b = fields::type_line(out, a, type_number);
+            let c = fields::value_line(out, b, type_number, value);
+            units(out, c, used, allowance)
+        }
+        End::Refused(why, place) => cause(out, 0, file, sheet, why, place),
+        End::Stopped {
+            why,
+            place,
+            type_number,
+            units: used,
+            printed: _,
+        } => {
+            let a = cause(out, 0, file, sheet, why, place);
+            let b = fields::type_line(out, a, type_number);
+            units(out, b, used, allowance)
+        }
+    }
+}

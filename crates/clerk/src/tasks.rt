@@ -1,0 +1,82 @@
+// Whether as many plain words stand there as a task takes.
+ghost use mathlib.Core.Path.{_≡_};
+ghost use Rattle.clerk.specs.Asked.{one-word, two-words, three-words, fitting, wanted-if, wanted-of};
+use crate::asked::Asked;
+use crate::asked::Count;
+use crate::asked::Task;
+use crate::asked::Turn;
+use crate::asked::Wanted;
+
+fn one(plain: Count) -> bool
+    ensures { λ r. ⌜ r ≡ one-word plain ⌝ }
+{
+    match plain {
+        Count::None => false,
+        Count::One => true,
+        Count::Two => false,
+        Count::Three => false,
+        Count::More => false,
+    }
+}
+
+fn two(plain: Count) -> bool
+    ensures { λ r. ⌜ r ≡ two-words plain ⌝ }
+{
+    match plain {
+        Count::None => false,
+        Count::One => true,
+        Count::Two => true,
+        Count::Three => false,
+        Count::More => false,
+    }
+}
+
+fn three(plain: Count) -> bool
+    ensures { λ r. ⌜ r ≡ three-words plain ⌝ }
+{
+    match plain {
+        Count::None => false,
+        Count::One => false,
+        Count::Two => false,
+        Count::Three => true,
+        Count::More => false,
+    }
+}
+
+// The rows: a sheet and two numbers; a sheet; a sheet, and an allowance if it is wanted.
+fn fits(task: Task, plain: Count) -> bool
+    ensures { λ r. ⌜ r ≡ fitting task plain ⌝ }
+{
+    match task {
+        Task::Pay => three(plain),
+        Task::Check => one(plain),
+        Task::CheckWhole => one(plain),
+        Task::Run => two(plain),
+        Task::Help => true,
+        Task::Version => true,
+    }
+}
+
+fn wanted(task: Task, fit: bool) -> Wanted
+    ensures { λ r. ⌜ r ≡ wanted-if fit task ⌝ }
+{
+    if fit {
+        Wanted::Do(task)
+    } else {
+        Wanted::Unclear
+    }
+}
+
+// What all the words ask for.
+pub fn settled(asked: Asked) -> Wanted
+    ensures { λ r. ⌜ r ≡ wanted-of (asked .turn) asked ⌝ }
+{
+    let turn = asked.turn;
+    let task = asked.task;
+    let plain = asked.plain;
+    match turn {
+        Turn::Meaning => wanted(task, fits(task, plain)),
+        Turn::Name => Wanted::NoName,
+        Turn::Plain => wanted(task, fits(task, plain)),
+    }
+}

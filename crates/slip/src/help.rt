@@ -1,0 +1,62 @@
+// How the program is asked, and the sizes that it keeps to.
+use crate::output::say;
+use clerk::fields::field;
+use language::ACTIVE;
+use language::ALLOWANCE;
+use language::CELLS;
+use language::FUNCTIONS;
+use language::PARAMETERS;
+use language::REFS;
+use language::SOURCE;
+use language::TABLE;
+use language::TOKENS;
+use language::WORK;
+use page::put;
+
+// The status: 0 if all could be written.
+fn written(done: bool) -> u32 {
+    if done { 0 } else { 2 }
+}
+
+// What `--help` is answered.
+pub fn help() -> u32 {
+    let done = say(
+        b"slip RATE-SHEET PICKS RATE     sets pay(PICKS,RATE) under the sheet and runs it
+slip check RATE-SHEET          checks a rate sheet, with a call under it, and runs nothing
+slip check --whole SHEET       checks a whole sheet as it stands
+slip run SHEET [ALLOWANCE]     runs a whole sheet as it stands, by default with 1000000 units
+slip --help                    this text
+slip --version                 editions and sizes
+./slip --prove [WORDS]         proves the program first, and from then on uses the proved one
+
+--report FILE                  writes the report for machines too, a name and a value on each line
+--                             no word behind it is an option
+
+A sheet is a file; - is standard input. PICKS and RATE are 0 to 2147483647, ALLOWANCE is 0 to 1000000.
+What the sheet prints goes to standard output, the report to standard error. Status: 0 paid or passed,
+1 refused or stopped, 2 where the words do not serve, or a file cannot be read or an output written.
+",
+    );
+    written(done)
+}
+
+// How many bytes a sheet may print.
+const OUTPUT: u64 = 65536;
+
+// What `--version` is answered.
+pub fn version() -> u32 {
+    let mut text = io::buffer();
+    let a = put(&mut text, 0, b"slip of Undovilaza\neditions 1\n");
+    let b = field(&mut text, a, b"source", SOURCE as u64);
+    let c = field(&mut text, b, b"tokens", TOKENS as u64);
+    let d = field(&mut text, c, b"functions", FUNCTIONS as u64);
+    let e = field(&mut text, d, b"parameters", PARAMETERS as u64);
+    let f = field(&mut text, e, b"refs", REFS as u64);
+    let g = field(&mut text, f, b"allowance", ALLOWANCE);
+    let h = field(&mut text, g, b"active", ACTIVE as u64);
+    let i = field(&mut text, h, b"cells", CELLS as u64);
+    let j = field(&mut text, i, b"table", TABLE as u64);
+    let k = field(&mut text, j, b"work", WORK as u64);
+    let l = field(&mut text, k, b"output", OUTPUT);
+    written(say(&text[..l]))
+}

@@ -1,0 +1,87 @@
+// The two reports, written.
+use crate::output;
+use clerk::asked::Asked;
+use clerk::ends;
+use clerk::ends::End;
+use clerk::machines;
+use clerk::people;
+use language::SOURCE;
+
+// Room for a line of a sheet in which every byte takes four, the blanks under it, and a file's name.
+const TEXT: usize = 8 * SOURCE + 40000;
+
+// Writes the report for machines to a file; true if that could be done.
+fn write(file: &[u8], text: &[u8]) -> bool {
+    let fd = os::open_overwrite(file);
+    if fd < 0 {
+        output::fail(file);
+        return false;
+    }
+    let written = io::write_all(fd, text);
+    if !written {
+        output::fail(file);
+    }
+    libc::close(fd);
+    written
+}
+
+// Writes the report for machines, if the words ask for it; true if that could be done.
+fn keep(asked: Asked, text: &[u8]) -> bool {
+    if asked.report == 0 {
+        return true;
+    }
+    let mut file = io::buffer();
+    let length = os::arg(asked.report, &mut file);
+    write(&file[..length], text)
+}
+
+// Something was wrong before any sheet was looked at; it was told.
+pub fn failed(asked: Asked) -> u32 {
+    keep(asked, b"status 2\n");
+    2
+}
+
+// The slip, and where its last line has no end a line feed before the report, which is for people.
+fn slip(printed: &[u8]) -> bool {
+    let n = printed.len();
+    if n == 0 {
+        return true;
+    }
+    if !output::say(printed) {
+        return false;
+    }
+    if printed[n - 1] != b'\n' {
+        output::tell(b"\n");
+    }
+    true
+}
+
+// The report for people; true if it could be written.
+fn tell(file: &[u8], sheet: &[u8], allowance: u64, end: End) -> bool {
+    let mut text = [0u8; TEXT];
+    let n = people::report(&mut text, file, sheet, allowance, end);
+    output::tell(&text[..n])
+}
+
+fn record(asked: Asked, status: u32, file: &[u8], sheet: &[u8], allowance: u64, end: End) -> bool {
+    let mut text = [0u8; TEXT];
+    let n = machines::report(&mut text, status, file, sheet, allowance, end);
+    keep(asked, &text[..n])
+}
+
+// Tells what came of a sheet, and answers the status. Where the slip cannot be written there is nothing to tell.
+pub fn report(asked: Asked, sheet: &[u8], printed: &[u8], allowance: u64, end: End) -> u32 {
+    let mut file = io::buffer();
+    let length = os::arg(asked.sheet, &mut file);
+    if !slip(printed) {
+        return failed(asked);
+    }
+    let mut status = ends::status(end);
+    if !tell(&file[..length], sheet, allowance, end) {
+        status = 2;
+    }
+    if !record(asked, status, &file[..length], sheet, allowance, end) {
+        status = 2;
+    }
+    status
+}

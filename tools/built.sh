@@ -1,0 +1,94 @@
+# To be sourced, with `top` set to the top of the repository. What was built is known by a key of the source that
+# it was built from, so that after an edit nothing older is used.
+#
+#   key CRATE       of the source as it stands of this crate and of all that it rests on
+#   need_rt         says what is missing, and ends with status 2, where there is no toolchain
+#   build FILE      builds slip from the source as it stands, without looking at the proofs
+#   older FILE      removes programs of its kind, as proved-KEY, that other sources were built to
+#   runner          sets the array `run` to the words before a program for x86-64
+#   archive         builds the archive for C, proved, where there is none of this source
+WANTED='rattle-kit-5b logic 064da1ca440f63e7'
+UNPROVED='slip: the proofs were not checked in this build; ./slip --prove checks them, in some minutes'
+
+key() { # CRATE
+  (
+    cd "$top" && row=$(grep "^$1:" crates.txt) && echo "$row" || exit
+    folders=()
+    for crate in $1 ${row#*:}; do
+      [ ! -e "crates/$crate" ] || folders+=("crates/$crate")
+    done
+    find "${folders[@]}" -type f \( -name '*.rt' -o -name '*.antt' \) -exec sha256sum {} + | LC_ALL=C sort
+  ) | sha256sum | cut -d' ' -f1
+}
+
+need_rt() {
+  if ! command -v rt >/dev/null; then
+    echo "${0##*/}: the Rattle toolchain is missing: there is no rt in PATH. Wanted: $WANTED" >&2
+    exit 2
+  fi
+  [ "$(rt version)" = "$WANTED" ] || echo "${0##*/}: rt is $(rt version), and this was written for $WANTED" >&2
+}
+
+# Sets `kit` to the folder of the toolchain, and `own` to the part of it for this machine.
+find_kit() {
+  kit=$(rt doc 2>/dev/null) && kit=${kit%/docs/*} && own=on/$(uname -m)
+}
+
+# `rt try` compiles a program that is not proved, runs it and throws it away. Here it is given a kit that differs
+# from the real one in its compiler, which keeps the optimised object. That is linked as `rt check` links.
+build() { # FILE
+  local kit own room bin
+  find_kit
+  bin=$own/toolchain/bin
+  mkdir -p "${1%/*}" && room=$(mktemp -d "${1%/*}/build.XXXXXX") || return
+  mkdir -p "$room/$bin/real"
+  ln -s "$kit/libs" "$kit/lib" "$kit/logic" "$room"
+  ln -s "$kit/$own/bin" "$room/$own"
+  ln -s "$kit/$own/toolchain/lib" "$room/$own/toolchain"
+  ln -s "$kit/$bin"/* "$room/$bin"
+  mv "$room/$bin/clang" "$room/$bin/real"
+  cat >"$room/$bin/clang" <<'SCRIPT'
+#!/bin/sh
+"${0%/*}/real/clang" "$@" || exit
+case " $* " in *' -O3 '*) cp module.o "${0%/*}/kept.o" ;; esac
+SCRIPT
+  chmod +x "$room/$bin/clang"
+  if (cd "$top" && RATTLE_HOME=$room rt try slip) >"$room/log" 2>&1 &&
+    "$kit/$own/bin/rattle-link" --target x86_64-unknown-linux-gnu --toolchain "$kit/$own/toolchain" \
+      -o "$room/program" "$room/$bin/kept.o" "$kit/lib/libos_c.a" >>"$room/log" 2>&1; then
+    mv "$room/program" "$1"
+  else
+    cat "$room/log" >&2
+  fi
+  rm -rf "$room"
+  [ -x "$1" ]
+}
+
+older() { # FILE
+  local file
+  for file in "${1%-*}"-*; do
+    [ "$file" = "$1" ] || rm -f "$file"
+  done
+}
+
+# Elsewhere than on x86-64 that is an emulator, the kit's if there is one, and Debian's if not.
+runner() {
+  local kit own lib
+  run=()
+  [ "$(uname -m)" != x86_64 ] || return 0
+  if find_kit && [ -x "$kit/$own/toolchain/bin/qemu-x86_64" ]; then
+    lib=$kit/$own/toolchain/lib
+    run=("$kit/$own/toolchain/bin/qemu-x86_64" "$lib/ld-linux-x86-64.so.2" --library-path "$lib")
+  else
+    . "$top/tools/x86.sh"
+    read -ra run <<<"$EMULATOR"
+  fi
+}
+
+archive() {
+  local file=$top/target/staticlib/libgrumpy_c.a now
+  now=$(key grumpy_c)
+  [ -e "$file" ] && [ "$now $(sha256sum <"$file")" = "$(cat "$file.key" 2>/dev/null)" ] && return
+  need_rt
+  (cd "$top" && rt staticlib grumpy_c) >&2 && echo "$now $(sha256sum <"$file")" >"$file.key"
+}
