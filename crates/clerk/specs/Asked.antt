@@ -30,6 +30,7 @@ CommandIs t Task.Pay = ⊥
 CommandIs t Task.Check = t ≡ spell "check"
 CommandIs t Task.CheckWhole = ⊥
 CommandIs t Task.Run = t ≡ spell "run"
+CommandIs t Task.Write = t ≡ spell "write"
 CommandIs t Task.Help = t ≡ spell "--help"
 CommandIs t Task.Version = t ≡ spell "--version"
 
@@ -41,7 +42,7 @@ Means t Word.Whole = t ≡ spell "--whole"
 Means t Word.Report = t ≡ spell "--report"
 Means t Word.Rest = t ≡ spell "--"
 Means t Word.Strange = looks-optional t ≡ true
-Means t Word.Plain = Not t (spell "check") × Not t (spell "run") × (looks-optional t ≡ false)
+Means t Word.Plain = Not t (spell "check") × Not t (spell "run") × Not t (spell "write") × (looks-optional t ≡ false)
 
 -- ---- one word more, which is the word with the number i
 
@@ -164,6 +165,7 @@ first-word Task.Pay a t i = with-task a t
 first-word Task.Check a t i = with-plain (a .plain) a i
 first-word Task.CheckWhole a t i = with-plain (a .plain) a i
 first-word Task.Run a t i = with-plain (a .plain) a i
+first-word Task.Write a t i = with-plain (a .plain) a i
 first-word Task.Help a t i = a
 first-word Task.Version a t i = a
 
@@ -179,6 +181,7 @@ with-whole Task.Check a i = with-task a Task.CheckWhole
 with-whole Task.CheckWhole a i = a
 with-whole Task.Pay a i = with-strange a i
 with-whole Task.Run a i = with-strange a i
+with-whole Task.Write a i = with-strange a i
 with-whole Task.Help a i = a
 with-whole Task.Version a i = a
 
@@ -224,6 +227,7 @@ fitting Task.Pay n = three-words n
 fitting Task.Check n = one-word n
 fitting Task.CheckWhole n = one-word n
 fitting Task.Run n = two-words n
+fitting Task.Write n = one-word n
 fitting Task.Help n = true
 fitting Task.Version n = true
 

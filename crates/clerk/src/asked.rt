@@ -13,6 +13,7 @@ pub enum Task {
     Check,
     CheckWhole,
     Run,
+    Write,
     Help,
     Version,
 }
@@ -91,6 +92,9 @@ pub fn meaning(text: &[u8]) -> Word
     }
     if same(text, b"run") {
         return Word::Command(Task::Run);
+    }
+    if same(text, b"write") {
+        return Word::Command(Task::Write);
     }
     if same(text, b"--whole") {
         return Word::Whole;
@@ -200,6 +204,7 @@ fn first(asked: Asked, task: Task, i: usize) -> Asked
         Task::Check => plain(asked, i),
         Task::CheckWhole => plain(asked, i),
         Task::Run => plain(asked, i),
+        Task::Write => plain(asked, i),
         Task::Help => asked,
         Task::Version => asked,
     }
@@ -228,6 +233,7 @@ fn whole(asked: Asked, i: usize) -> Asked
         Task::CheckWhole => asked,
         Task::Pay => unknown(asked, i),
         Task::Run => unknown(asked, i),
+        Task::Write => unknown(asked, i),
         Task::Help => asked,
         Task::Version => asked,
     }

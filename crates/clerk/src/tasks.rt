@@ -52,6 +52,7 @@ fn fits(task: Task, plain: Count) -> bool
         Task::Check => one(plain),
         Task::CheckWhole => one(plain),
         Task::Run => two(plain),
+        Task::Write => one(plain),
         Task::Help => true,
         Task::Version => true,
     }

@@ -25,6 +25,7 @@ pub fn help() -> u32 {
 slip check RATE-SHEET          checks a rate sheet, with a call under it, and runs nothing
 slip check --whole SHEET       checks a whole sheet as it stands
 slip run SHEET [ALLOWANCE]     runs a whole sheet as it stands, by default with 1000000 units
+slip write SHEET               writes a whole sheet out again, its tokens with one space between them
 slip --help                    this text
 slip --version                 editions and sizes
 ./slip --prove [WORDS]         proves the program first, and from then on uses the proved one

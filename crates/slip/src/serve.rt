@@ -7,10 +7,12 @@ use crate::reports;
 use clerk::asked::Asked;
 use clerk::asked::Task;
 use clerk::asked::Wanted;
+use clerk::causes::Cause;
 use clerk::ends;
 use clerk::ends::End;
 use clerk::tasks;
 use grumpy::answers::Checked;
+use grumpy::answers::Wrote;
 use language::ALLOWANCE;
 use language::SOURCE;
 use language::TABLE;
@@ -76,6 +78,40 @@ fn run(asked: Asked) -> u32 {
     run_whole(asked, &bytes[..n], allowance)
 }
 
+// Tells what came of writing; what was written stands first in `out`.
+fn wrote(asked: Asked, sheet: &[u8], out: &[u8], answer: Wrote) -> u32 {
+    match answer {
+        Wrote::Written(long) => {
+            let n = input::within(long, out);
+            let end = ends::of_check(examine(sheet));
+            reports::report(asked, sheet, &out[..n], 0, end)
+        }
+        Wrote::Refused(why, place) => {
+            let end = End::Refused(Cause::Refused(why), place);
+            reports::report(asked, sheet, b"", 0, end)
+        }
+    }
+}
+
+// Writes a whole sheet out again, if it passes.
+fn rewrite(asked: Asked, sheet: &[u8]) -> u32 {
+    let mut words = [0u32; TABLE];
+    let mut text = [0u8; SOURCE];
+    let table: &mut [u32] = &mut words;
+    let out: &mut [u8] = &mut text;
+    let answer = grumpy::write(sheet, table, out);
+    wrote(asked, sheet, out, answer)
+}
+
+fn write(asked: Asked) -> u32 {
+    let mut bytes = [0u8; SOURCE + 1];
+    let Sheet::Bytes(length) = input::load(asked.sheet, &mut bytes) else {
+        return reports::failed(asked);
+    };
+    let n = input::within(length, &bytes);
+    rewrite(asked, &bytes[..n])
+}
+
 // What a rate sheet with its call under it comes to; where that is no program, the sheet alone may be one.
 fn judge(sheet: &[u8], whole: &[u8]) -> End {
     let answer = examine(whole);
@@ -130,6 +166,7 @@ fn perform(asked: Asked, task: Task) -> u32 {
         Task::Check => check(asked),
         Task::CheckWhole => check_whole(asked),
         Task::Run => run(asked),
+        Task::Write => write(asked),
         Task::Help => help::help(),
         Task::Version => help::version(),
     }
@@ -154,7 +191,7 @@ pub fn serve(asked: Asked) -> u32 {
         Wanted::NoName => unclear(asked, b"slip: --report wants a file's name behind it\n"),
         Wanted::Unclear => unclear(
             asked,
-            b"use: slip RATE-SHEET PICKS RATE, slip check [--whole] SHEET, slip run SHEET [ALLOWANCE]\n",
+            b"use: slip RATE-SHEET PICKS RATE, slip check [--whole] SHEET, slip run SHEET [ALLOWANCE], slip write SHEET\n",
         ),
     }
 }

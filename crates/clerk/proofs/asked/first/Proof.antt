@@ -33,8 +33,14 @@ plain-requires-3 c κs = search needs
 enum-told-5 : tie.Need-enum-told-5
 enum-told-5 c = search needs
 
+plain-requires-4 : tie.Need-plain-requires-4
+plain-requires-4 c κs = search needs
+
 enum-told-6 : tie.Need-enum-told-6
 enum-told-6 c = search needs
+
+enum-told-7 : tie.Need-enum-told-7
+enum-told-7 c = search needs
 
 returns : tie.Need-returns
 returns c = rw (c .before .enum-told .given .1) (c .tasked .ensures)
@@ -55,10 +61,15 @@ returns-4 c =
     c .plain3 .ensures ∙ ap (λ (x : Task). first-word x (a .asked) (a .task) (a .i)) (sym (c .before .enum-told4 .given .1))
 
 returns-5 : tie.Need-returns-5
-returns-5 c = search needs
+returns-5 c =
+    let a = c .before .before .before .args in
+    c .plain4 .ensures ∙ ap (λ (x : Task). first-word x (a .asked) (a .task) (a .i)) (sym (c .before .enum-told5 .given .1))
 
 returns-6 : tie.Need-returns-6
 returns-6 c = search needs
+
+returns-7 : tie.Need-returns-7
+returns-7 c = search needs
 
 pub first-spec : {M : Type 1} → statement M
 first-spec =
@@ -73,10 +84,13 @@ first-spec =
     enum-told-4
     plain-requires-3
     enum-told-5
+    plain-requires-4
     enum-told-6
+    enum-told-7
     returns
     returns-2
     returns-3
     returns-4
     returns-5
-    returns-6)
+    returns-6
+    returns-7)

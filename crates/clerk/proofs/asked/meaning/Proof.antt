@@ -73,18 +73,35 @@ same-requires-7 c κs = search needs
 returns-7 : tie.Need-returns-7
 returns-7 c = c .before .same7 .ensures .0 (c .if7 .taken)
 
+slice-aggregate-same-8 : tie.Need-slice-aggregate-same-8
+slice-aggregate-same-8 c = search needs
+
+same-requires-8 : tie.Need-same-requires-8
+same-requires-8 c κs = search needs
+
+returns-8 : tie.Need-returns-8
+returns-8 c = c .before .same8 .ensures .0 (c .if8 .taken)
+
 is-option-requires : tie.Need-is-option-requires
 is-option-requires c κs = search needs
 
-returns-8 : tie.Need-returns-8
-returns-8 c = sym (c .before .is-option .ensures) ∙ (c .if8 .taken)
-
 returns-9 : tie.Need-returns-9
-returns-9 c =
-    let k = c .before .before .before .before .before .before .before .before .before .before .before .before .before .before .before .before .before in (
-      apart (k .before .before .before .before .same .ensures .1) (k .before .before .before .if1 .left),
-      apart (k .before .same2 .ensures .1) (k .if2 .left),
-      sym (c .before .is-option .ensures) ∙ (c .if8 .left),
+returns-9 c = sym (c .before .is-option .ensures) ∙ (c .if9 .taken)
+
+returns-10 : tie.Need-returns-10
+returns-10 c =
+    let at-option = c .before .before in
+    let at-rest = at-option .before .before .before in
+    let at-version = at-rest .before .before .before in
+    let at-help = at-version .before .before .before in
+    let at-report = at-help .before .before .before in
+    let at-write = at-report .before .before .before in
+    let at-run = at-write .before .before .before in
+    let at-check = at-run .before .before .before in (
+      apart (at-check .before .same .ensures .1) (at-check .if1 .left),
+      apart (at-run .before .same2 .ensures .1) (at-run .if2 .left),
+      apart (at-write .before .same3 .ensures .1) (at-write .if3 .left),
+      sym (c .before .is-option .ensures) ∙ (c .if9 .left),
     )
 
 pub meaning-spec : {M : Type 1} → statement M
@@ -112,6 +129,9 @@ meaning-spec =
     slice-aggregate-same-7
     same-requires-7
     returns-7
-    is-option-requires
+    slice-aggregate-same-8
+    same-requires-8
     returns-8
-    returns-9)
+    is-option-requires
+    returns-9
+    returns-10)
