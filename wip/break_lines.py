@@ -14,7 +14,7 @@ def wrap_use(line, width):
             cur.append(it)
         return out + [head + ', '.join(cur) + tail]
     k = len(fill(width))
-    return next(f for f in (fill(w) for w in range(len(head) + 20, width + 1)) if len(f) == k)
+    return next((f for f in (fill(w) for w in range(len(head) + 20, width + 1)) if len(f) == k), [line])
 def wrap_code(line, width):
     ind = len(line) - len(line.lstrip())
     depth = 0; best = None

@@ -22,7 +22,8 @@ pub record Reported (source : List ℕ) (table : ℕ) (out out′ : List ℕ) (r
 
 -- of a sheet that passes
 pub record Rewrote (source out out′ : List ℕ) (r : Wrote) : Type 0 where
-  pub told : (ts : List Token) (p : Program) (t : Ty) (table : ℕ) → TABLE ≤ table → Passes (from-text source) ts p t → Reported source table out out′ r
+  pub told : (ts : List Token) (p : Program) (t : Ty) (table : ℕ) → TABLE ≤ table → Passes (from-text source) ts p t
+      → Reported source table out out′ r
 
 -- a sheet that passes can be written from its table
 abbrev pub Readable : List ℕ → List ℕ → Seen → Type 0

@@ -62,5 +62,6 @@ pub data RanC (source table work out : List ℕ) (allowance : ℕ)
 pub data WroteC (source table out report table′ out′ report′ : List ℕ) (n : ℕ) : Type 0 where
   write-no-report : length report < 3 → n ≡ refusal-number short-memory → table′ ≡ table → out′ ≡ out → report′ ≡ report
       → WroteC source table out report table′ out′ report′ n
-  write-reported : {r : WriteReport ℕ} → 3 ≤ length report → Write (from-text source) table out r table′ out′ → n ≡ number (r .told)
+  write-reported : {r : WriteReport ℕ} → 3 ≤ length report → Write (from-text source) table out r table′ out′
+      → n ≡ number (r .told)
       → report′ ≡ write-words report r → WroteC source table out report table′ out′ report′ n

@@ -1,5 +1,6 @@
--- What check and run answer for everything they can be lent, and what they leave in it (S004, S091 to S101). It goes in three
--- steps: where the tokens come from, what becomes of tokens, and what becomes of a program. Only the first knows places.
+-- What check and run answer for everything they can be lent, and what they leave in it (S004, S091 to S101). It goes in
+-- three steps: where the tokens come from, what becomes of tokens, and what becomes of a program. Only the first knows
+-- places.
 use mathlib.Core.Bool.{Bool, true, false, cond}
 use mathlib.Core.List.{List, [], _++_, reverse}
 use mathlib.Core.Logic.{_⊎_}
@@ -20,7 +21,8 @@ use Rattle.language.specs.Types.{HasType}
 use Rattle.language.specs.Faults.{Reason, HasFault}
 use Rattle.language.specs.State.{State, Outcome, value, stop, stuck}
 use Rattle.language.specs.Meaning.{run, value-number, type-number}
-use Rattle.language.specs.Numbers.{Refusal, short-memory, large-allowance, long-source, text, no-reading, types, long-text, Told, passed, refused, stopped}
+use Rattle.language.specs.Numbers.{Refusal, short-memory, large-allowance, long-source, text}
+use Rattle.language.specs.Numbers.{no-reading, types, long-text, Told, passed, refused, stopped}
 
 -- ---- where tokens come from
 
@@ -85,7 +87,8 @@ module _ {P : Type 0} (o : Origin P) where
 
 -- ---- what becomes of a program
 
--- what is told of its end and at which token, the value reported, the units used, and the bytes printed, the first one first
+-- what is told of its end and at which token, the value reported, the units used, and the bytes printed, the first one
+-- first
 pub record Ending : Type 0 where
   pub told : Told
   pub spot : Spot
@@ -95,7 +98,8 @@ pub record Ending : Type 0 where
 
 -- units used are those that the allowance has lost
 abbrev pub ended : ℕ → Told → Spot → ℤ → State → Ending
-ended allowance a i v s = record { told = a; spot = i; value = v; units = allowance - s .units; printed = reverse (s .printed) }
+ended allowance a i v s =
+    record { told = a; spot = i; value = v; units = allowance - s .units; printed = reverse (s .printed) }
 
 -- S097; no reading that has a type is stuck
 unfoldable pub ending : ℕ → Outcome → Option Ending
@@ -103,7 +107,7 @@ ending allowance (value v s) = some (ended allowance passed nowhere (value-numbe
 ending allowance (stop w i s) = some (ended allowance (stopped w) (at i) (pos 0) s)
 ending allowance stuck = none
 
--- ---- what is left in lent memory (S100): the required words zero and those past them as before; after 40 all as before
+-- ---- what is left in lent memory (S100): the required words zero, those past them as before; after 40 all as before
 
 abbrev pub keeps : Refusal → Bool
 keeps short-memory = true
@@ -157,7 +161,8 @@ pub record RunReport (P : Type 0) : Type 0 where
   -- how many bytes were printed (S095)
   pub printed : ℕ
 
--- what a run is lent, lengths alone: words of table and work memory, bytes of output (S008); and the units it is allowed
+-- what a run is lent, lengths alone: words of table and work memory, bytes of output (S008); and the units it is
+-- allowed
 pub record Lent : Type 0 where
   pub table : ℕ
   pub work : ℕ
@@ -189,13 +194,16 @@ module _ {P : Type 0} (o : Origin P) where
     run-large : Enough l → ALLOWANCE < l .allowance → Ran l (refusal large-allowance (o .nowhere)) []
     run-refused : {r : Refusal} {x : P} → Enough l → l .allowance ≤ ALLOWANCE → Refused o r x → Ran l (refusal r x) []
     run-ended : {ts : List Token} {p : Program} {t : Ty} {e : Ending}
-        → Enough l → l .allowance ≤ ALLOWANCE → Passes o ts p t → ending (l .allowance) (run p (l .allowance) (l .output)) ≡ some e
+        → Enough l → l .allowance ≤ ALLOWANCE → Passes o ts p t
+        → ending (l .allowance) (run p (l .allowance) (l .output)) ≡ some e
         → Ran l (after-run o ts t e) (e .printed)
 
   -- The contract of run: its report, and the two memories and the output as they are left (S098 to S100).
-  pub record Run (table work output : List ℕ) (allowance : ℕ) (report : RunReport P) (table′ work′ output′ : List ℕ) : Type 0 where
+  pub record Run (table work output : List ℕ) (allowance : ℕ) (report : RunReport P)
+      (table′ work′ output′ : List ℕ) : Type 0 where
     pub printed : List ℕ
-    pub answer : Ran record { table = length table; work = length work; output = length output; allowance = allowance } report printed
+    pub answer : Ran record { table = length table; work = length work; output = length output; allowance = allowance }
+        report printed
     pub table-left : table′ ≡ left (report .told) TABLE table
     pub work-left : work′ ≡ left (report .told) WORK work
     pub output-left : output′ ≡ printed ++ drop (length printed) output

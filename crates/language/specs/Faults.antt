@@ -1,19 +1,23 @@
--- Which fault is told of a reading that has no type, and at which token (S092 to S094; rows 30 to 34). It is the first in
--- the paper's order: functions in order, then the last expression; in a tree, children from left to right before their node.
+-- Which fault is told of a reading that has no type, and at which token (S092 to S094; rows 30 to 34). It is the first
+-- in the paper's order: functions in order, then the last expression; in a tree, children from left to right before
+-- their node.
 use mathlib.Core.List.{List, [], _∷_}
 use mathlib.Core.Option.{none, some}
 use mathlib.Core.Path.{_≡_}
 use Prim.Native.Nat.{ℕ, _≤_, _<_}
 use lib.ListN.{length}
 use Rattle.language.specs.Sizes.{FUNCTIONS, PARAMETERS, REFS}
-use Rattle.language.specs.Trees.{Name, Ty, bool, unit, refs, Unary, minus, not, fetch, new, Binary, Exp, name, unary, binary, follow, group, block, call, bind, branch, loop, Exps, more, Param, Def, Program, Scope, empty, push, nearest, size}
+use Rattle.language.specs.Trees.{Name, Ty, bool, unit, refs, Unary, minus, not, fetch, new, Binary, Exp}
+use Rattle.language.specs.Trees.{name, unary, binary, follow, group, block, call, bind, branch, loop}
+use Rattle.language.specs.Trees.{Exps, more, Param, Def, Program, Scope, empty, push, nearest, size}
 use Rattle.language.specs.Types.{UnopType, BinopType, Sig, Typed, TypedAll, Takes, with-def, given, Room, Fine}
 
 -- ---- why a reading is refused
 
 pub data Reason : Type 0 where
   -- no rule fits: a variable with no binding, a function not in sight, too many or too few arguments, and so on
-  no-binding no-function wrong-number wrong-argument wrong-operand wrong-operands not-unit not-bool branches-differ wrong-body : Reason
+  no-binding no-function wrong-number wrong-argument wrong-operand wrong-operands not-unit not-bool branches-differ
+      wrong-body : Reason
   -- a size is exceeded
   too-many-refs too-many-functions too-many-parameters : Reason
   -- a name is taken
@@ -33,14 +37,17 @@ module _ (Δ : Scope Sig) where
     -- the first fault of e, and the token that it is told at
     pub data Fault : Scope Ty → Exp → Reason → ℕ → Type 0 where
       f-name : {Γ : Scope Ty} {i : ℕ} {x : Name} → nearest x Γ ≡ none → Fault Γ (name i x) no-binding i
-      f-unary : {Γ : Scope Ty} {i : ℕ} {o : Unary} {e : Exp} {r : Reason} {n : ℕ} → Fault Γ e r n → Fault Γ (unary i o e) r n
+      f-unary : {Γ : Scope Ty} {i : ℕ} {o : Unary} {e : Exp} {r : Reason} {n : ℕ} → Fault Γ e r n
+          → Fault Γ (unary i o e) r n
       f-unary-here : {Γ : Scope Ty} {i : ℕ} {o : Unary} {e : Exp} {t : Ty} {r : Reason}
           → Typed Δ Γ e t → ((u : Ty) → UnopType o t u → ⊥) → unsuited o ≡ r → Fault Γ (unary i o e) r i
-      f-left : {Γ : Scope Ty} {i : ℕ} {o : Binary} {e f : Exp} {r : Reason} {n : ℕ} → Fault Γ e r n → Fault Γ (binary i o e f) r n
+      f-left : {Γ : Scope Ty} {i : ℕ} {o : Binary} {e f : Exp} {r : Reason} {n : ℕ} → Fault Γ e r n
+          → Fault Γ (binary i o e f) r n
       f-right : {Γ : Scope Ty} {i : ℕ} {o : Binary} {e f : Exp} {t : Ty} {r : Reason} {n : ℕ}
           → Typed Δ Γ e t → Fault Γ f r n → Fault Γ (binary i o e f) r n
       f-binary-here : {Γ : Scope Ty} {i : ℕ} {o : Binary} {e f : Exp} {t u : Ty}
-          → Typed Δ Γ e t → Typed Δ Γ f u → ((v : Ty) → BinopType o t u v → ⊥) → Fault Γ (binary i o e f) wrong-operands i
+          → Typed Δ Γ e t → Typed Δ Γ f u → ((v : Ty) → BinopType o t u v → ⊥)
+          → Fault Γ (binary i o e f) wrong-operands i
       f-first : {Γ : Scope Ty} {i : ℕ} {e f : Exp} {r : Reason} {n : ℕ} → Fault Γ e r n → Fault Γ (follow i e f) r n
       f-second : {Γ : Scope Ty} {i : ℕ} {e f : Exp} {t : Ty} {r : Reason} {n : ℕ}
           → Typed Δ Γ e t → Fault Γ f r n → Fault Γ (follow i e f) r n
@@ -48,15 +55,18 @@ module _ (Δ : Scope Sig) where
           → Typed Δ Γ e t → Typed Δ Γ f u → (t ≡ unit → ⊥) → Fault Γ (follow i e f) not-unit i
       f-group : {Γ : Scope Ty} {i : ℕ} {e : Exp} {r : Reason} {n : ℕ} → Fault Γ e r n → Fault Γ (group i e) r n
       f-block : {Γ : Scope Ty} {i : ℕ} {e : Exp} {r : Reason} {n : ℕ} → Fault Γ e r n → Fault Γ (block i e) r n
-      f-arguments : {Γ : Scope Ty} {i : ℕ} {f : Name} {es : Exps} {r : Reason} {n : ℕ} → FaultAll Γ es r n → Fault Γ (call i f es) r n
+      f-arguments : {Γ : Scope Ty} {i : ℕ} {f : Name} {es : Exps} {r : Reason} {n : ℕ} → FaultAll Γ es r n
+          → Fault Γ (call i f es) r n
       f-no-function : {Γ : Scope Ty} {i : ℕ} {f : Name} {es : Exps} {ts : List Ty}
           → TypedAll Δ Γ es ts → nearest f Δ ≡ none → Fault Γ (call i f es) no-function i
       f-wrong-number : {Γ : Scope Ty} {i : ℕ} {f : Name} {es : Exps} {ts : List Ty} {s : Sig}
-          → TypedAll Δ Γ es ts → nearest f Δ ≡ some s → (length ts ≡ length (s .takes) → ⊥) → Fault Γ (call i f es) wrong-number i
+          → TypedAll Δ Γ es ts → nearest f Δ ≡ some s → (length ts ≡ length (s .takes) → ⊥)
+          → Fault Γ (call i f es) wrong-number i
       f-wrong-argument : {Γ : Scope Ty} {i : ℕ} {f : Name} {es : Exps} {ts : List Ty} {s : Sig}
           → TypedAll Δ Γ es ts → nearest f Δ ≡ some s → length ts ≡ length (s .takes) → (ts ≡ s .takes → ⊥)
           → Fault Γ (call i f es) wrong-argument i
-      f-bound : {Γ : Scope Ty} {i : ℕ} {x : Name} {e f : Exp} {r : Reason} {n : ℕ} → Fault Γ e r n → Fault Γ (bind i x e f) r n
+      f-bound : {Γ : Scope Ty} {i : ℕ} {x : Name} {e f : Exp} {r : Reason} {n : ℕ} → Fault Γ e r n
+          → Fault Γ (bind i x e f) r n
       f-inside : {Γ : Scope Ty} {i : ℕ} {x : Name} {e f : Exp} {t : Ty} {r : Reason} {n : ℕ}
           → Typed Δ Γ e t → Fault (push x t Γ) f r n → Fault Γ (bind i x e f) r n
       f-if : {Γ : Scope Ty} {i : ℕ} {c e f : Exp} {r : Reason} {n : ℕ} → Fault Γ c r n → Fault Γ (branch i c e f) r n
@@ -69,7 +79,8 @@ module _ (Δ : Scope Sig) where
       f-branches-here : {Γ : Scope Ty} {i : ℕ} {c e f : Exp} {t u : Ty}
           → Typed Δ Γ c bool → Typed Δ Γ e t → Typed Δ Γ f u → (t ≡ u → ⊥) → Fault Γ (branch i c e f) branches-differ i
       f-while : {Γ : Scope Ty} {i : ℕ} {c e : Exp} {r : Reason} {n : ℕ} → Fault Γ c r n → Fault Γ (loop i c e) r n
-      f-do : {Γ : Scope Ty} {i : ℕ} {c e : Exp} {b : Ty} {r : Reason} {n : ℕ} → Typed Δ Γ c b → Fault Γ e r n → Fault Γ (loop i c e) r n
+      f-do : {Γ : Scope Ty} {i : ℕ} {c e : Exp} {b : Ty} {r : Reason} {n : ℕ} → Typed Δ Γ c b → Fault Γ e r n
+          → Fault Γ (loop i c e) r n
       f-while-here : {Γ : Scope Ty} {i : ℕ} {c e : Exp} {b t : Ty}
           → Typed Δ Γ c b → Typed Δ Γ e t → (b ≡ bool → ⊥) → Fault Γ (loop i c e) not-bool i
       f-do-here : {Γ : Scope Ty} {i : ℕ} {c e : Exp} {t : Ty}
@@ -83,11 +94,13 @@ module _ (Δ : Scope Sig) where
 -- ---- functions: 30 and 31 at the head, then each parameter, the result type, the body
 
 pub data FaultTakes : Scope Ty → List Param → Reason → ℕ → Type 0 where
-  p-ninth : {Γ : Scope Ty} {p : Param} {ps : List Param} → PARAMETERS ≤ size Γ → FaultTakes Γ (p ∷ ps) too-many-parameters (p .at)
+  p-ninth : {Γ : Scope Ty} {p : Param} {ps : List Param} → PARAMETERS ≤ size Γ
+      → FaultTakes Γ (p ∷ ps) too-many-parameters (p .at)
   p-twice : {Γ : Scope Ty} {p : Param} {ps : List Param} {t : Ty}
       → size Γ < PARAMETERS → nearest (p .called) Γ ≡ some t → FaultTakes Γ (p ∷ ps) parameter-twice (p .at)
   p-refs : {Γ : Scope Ty} {p : Param} {ps : List Param}
-      → size Γ < PARAMETERS → nearest (p .called) Γ ≡ none → REFS < refs (p .type) → FaultTakes Γ (p ∷ ps) too-many-refs (p .at)
+      → size Γ < PARAMETERS → nearest (p .called) Γ ≡ none → REFS < refs (p .type)
+      → FaultTakes Γ (p ∷ ps) too-many-refs (p .at)
   p-later : {Γ : Scope Ty} {p : Param} {ps : List Param} {r : Reason} {n : ℕ}
       → size Γ < PARAMETERS → nearest (p .called) Γ ≡ none → refs (p .type) ≤ REFS
       → FaultTakes (push (p .called) (p .type) Γ) ps r n → FaultTakes Γ (p ∷ ps) r n
@@ -95,7 +108,8 @@ pub data FaultTakes : Scope Ty → List Param → Reason → ℕ → Type 0 wher
 pub data FaultDef (Δ : Scope Sig) (d : Def) : Reason → ℕ → Type 0 where
   d-many : FUNCTIONS < size Δ → FaultDef Δ d too-many-functions (d .at)
   d-twice : {s : Sig} → Room Δ → nearest (d .called) Δ ≡ some s → FaultDef Δ d function-twice (d .named)
-  d-params : {r : Reason} {n : ℕ} → Room Δ → nearest (d .called) Δ ≡ none → FaultTakes empty (d .params) r n → FaultDef Δ d r n
+  d-params : {r : Reason} {n : ℕ} → Room Δ → nearest (d .called) Δ ≡ none → FaultTakes empty (d .params) r n
+      → FaultDef Δ d r n
   d-refs : {Γ : Scope Ty} → Room Δ → nearest (d .called) Δ ≡ none → Takes empty (d .params) Γ → REFS < refs (d .result)
       → FaultDef Δ d too-many-refs (d .at)
   d-body : {Γ : Scope Ty} {r : Reason} {n : ℕ}
@@ -109,7 +123,8 @@ pub data FaultDef (Δ : Scope Sig) (d : Def) : Reason → ℕ → Type 0 where
 
 pub data FaultFrom : Scope Sig → List Def → Exp → Reason → ℕ → Type 0 where
   fault-main : {Δ : Scope Sig} {e : Exp} {r : Reason} {n : ℕ} → Fault Δ empty e r n → FaultFrom Δ [] e r n
-  fault-here : {Δ : Scope Sig} {d : Def} {ds : List Def} {e : Exp} {r : Reason} {n : ℕ} → FaultDef Δ d r n → FaultFrom Δ (d ∷ ds) e r n
+  fault-here : {Δ : Scope Sig} {d : Def} {ds : List Def} {e : Exp} {r : Reason} {n : ℕ} → FaultDef Δ d r n
+      → FaultFrom Δ (d ∷ ds) e r n
   fault-later : {Δ : Scope Sig} {d : Def} {ds : List Def} {e : Exp} {r : Reason} {n : ℕ}
       → Fine Δ d → FaultFrom (with-def Δ d) ds e r n → FaultFrom Δ (d ∷ ds) e r n
 

@@ -4,8 +4,14 @@ use mathlib.Core.Bool.{true, false}
 use mathlib.Core.List.{List, [], _∷_}
 use Prim.Native.Nat.{ℕ, _+_}
 use lib.ListN.{length}
-use Rattle.language.specs.Tokens.{Token, Entry, _is_, At, Means, value-at, spelling-at, NAME, NUMBER, DEF, LET, IN, WHILE, IF, THEN, ELSE, REF, NOT, INT, BOOL, TRUE, FALSE, UNIT, TT, PLUS, MINUS, STAR, SLASH, AND, OR, LESS, EQUAL, BECOMES, IS, BANG, SEMI, COMMA, COLON, LPAR, RPAR, LBRACE, RBRACE}
-use Rattle.language.specs.Trees.{Ty, int, bool, unit, ref, Literal, whole, truth, trivial, Unary, minus, not, fetch, new, Binary, add, sub, mul, div, less, equal, Exp, name, literal, unary, binary, follow, group, block, call, bind, branch, loop, Exps, last, more, Param, Def, Program}
+use Rattle.language.specs.Tokens.{Token, Entry, _is_, At, Means, value-at, spelling-at, NAME, NUMBER}
+use Rattle.language.specs.Tokens.{DEF, LET, IN, WHILE, IF, THEN, ELSE, REF, NOT, INT, BOOL, TRUE}
+use Rattle.language.specs.Tokens.{FALSE, UNIT, TT, PLUS, MINUS, STAR, SLASH, AND, OR, LESS, EQUAL}
+use Rattle.language.specs.Tokens.{BECOMES, IS, BANG, SEMI, COMMA, COLON, LPAR, RPAR, LBRACE, RBRACE}
+use Rattle.language.specs.Trees.{Ty, int, bool, unit, ref, Literal, whole, truth, trivial, Unary}
+use Rattle.language.specs.Trees.{minus, not, fetch, new, Binary, add, sub, mul, div, less, equal}
+use Rattle.language.specs.Trees.{Exp, name, literal, unary, binary, follow, group, block, call}
+use Rattle.language.specs.Trees.{bind, branch, loop, Exps, last, more, Param, Def, Program}
 
 -- ---- the symbols
 
@@ -74,7 +80,14 @@ abbrev pub param : List Token → ℕ → Ty → Param
 param ts i t = record { at = i; called = spelling-at ts i; type = t }
 
 abbrev pub define : List Token → ℕ → List Param → Ty → Exp → Def
-define ts i ps t b = record { at = i; named = i + 1; called = spelling-at ts (i + 1); params = ps; result = t; body = b }
+define ts i ps t b = record {
+  at = i;
+  named = i + 1;
+  called = spelling-at ts (i + 1);
+  params = ps;
+  result = t;
+  body = b;
+}
 
 abbrev pub before : Def → Program → Program
 before d p = record { defs = d ∷ p .defs; main = p .main }
@@ -145,7 +158,8 @@ pub data Reads (ts : List Token) : (s : Sym) → ℕ → ℕ → Of s → Type 0
   -- Atom (S035): the parentheses of a call are its own and make no Group
   atom-name : {i : ℕ} → At ts i NAME → Reads ts atom i (i + 1) (name i (spelling-at ts i))
   atom-call : {i j : ℕ} {es : Exps}
-      → At ts i NAME → At ts (i + 1) LPAR → Reads ts actuals (i + 2) j es → Reads ts atom i j (call i (spelling-at ts i) es)
+      → At ts i NAME → At ts (i + 1) LPAR → Reads ts actuals (i + 2) j es
+      → Reads ts atom i j (call i (spelling-at ts i) es)
   atom-number : {i : ℕ} → At ts i NUMBER → Reads ts atom i (i + 1) (literal i (whole (value-at ts i)))
   atom-constant : {i : ℕ} {l : Literal} → Means ts i constants l → Reads ts atom i (i + 1) (literal i l)
   atom-group : {i k : ℕ} {e : Exp}

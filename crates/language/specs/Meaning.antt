@@ -6,8 +6,15 @@ use lib.Dec.{eqb, leb, ltb}
 use lib.IntN.{ℤ, pos, negsuc, negℤ, _+ℤ_, _-ℤ_, _*ℤ_}
 use lib.Signed.{ltZ, quotZ}
 use Rattle.language.specs.Sizes.{ACTIVE, CELLS, LARGEST, BYTE}
-use Rattle.language.specs.State.{Value, number, flag, nothing, cell, no-cell, count, held, store, keep, State, with-units, with-cells, with-birth, with-byte, no-unit, too-deep, out-of-range, zero-divisor, cell-freed, cells-full, not-a-byte, output-full, Outcome, value, stop, stuck, then, as-int, as-bool, as-unit, as-cell, has, choose, when-some, want, only}
-use Rattle.language.specs.Trees.{Ty, int, bool, unit, ref, Literal, whole, truth, trivial, Unary, minus, fetch, new, Binary, add, sub, mul, div, less, equal, and, or, assign, Exp, name, literal, unary, binary, follow, group, block, call, bind, branch, loop, Exps, last, more, own, Param, Def, Program, Scope, empty, push, nearest, PUTCHAR}
+use Rattle.language.specs.State.{Value, number, flag, nothing, cell, no-cell, count, held, store}
+use Rattle.language.specs.State.{keep, State, with-units, with-cells, with-birth, with-byte, no-unit}
+use Rattle.language.specs.State.{too-deep, out-of-range, zero-divisor, cell-freed, cells-full}
+use Rattle.language.specs.State.{not-a-byte, output-full, Outcome, value, stop, stuck, then, as-int}
+use Rattle.language.specs.State.{as-bool, as-unit, as-cell, has, choose, when-some, want, only}
+use Rattle.language.specs.Trees.{Ty, int, bool, unit, ref, Literal, whole, truth, trivial, Unary, minus, fetch}
+use Rattle.language.specs.Trees.{new, Binary, add, sub, mul, div, less, equal, and, or, assign, Exp, name}
+use Rattle.language.specs.Trees.{literal, unary, binary, follow, group, block, call, bind, branch, loop, Exps}
+use Rattle.language.specs.Trees.{last, more, own, Param, Def, Program, Scope, empty, push, nearest, PUTCHAR}
 
 -- ---- beginning a node
 
@@ -41,7 +48,8 @@ same-int (negsuc m) (negsuc n) = eqb m n
 
 unfoldable pub create : ℕ → Value → State → Outcome
 create i v s =
-    choose (ltb (count (s .cells)) CELLS) (λ _. value (cell (suc (s .births))) (with-birth v s)) λ _. stop cells-full i s
+    choose (ltb (count (s .cells)) CELLS) (λ _. value (cell (suc (s .births))) (with-birth v s)) λ _.
+    stop cells-full i s
 
 unfoldable pub apply-unary : ℕ → Unary → Value → State → Outcome
 apply-unary i minus v s = want (as-int v) λ x. fit i (negℤ x) s
@@ -117,8 +125,8 @@ module _ (fs : Scope Fun) (go : Exp → Env → State → Outcome) where
   invoke i putchar vs s = want (only vs) λ v. want (as-int v) λ z. put i z s
   invoke i (defined ps e) vs s = enter ps vs empty λ env. go e env s
 
-  -- S058: tests and passes. Every test begins a node, so there are at most as many as units were left at the first, and the
-  -- one after those finds none.
+  -- S058: tests and passes. Every test begins a node, so there are at most as many as units were left at the first, and
+  -- the one after those finds none.
   unfoldable pub passes : ℕ → Exp → Exp → Env → State → Outcome
   passes zero c e env s = stop no-unit (own c) s
   passes (suc n) c e env s =
@@ -141,7 +149,8 @@ module _ (fs : Scope Fun) (go : Exp → Env → State → Outcome) where
   step (block i e) env s = then (go e env s) λ v t. value v (with-cells (keep (s .births) (t .cells)) t)
   step (call i f es) env s = arguments es env s λ vs s. want (nearest f fs) λ g. invoke i g vs s
   step (bind i x e f) env s = then (go e env s) λ v s. go f (push x v env) s
-  step (branch i c e f) env s = then (go c env s) λ v s. want (as-bool v) λ b. choose b (λ _. go e env s) λ _. go f env s
+  step (branch i c e f) env s =
+      then (go c env s) λ v s. want (as-bool v) λ b. choose b (λ _. go e env s) λ _. go f env s
   step (loop i c e) env s = passes (s .units) c e env s
 
 -- S056: a node, where d more than it may be active; at none it begins and is too deep

@@ -1,9 +1,12 @@
--- The table of numbers (S068 to S090, R01.2, R03.5): what an answer tells, and the number of it. 21 stood for too many nodes, which no
--- reading has; it is not used again (R02.4).
+-- The table of numbers (S068 to S090, R01.2, R03.5): what an answer tells, and the number of it. 21 stood for too many
+-- nodes, which no reading has; it is not used again (R02.4).
 use Prim.Native.Nat.{ℕ}
 use Rattle.language.specs.Text.{Flaw, strange-byte, open-comment, large-number, many-tokens}
-use Rattle.language.specs.Faults.{Reason, no-binding, no-function, wrong-number, wrong-argument, wrong-operand, wrong-operands, not-unit, not-bool, branches-differ, wrong-body, too-many-refs, too-many-functions, too-many-parameters, function-twice, parameter-twice}
-use Rattle.language.specs.State.{Stop, no-unit, too-deep, out-of-range, zero-divisor, cell-freed, cells-full, not-a-byte, output-full}
+use Rattle.language.specs.Faults.{Reason, no-binding, no-function, wrong-number, wrong-argument, wrong-operand}
+use Rattle.language.specs.Faults.{wrong-operands, not-unit, not-bool, branches-differ, wrong-body, too-many-refs}
+use Rattle.language.specs.Faults.{too-many-functions, too-many-parameters, function-twice, parameter-twice}
+use Rattle.language.specs.State.{Stop, no-unit, too-deep, out-of-range, zero-divisor}
+use Rattle.language.specs.State.{cell-freed, cells-full, not-a-byte, output-full}
 
 -- why nothing is run or written
 pub data Refusal : Type 0 where

@@ -98,7 +98,13 @@ with-birth v s = record {
 }
 
 abbrev pub with-byte : ℕ → ℕ → State → State
-with-byte n left s = record { units = s .units; births = s .births; room = left; cells = s .cells; printed = n ∷ s .printed }
+with-byte n left s = record {
+  units = s .units;
+  births = s .births;
+  room = left;
+  cells = s .cells;
+  printed = n ∷ s .printed;
+}
 
 -- ---- how a node ends
 
@@ -110,7 +116,8 @@ pub data Outcome : Type 0 where
   value : Value → State → Outcome
   -- why, and the token of the node
   stop : Stop → ℕ → State → Outcome
-  -- An operand of the wrong kind, a name with no binding, arguments that do not match: no reading that has a type comes here.
+  -- An operand of the wrong kind, a name with no binding, arguments that do not match: no reading that has a type comes
+  -- here.
   stuck : Outcome
 
 -- a value goes on; anything else stands

@@ -1,6 +1,6 @@
--- How the bytes of a text split into tokens by a vocabulary, and the four things that stop a split (S009 to S021; rows 11
--- to 14). Places are byte offsets. What a piece of text may be is said by its form; that the longest form counts is said
--- once.
+-- How the bytes of a text split into tokens by a vocabulary, and the four things that stop a split (S009 to S021; rows
+-- 11 to 14). Places are byte offsets. What a piece of text may be is said by its form; that the longest form counts is
+-- said once.
 use mathlib.Core.Bool.{Bool, true, cond, _&&_, _||_, not}
 use mathlib.Core.List.{List, [], _∷_, _++_}
 use mathlib.Core.Option.{Option, none, some}
@@ -69,8 +69,8 @@ Opens t p = Stands t p (spell "/*")
 abbrev pub Closes : List ℕ → ℕ → Type 0
 Closes t p = Stands t p (spell "*/")
 
--- The inside of a comment from p up to q: bytes at which neither mark stands, and whole comments. Each mark takes its two
--- bytes, so what follows one begins behind them.
+-- The inside of a comment from p up to q: bytes at which neither mark stands, and whole comments. Each mark takes its
+-- two bytes, so what follows one begins behind them.
 pub data Inside (t : List ℕ) : ℕ → ℕ → Type 0 where
   ended : {p : ℕ} → Inside t p p
   any-byte : {p q : ℕ} → p < length t → (Opens t p → ⊥) → (Closes t p → ⊥) → Inside t (p + 1) q → Inside t p q

@@ -171,8 +171,8 @@ marks =
 abbrev pub bases : List (Entry String ℕ)
 bases = "0x" is 16 ∷ "0b" is 2 ∷ []
 
--- An edition of the language is a vocabulary: tables of its words, of its marks and of its bases. All else that is said of
--- texts is the same in every edition.
+-- An edition of the language is a vocabulary: tables of its words, of its marks and of its bases. All else that is said
+-- of texts is the same in every edition.
 pub record Vocabulary : Type 0 where
   pub words : List (Entry String ℕ)
   pub marks : List (Entry String ℕ)

@@ -5,7 +5,10 @@ use mathlib.Core.Option.{none, some}
 use mathlib.Core.Path.{_≡_}
 use Prim.Native.Nat.{ℕ, _≤_, _<_}
 use Rattle.language.specs.Sizes.{FUNCTIONS, PARAMETERS, REFS}
-use Rattle.language.specs.Trees.{Name, Ty, int, bool, unit, ref, refs, whole, truth, trivial, Unary, minus, not, fetch, new, Binary, add, sub, mul, div, less, equal, and, or, assign, Exp, name, literal, unary, binary, follow, group, block, call, bind, branch, loop, Exps, last, more, Param, Def, Program, Scope, empty, push, nearest, size, PUTCHAR}
+use Rattle.language.specs.Trees.{Name, Ty, int, bool, unit, ref, refs, whole, truth, trivial, Unary, minus, not}
+use Rattle.language.specs.Trees.{fetch, new, Binary, add, sub, mul, div, less, equal, and, or, assign, Exp, name}
+use Rattle.language.specs.Trees.{literal, unary, binary, follow, group, block, call, bind, branch, loop, Exps}
+use Rattle.language.specs.Trees.{last, more, Param, Def, Program, Scope, empty, push, nearest, size, PUTCHAR}
 
 -- ---- operators (003's unoptype and binoptype; S052)
 
@@ -81,8 +84,8 @@ sig d = record { takes = map (λ (p : Param). p .type) (d .params); gives = d .r
 abbrev pub with-def : Scope Sig → Def → Scope Sig
 with-def Δ d = push (d .called) (sig d) Δ
 
--- `putchar` is there before all others; it is not one of those that are counted, so there is room for one more while the
--- functions in sight, it included, are no more than the size
+-- `putchar` is there before all others; it is not one of those that are counted, so there is room for one more while
+-- the functions in sight, it included, are no more than the size
 abbrev pub given : Scope Sig
 given = push PUTCHAR record { takes = int ∷ []; gives = int } empty
 

@@ -1,4 +1,5 @@
--- Writing a sheet out again (R03): what is written for tokens, and what write answers for everything that it can be lent.
+-- Writing a sheet out again (R03): what is written for tokens, and what write answers for everything that it can be
+-- lent.
 use mathlib.Core.List.{List, [], _∷_, _++_}
 use mathlib.Core.Logic.{_⊎_}
 use mathlib.Core.Path.{_≡_}
@@ -47,9 +48,11 @@ module _ {P : Type 0} (o : Origin P) where
   pub data Wrote (table output : ℕ) : WriteReport P → List ℕ → Type 0 where
     write-short : table < TABLE → Wrote table output (write-report (refused short-memory) (o .nowhere) 0) []
     -- R03.4: what does not pass is refused as it is by check
-    write-refused : {r : Refusal} {x : P} → TABLE ≤ table → Refused o r x → Wrote table output (write-report (refused r) x 0) []
+    write-refused : {r : Refusal} {x : P} → TABLE ≤ table → Refused o r x
+        → Wrote table output (write-report (refused r) x 0) []
     write-long : {ts : List Token} {p : Program} {t : Ty}
-        → TABLE ≤ table → Passes o ts p t → TooLong ts output → Wrote table output (write-report (refused long-text) (o .nowhere) 0) []
+        → TABLE ≤ table → Passes o ts p t → TooLong ts output
+        → Wrote table output (write-report (refused long-text) (o .nowhere) 0) []
     write-passed : {ts : List Token} {p : Program} {t : Ty}
         → TABLE ≤ table → Passes o ts p t → Fits ts output
         → Wrote table output (write-report passed (o .nowhere) (length (written-out ts))) (written-out ts)

@@ -12,7 +12,8 @@ use Rattle.language.specs.Tokens.{Token, entry, kind-at}
 use Rattle.language.specs.Trees.{Binary, Exp, binary}
 use Rattle.language.specs.Grammar.{tier}
 use Rattle.language.proofs.Executable.Parses.{Result, failed, got}
-use Rattle.language.proofs.Executable.Climbing.{tightness, after as following, Joins, joins, joins-range, More, climb-failed, climb-first, climb-stop, climb-short, climb-on}
+use Rattle.language.proofs.Executable.Climbing.{tightness, after as following, Joins, joins, joins-range, More}
+use Rattle.language.proofs.Executable.Climbing.{climb-failed, climb-first, climb-stop, climb-short, climb-on}
 use Rattle.layout.specs.Table.{kind-of, put-row, without-rows}
 use Rattle.layout.specs.Names.{Stand}
 use Rattle.layout.specs.Rows.{below, lay, binary-kind}

@@ -116,7 +116,8 @@ Halts T count w n f g w′ = Answer T count w n f (n + 1) count g w′
 
 -- Operators from tightness v up to u go on with a left operand a that is laid already, its root at `left`.
 pub record Continues (v u count : ℕ) (w : List ℕ) (n left f : ℕ) (g : Part) (w′ : List ℕ) : Type 0 where
-  pub told : (ts : List Token) → Stand w count ts → (a : Exp) (w₀ : List ℕ) (f₀ : ℕ) → left ≡ f₀ + below a → w ≡ lay w₀ f₀ a
+  pub told : (ts : List Token) → Stand w count ts → (a : Exp) (w₀ : List ℕ) (f₀ : ℕ) → left ≡ f₀ + below a
+      → w ≡ lay w₀ f₀ a
       → Outcome (More ts v u a n) w₀ f₀ g w′
   pub ahead : Ahead n f n (count + 1) g
   pub clear : without-rows w′ ≡ without-rows w

@@ -27,7 +27,8 @@ pub fn node(
     third: u32,
 ) -> Part
     requires { ⌜ (TABLE ≤ length (now table)) × (own < TOKENS) × (free < NODES) ⌝ }
-    ensures { λ g. ⌜ Written free next (put-row (now (table .entry)) free kind own first second third) (now (table .entry)) g (now (table .exit)) ⌝ }
+    ensures { λ g. ⌜ Written free next (put-row (now (table .entry)) free kind own first second third)
+        (now (table .entry)) g (now (table .exit)) ⌝ }
 {
     rows::put(table, free, kind, own as u32, first, second, third);
     Part::Tree {
@@ -42,7 +43,8 @@ pub fn node(
 // A node over one part.
 pub fn over(table: &mut [u32], kind: u32, own: usize, part: Part) -> Part
     requires { ⌜ (TABLE ≤ length (now table)) × (own < TOKENS) × Placed part ⌝ }
-    ensures { λ g. ⌜ Topped (λ w k r. put-row w k kind own r 0 0) (λ m. m) part (now (table .entry)) g (now (table .exit)) ⌝ }
+    ensures { λ g. ⌜ Topped (λ w k r. put-row w k kind own r 0 0) (λ m. m) part (now (table .entry)) g
+        (now (table .exit)) ⌝ }
 {
     match part {
         Part::Tree { root, next, free } => node(table, free, next, kind, own, root, 0, 0),
@@ -53,7 +55,8 @@ pub fn over(table: &mut [u32], kind: u32, own: usize, part: Part) -> Part
 // The same where a closing mark stands behind the part.
 pub fn around(table: &mut [u32], kind: u32, own: usize, part: Part) -> Part
     requires { ⌜ (TABLE ≤ length (now table)) × (own < TOKENS) × Placed part ⌝ }
-    ensures { λ g. ⌜ Topped (λ w k r. put-row w k kind own r 0 0) (λ m. m + 1) part (now (table .entry)) g (now (table .exit)) ⌝ }
+    ensures { λ g. ⌜ Topped (λ w k r. put-row w k kind own r 0 0) (λ m. m + 1) part (now (table .entry)) g
+        (now (table .exit)) ⌝ }
 {
     match part {
         Part::Tree { root, next, free } => node(table, free, next + 1, kind, own, root, 0, 0),
@@ -64,7 +67,8 @@ pub fn around(table: &mut [u32], kind: u32, own: usize, part: Part) -> Part
 // A node over two parts, the first of which has its root at `first`.
 pub fn pair(table: &mut [u32], kind: u32, own: usize, first: u32, part: Part) -> Part
     requires { ⌜ (TABLE ≤ length (now table)) × (own < TOKENS) × Placed part ⌝ }
-    ensures { λ g. ⌜ Topped (λ w k r. put-row w k kind own first r 0) (λ m. m) part (now (table .entry)) g (now (table .exit)) ⌝ }
+    ensures { λ g. ⌜ Topped (λ w k r. put-row w k kind own first r 0) (λ m. m) part (now (table .entry)) g
+        (now (table .exit)) ⌝ }
 {
     match part {
         Part::Tree { root, next, free } => node(table, free, next, kind, own, first, root, 0),
@@ -75,7 +79,8 @@ pub fn pair(table: &mut [u32], kind: u32, own: usize, first: u32, part: Part) ->
 // The node of an `if`, over its three parts.
 pub fn choice(table: &mut [u32], own: usize, first: u32, second: u32, part: Part) -> Part
     requires { ⌜ (TABLE ≤ length (now table)) × (own < TOKENS) × Placed part ⌝ }
-    ensures { λ g. ⌜ Topped (λ w k r. put-row w k IF own first second r) (λ m. m) part (now (table .entry)) g (now (table .exit)) ⌝ }
+    ensures { λ g. ⌜ Topped (λ w k r. put-row w k IF own first second r) (λ m. m) part (now (table .entry)) g
+        (now (table .exit)) ⌝ }
 {
     match part {
         Part::Tree { root, next, free } => node(

@@ -77,7 +77,8 @@ pub record TypeAnswer (T : Told Ty) (count : ℕ) (w : List ℕ) (lo hi : ℕ) (
 
 -- the same behind a type of this number
 pub record RefsAnswer (count : ℕ) (w : List ℕ) (n number : ℕ) (g : Typing) : Type 0 where
-  pub told : (ts : List Token) → Stand w count ts → (t : Ty) → number ≡ type-number t → TypeOutcome (Settles ts (refs t) n) g
+  pub told : (ts : List Token) → Stand w count ts → (t : Ty) → number ≡ type-number t
+      → TypeOutcome (Settles ts (refs t) n) g
   pub ahead : TypeAhead n (count + 1) g
 
 -- ---- parameters and functions
@@ -107,11 +108,12 @@ abbrev pub ParamsOutcome : (Result (List Param) → Type 0) → List ℕ → ℕ
 ParamsOutcome T w f (Rows.Laid m k) w′ = LaidParams T w f m k w′
 ParamsOutcome T w f (Rows.None e) w′ = T (failed e)
 
-pub record ParamsAnswer (T : Told (List Param)) (count : ℕ) (w : List ℕ) (n f : ℕ) (g : Rows) (w′ : List ℕ) : Type 0 where
-  pub told : (ts : List Token) → Stand w count ts → ParamsOutcome (T ts) w f g w′
-  pub ahead : RowsAhead count n f g
-  pub rows : RowsGrow f g
-  pub clear : without-rows w′ ≡ without-rows w
+pub record ParamsAnswer (T : Told (List Param)) (count : ℕ) (w : List ℕ) (n f : ℕ) (g : Rows) (w′ : List ℕ) : Type 0
+  where
+    pub told : (ts : List Token) → Stand w count ts → ParamsOutcome (T ts) w f g w′
+    pub ahead : RowsAhead count n f g
+    pub rows : RowsGrow f g
+    pub clear : without-rows w′ ≡ without-rows w
 
 pub record LaidDef (T : Result Def → Type 0) (w : List ℕ) (f m k : ℕ) (w′ : List ℕ) : Type 0 where
   pub def : Def
@@ -128,24 +130,27 @@ pub record DefAnswer (T : Told Def) (count : ℕ) (w : List ℕ) (n f : ℕ) (g 
   pub ahead : RowsAhead count n f g
   pub clear : without-rows w′ ≡ without-rows w
 
--- A function's row is written by `put` once its body has been read, with the body's root; where there is none, nothing is.
+-- A function's row is written by `put` once its body has been read, with the body's root; where there is none, nothing
+-- is.
 abbrev pub Headed : (List ℕ → ℕ → List ℕ) → Part → List ℕ → Rows → List ℕ → Type 0
 Headed put (Part.Tree r m k) w g w′ = (g ≡ Rows.Laid m k) × (w′ ≡ put w r)
 Headed put (Part.None e) w g w′ = (g ≡ Rows.None e) × (w′ ≡ w)
 
 -- ---- the program, `before` functions being behind
 
-pub record LaidProgram (T : Result Program → Type 0) (w : List ℕ) (f before defs root m : ℕ) (w′ : List ℕ) : Type 0 where
-  pub program : Program
-  pub told : T (got program m)
-  pub count : defs ≡ before + length (program .defs)
-  pub top : root ≡ f + defs-rows (program .defs) + below (program .main)
-  pub laid : w′ ≡ lay (lay-defs w f before (program .defs)) (f + defs-rows (program .defs)) (program .main)
+pub record LaidProgram (T : Result Program → Type 0) (w : List ℕ) (f before defs root m : ℕ) (w′ : List ℕ) : Type 0
+  where
+    pub program : Program
+    pub told : T (got program m)
+    pub count : defs ≡ before + length (program .defs)
+    pub top : root ≡ f + defs-rows (program .defs) + below (program .main)
+    pub laid : w′ ≡ lay (lay-defs w f before (program .defs)) (f + defs-rows (program .defs)) (program .main)
 
 abbrev pub ProgramOutcome : (Result Program → Type 0) → List ℕ → ℕ → ℕ → Parsed → List ℕ → Type 0
 ProgramOutcome T w f before (Parsed.Program defs root m) w′ = LaidProgram T w f before defs root m w′
 ProgramOutcome T w f before (Parsed.None e) w′ = T (failed e)
 
-pub record ProgramAnswer (T : Told Program) (count : ℕ) (w : List ℕ) (f before : ℕ) (g : Parsed) (w′ : List ℕ) : Type 0 where
-  pub told : (ts : List Token) → Stand w count ts → ProgramOutcome (T ts) w f before g w′
-  pub clear : without-rows w′ ≡ without-rows w
+pub record ProgramAnswer (T : Told Program) (count : ℕ) (w : List ℕ) (f before : ℕ) (g : Parsed) (w′ : List ℕ) : Type 0
+  where
+    pub told : (ts : List Token) → Stand w count ts → ProgramOutcome (T ts) w f before g w′
+    pub clear : without-rows w′ ≡ without-rows w

@@ -6,7 +6,8 @@ ghost use Rattle.language.specs.Sizes.{TOKENS, NODES, TABLE};
 ghost use Rattle.language.specs.Tokens.{DEF};
 ghost use Rattle.layout.specs.Table.{kind-of, put-row};
 ghost use Rattle.phrases.specs.Parts.{Room};
-ghost use Rattle.reader.specs.Definitions.{ParamsAnswer, DefAnswer, ProgramAnswer, Headed, Params, Formals, Function, Sequel};
+ghost use Rattle.reader.specs.Definitions.{ParamsAnswer, DefAnswer, ProgramAnswer};
+ghost use Rattle.reader.specs.Definitions.{Headed, Params, Formals, Function, Sequel};
 use crate::types::Typing;
 use crate::types::result;
 use crate::types::type_at;
@@ -92,7 +93,8 @@ fn formals(table: &mut [u32], count: usize, at: usize, free: usize) -> Rows
 // The row of the function at `own`, kept free until its body's root is known.
 fn header(table: &mut [u32], row: usize, own: usize, count: usize, number: u32, body: Part) -> Rows
     requires { ⌜ (TABLE ≤ length (now table)) × (row < NODES) × (own < TOKENS) × (count < TOKENS) ⌝ }
-    ensures { λ g. ⌜ Headed (λ w r. put-row w row DEF own count number r) body (now (table .entry)) g (now (table .exit)) ⌝ }
+    ensures { λ g. ⌜ Headed (λ w r. put-row w row DEF own count number r) body (now (table .entry)) g
+        (now (table .exit)) ⌝ }
 {
     match body {
         Part::Tree { root, next, free } => {

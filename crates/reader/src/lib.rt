@@ -29,7 +29,8 @@ pub enum Found {
 // token of its own, so there is room for every row.
 pub fn read(table: &mut [u32], count: usize) -> Found
     requires { ⌜ (TABLE ≤ length (now table)) × (count ≤ TOKENS) ⌝ }
-    ensures { λ g. ⌜ ((ts : List Token) → Stand (now (table .entry)) count ts → Finds ts (now (table .entry)) g (now (table .exit))) ⌝ }
+    ensures { λ g. ⌜ ((ts : List Token) → Stand (now (table .entry)) count ts
+        → Finds ts (now (table .entry)) g (now (table .exit))) ⌝ }
 {
     let parsed = program(table, count, 0, 0, 0);
     match parsed {

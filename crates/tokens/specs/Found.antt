@@ -1,5 +1,5 @@
--- What the answers of this crate's functions say: each of what stands at the place p of the text t, or of the spellings of
--- the tokens that a table w holds. Vocabulary for contracts between the functions; the language does not know it.
+-- What the answers of this crate's functions say: each of what stands at the place p of the text t, or of the spellings
+-- of the tokens that a table w holds. Vocabulary for contracts between the functions; the language does not know it.
 use lib.ListN.{length}
 use lib.Seq.{slice}
 use mathlib.Core.Bool.{Bool, true, false}

@@ -1,5 +1,5 @@
--- What the functions of this crate promise. The text of tokens is said once more here, by the words of a table, for those that
--- know words alone; `write` promises what the language says.
+-- What the functions of this crate promise. The text of tokens is said once more here, by the words of a table, for
+-- those that know words alone; `write` promises what the language says.
 use mathlib.Core.List.{List, [], _∷_, _++_}
 use mathlib.Core.Path.{_≡_}
 use Prim.Native.Char.{code}
@@ -82,7 +82,8 @@ pub record Writable (source w : List ℕ) (count : ℕ) : Type 0 where
 
 -- what is told of a text and left in the output
 abbrev pub Told : List Token → List ℕ → List ℕ → Text → Type 0
-Told ts out out′ (Text.Written n) = Fits ts (length out) × (n ≡ length (written-out ts)) × Front (written-out ts) out out′
+Told ts out out′ (Text.Written n) = Fits ts (length out) × (n ≡ length (written-out ts))
+    × Front (written-out ts) out out′
 Told ts out out′ Text.TooLong = Writing.TooLong ts (length out) × (out′ ≡ out)
 
 pub record WritesOut (source out out′ : List ℕ) (r : Text) : Type 0 where

@@ -11,7 +11,8 @@ use Rattle.language.specs.Text as Text
 use Rattle.language.specs.Trees.{Ty, Program}
 use Rattle.language.specs.Meaning.{type-number}
 use Rattle.language.specs.Numbers.{Refusal, long-source, text, passed, refused}
-use Rattle.language.specs.Answers.{Origin, Spot, nowhere, at, place-in, from-text, Passes, CheckReport, Checked, check-short, check-refused, check-passed, RunReport, Lent, Ending, Ran, run-short, run-large, run-refused, run-ended}
+use Rattle.language.specs.Answers.{Origin, Spot, nowhere, at, place-in, from-text, Passes, CheckReport, Checked, check-short}
+use Rattle.language.specs.Answers.{check-refused, check-passed, RunReport, Lent, Ending, Ran, run-short, run-large, run-refused, run-ended}
 use Rattle.language.proofs.Grammar.NumberThenName.{number-then-name}
 use Rattle.language.proofs.Text.DecimalBefore.{DECIMAL, splits-as-before}
 

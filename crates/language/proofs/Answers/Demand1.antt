@@ -18,8 +18,11 @@ use Rattle.language.specs.Types.{HasType}
 use Rattle.language.specs.Faults.{Reason, HasFault}
 use Rattle.language.specs.State.{Stop, State, Outcome, value, stop, stuck}
 use Rattle.language.specs.Meaning.{run}
-use Rattle.language.specs.Numbers.{Refusal, short-memory, large-allowance, long-source, text, no-reading, types, long-text, Told, passed, refused, stopped}
-use Rattle.language.specs.Answers.{Origin, place-in, too-long, flawed, from-text, unread, faulty, Passes, Refused, by-origin, by-tokens, Ending, ending, CheckReport, Checked, check-short, check-refused, check-passed, Lent, RunReport, Ran, run-short, run-large, run-refused, run-ended}
+use Rattle.language.specs.Numbers.{Refusal, short-memory, large-allowance, long-source, text}
+use Rattle.language.specs.Numbers.{no-reading, types, long-text, Told, passed, refused, stopped}
+use Rattle.language.specs.Answers.{Origin, place-in, too-long, flawed, from-text, unread, faulty, Passes, Refused}
+use Rattle.language.specs.Answers.{by-origin, by-tokens, Ending, ending, CheckReport, Checked, check-short, check-refused}
+use Rattle.language.specs.Answers.{check-passed, Lent, RunReport, Ran, run-short, run-large, run-refused, run-ended}
 use Rattle.language.specs.Writing.{TooLong, WriteReport, Wrote, write-short, write-refused, write-long, write-passed}
 use Rattle.language.proofs.Answers.Endings.{IsRun, is-run}
 

@@ -13,7 +13,8 @@ use Rattle.language.specs.Grammar.{Reading}
 use Rattle.language.specs.Types.{HasType}
 use Rattle.language.specs.Meaning.{type-number}
 use Rattle.language.specs.Numbers.{Refusal, no-reading, passed, refused}
-use Rattle.language.specs.Answers.{Origin, unread, faulty, Passes, Refused, by-origin, by-tokens, CheckReport, Checked, check-short, check-refused, check-passed, Lent, Enough, RunReport, Ran, run-short, run-large, run-refused, run-ended}
+use Rattle.language.specs.Answers.{Origin, unread, faulty, Passes, Refused, by-origin, by-tokens, CheckReport, Checked, check-short}
+use Rattle.language.specs.Answers.{check-refused, check-passed, Lent, Enough, RunReport, Ran, run-short, run-large, run-refused, run-ended}
 use Rattle.language.proofs.Types.TypeNumbers.{one-number}
 use Rattle.language.proofs.Answers.Endings.{IsRun, is-run, some-ending}
 use Rattle.language.proofs.Answers.Origins.{Lawful}

@@ -15,7 +15,8 @@ use Rattle.language.specs.Sizes.{ALLOWANCE, TABLE, WORK}
 use Rattle.language.specs.Tokens.{spell, same, spelled, entry, kind-at, value-at, spelling-at, place-at, Token}
 use Rattle.language.specs.Trees.{Ty, refs, size, nearest, own}
 use Rattle.language.specs.State.{count, held, store, keep, then, choose, when-some, only}
-use Rattle.language.specs.Meaning.{charge, begin, in-range, fit, is-zero, same-int, create, apply-unary, apply-binary, settles, emit, put, literal-value, enter, arguments, invoke, passes, step, eval, functions, run, value-number, type-number}
+use Rattle.language.specs.Meaning.{charge, begin, in-range, fit, is-zero, same-int, create, apply-unary, apply-binary, settles, emit, put}
+use Rattle.language.specs.Meaning.{literal-value, enter, arguments, invoke, passes, step, eval, functions, run, value-number, type-number}
 use Rattle.language.specs.Faults.{unsuited}
 use Rattle.language.specs.Numbers.{short-memory, number}
 use Rattle.language.specs.Answers.{from-text, Ending, ending, RunReport, Lent, refusal, after-run, Ran, run-refused, run-ended}

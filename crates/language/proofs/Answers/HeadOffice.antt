@@ -13,7 +13,8 @@ use Rattle.language.specs.Types.{HasType}
 use Rattle.language.specs.State.{Stop, no-unit, Value, State, Outcome, value, stop, stuck}
 use Rattle.language.specs.Meaning.{run, value-number, type-number}
 use Rattle.language.specs.Numbers.{Told, passed, refused, stopped, number, stop-number}
-use Rattle.language.specs.Answers.{Origin, nowhere, at, Passes, Ending, ended, ending, CheckReport, Checked, check-short, check-refused, check-passed, Check, Lent, Enough, RunReport, after-run, Ran, run-short, run-large, run-refused, run-ended, Run}
+use Rattle.language.specs.Answers.{Origin, nowhere, at, Passes, Ending, ended, ending, CheckReport, Checked, check-short, check-refused}
+use Rattle.language.specs.Answers.{check-passed, Check, Lent, Enough, RunReport, after-run, Ran, run-short, run-large, run-refused, run-ended, Run}
 use Rattle.language.proofs.Meaning.CellTypes.{none-some, some-one}
 use Rattle.language.proofs.Meaning.NeverStuck as NeverStuck
 use Rattle.language.proofs.Meaning.Strict.{strict-run, strict-same}

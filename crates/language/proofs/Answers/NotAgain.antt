@@ -11,7 +11,8 @@ use Rattle.language.specs.Trees.{Program, program-nodes}
 use Rattle.language.specs.Grammar.{Reading}
 use Rattle.language.specs.Faults as Faults
 use Rattle.language.specs.State as State
-use Rattle.language.specs.Numbers.{Refusal, short-memory, large-allowance, long-source, text, no-reading, types, long-text, Told, passed, refused, stopped, number, flaw-number, reason-number, stop-number}
+use Rattle.language.specs.Numbers.{Refusal, short-memory, large-allowance, long-source, text, no-reading, types, long-text}
+use Rattle.language.specs.Numbers.{Told, passed, refused, stopped, number, flaw-number, reason-number, stop-number}
 use Rattle.language.specs.Answers.{Origin}
 use Rattle.language.proofs.Grammar.FewNodes.{never-too-large}
 use Rattle.language.proofs.Answers.Origins.{Lawful}

@@ -11,7 +11,8 @@ use Rattle.language.specs.Grammar.{Reading}
 use Rattle.language.specs.Types.{HasType}
 use Rattle.language.specs.Meaning.{run, type-number}
 use Rattle.language.specs.Numbers.{passed}
-use Rattle.language.specs.Answers.{Origin, Passes, Ending, ending, CheckReport, check-report, Checked, check-passed, Lent, Enough, RunReport, after-run, Ran, run-ended}
+use Rattle.language.specs.Answers.{Origin, Passes, Ending, ending, CheckReport, check-report, Checked}
+use Rattle.language.specs.Answers.{check-passed, Lent, Enough, RunReport, after-run, Ran, run-ended}
 use Rattle.language.proofs.Grammar.OldGrammar.{OldReading, old-reading-reads}
 use Rattle.language.proofs.Grammar.OneReading.{one-reading}
 use Rattle.language.proofs.Answers.Origins.{Lawful}

@@ -13,7 +13,8 @@ use Rattle.language.specs.Tokens.{Token}
 use Rattle.language.specs.Trees.{Ty}
 use Rattle.language.specs.Meaning.{run, type-number}
 use Rattle.language.specs.Numbers.{short-memory, large-allowance, passed, refused}
-use Rattle.language.specs.Answers.{Origin, left, Ending, ending, CheckReport, check-report, Checked, check-short, check-refused, check-passed, Check, RunReport, Lent, Enough, refusal, after-run, Ran, run-short, run-large, run-refused, run-ended, Run}
+use Rattle.language.specs.Answers.{Origin, left, Ending, ending, CheckReport, check-report, Checked, check-short, check-refused, check-passed}
+use Rattle.language.specs.Answers.{Check, RunReport, Lent, Enough, refusal, after-run, Ran, run-short, run-large, run-refused, run-ended, Run}
 use Rattle.language.proofs.Answers.Endings.{some-ending}
 use Rattle.language.proofs.Answers.Origins.{Lawful, Fate, fails, passes, Comes, fate, fate-comes, passes-is, refused-is}
 

@@ -12,7 +12,8 @@ use Rattle.language.specs.Sizes.{SOURCE, TOKENS, LARGEST}
 use Rattle.language.specs.Tokens.{Token, value-at}
 use Rattle.language.specs.Trees.{Ty, Program}
 use Rattle.language.specs.Numbers.{Refusal, text, no-reading, long-text}
-use Rattle.language.specs.Answers.{Origin, place-in, TextDenies, too-long, flawed, TextGives, from-text, Passes, Refused, by-origin, by-tokens, keeps, unread, faulty}
+use Rattle.language.specs.Answers.{Origin, place-in, TextDenies, too-long, flawed, TextGives, from-text}
+use Rattle.language.specs.Answers.{Passes, Refused, by-origin, by-tokens, keeps, unread, faulty}
 use Rattle.language.proofs.Text.Marks.{laws-1}
 use Rattle.language.proofs.Text.OneSplit.{one-split, one-flaw}
 use Rattle.language.proofs.Text.OneSplit as OneSplit

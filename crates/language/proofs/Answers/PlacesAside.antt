@@ -9,7 +9,8 @@ use Rattle.language.specs.Tokens.{Token, past, SameToken, SameButPlaces,
 use Rattle.language.specs.Trees.{Ty, Program}
 use Rattle.language.specs.Grammar.{program}
 use Rattle.language.specs.Numbers.{Refusal}
-use Rattle.language.specs.Answers.{Origin, Spot, nowhere, place-in, Proper, Denied, Passes, by-origin, by-tokens, Lent, RunReport, Ran, run-short, run-large, run-refused, run-ended}
+use Rattle.language.specs.Answers.{Origin, Spot, nowhere, place-in, Proper, Denied, Passes, by-origin, by-tokens}
+use Rattle.language.specs.Answers.{Lent, RunReport, Ran, run-short, run-large, run-refused, run-ended}
 use Rattle.language.proofs.Executable.Parser.{read, parse}
 use Rattle.language.proofs.Executable.Locality.{one-token}
 use Rattle.language.proofs.Executable.Agreement.{agrees}

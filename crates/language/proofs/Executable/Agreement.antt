@@ -4,12 +4,15 @@ use mathlib.Core.List.{List, [], _∷_}
 use Prim.Native.Nat.{ℕ, zero, suc, _+_, _*_, _≤_}
 use native.Mathlib.Omega.{arith}
 use lib.ListN.{length}
-use Rattle.language.specs.Tokens.{Token, NAME, NUMBER, DEF, LET, IN, WHILE, IF, THEN, ELSE, REF, BECOMES, IS, SEMI, COMMA, COLON, LPAR, RPAR, LBRACE, RBRACE}
+use Rattle.language.specs.Tokens.{Token, NAME, NUMBER, DEF, LET, IN, WHILE, IF, THEN, ELSE, REF}
+use Rattle.language.specs.Tokens.{BECOMES, IS, SEMI, COMMA, COLON, LPAR, RPAR, LBRACE, RBRACE}
 use Rattle.language.specs.Trees.{ref, whole, name, literal, binary, block, call, bind}
-use Rattle.language.specs.Grammar.{Tier, Level, or, and, sum, prod, cmp, un, chain, Sym, tier, program, def, formals, params, type, seq, tail, bound, item, assign, atom, actuals, args, part, operators, comparisons, prefixes, constants, basics}
+use Rattle.language.specs.Grammar.{Tier, Level, or, and, sum, prod, cmp, un, chain, Sym, tier, program, def, formals, params, type, seq}
+use Rattle.language.specs.Grammar.{tail, bound, item, assign, atom, actuals, args, part, operators, comparisons, prefixes, constants, basics}
 use Rattle.language.proofs.Executable.Parser.{Goal, read, rest, refs, clause, until, closed, result, entire, step, parse}
 use Rattle.language.proofs.Executable.ParserSound.{right, clause-seq}
-use Rattle.language.proofs.Executable.Locality.{From, same-value, same-spelling, from-down, from-failed, from-got, from-then, from-made, from-past, from-test, from-look, from-need, is-same, means-same, there}
+use Rattle.language.proofs.Executable.Locality.{From, same-value, same-spelling, from-down, from-failed, from-got, from-then}
+use Rattle.language.proofs.Executable.Locality.{from-made, from-past, from-test, from-look, from-need, is-same, means-same, there}
 use Rattle.language.proofs.Grammar.Entries.{every}
 use Rattle.language.proofs.Grammar.FirstTokens.{grows}
 use Rattle.language.proofs.Grammar.Prefixes.{inside, in-table, operator-there, within}

@@ -6,9 +6,11 @@ use Prim.Native.Nat.{ℕ}
 use native.Mathlib.Decide.{decLt, decLe, ℕ-discrete}
 use lib.ListN.{length}
 use Rattle.language.specs.Sizes.{REFS, PARAMETERS, FUNCTIONS}
-use Rattle.language.specs.Trees.{Ty, int, bool, unit, refs, Ty-discrete, Literal, whole, truth, trivial, Exp, name, literal, unary, binary, follow, group, block, call, bind, branch, loop, Exps, last, more, Param, Def, Program, Scope, empty, push, nearest, size}
+use Rattle.language.specs.Trees.{Ty, int, bool, unit, refs, Ty-discrete, Literal, whole, truth, trivial, Exp, name, literal, unary, binary, follow}
+use Rattle.language.specs.Trees.{group, block, call, bind, branch, loop, Exps, last, more, Param, Def, Program, Scope, empty, push, nearest, size}
 use Rattle.language.specs.Types.{Sig, with-def, given}
-use Rattle.language.specs.Faults.{Reason, no-binding, no-function, wrong-number, wrong-argument, wrong-operands, not-unit, not-bool, branches-differ, wrong-body, too-many-refs, too-many-functions, too-many-parameters, function-twice, parameter-twice, unsuited}
+use Rattle.language.specs.Faults.{Reason, no-binding, no-function, wrong-number, wrong-argument, wrong-operands, not-unit, not-bool, branches-differ}
+use Rattle.language.specs.Faults.{wrong-body, too-many-refs, too-many-functions, too-many-parameters, function-twice, parameter-twice, unsuited}
 use Rattle.language.proofs.Executable.Checks.{Res, ok, bad, after, told, need}
 use Rattle.language.proofs.Executable.Operators.{unop, binop}
 

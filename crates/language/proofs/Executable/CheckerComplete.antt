@@ -5,8 +5,14 @@ use mathlib.Core.Option.{Option, none, some}
 use Prim.Native.Nat.{ℕ}
 use native.Mathlib.Omega.{arith}
 use Rattle.language.specs.Trees.{Ty, Exp, Exps, Param, Def, Program, Scope}
-use Rattle.language.specs.Types.{Sig, Typed, t-name, t-whole, t-truth, t-trivial, t-unary, t-binary, t-follow, t-group, t-block, t-call, t-bind, t-branch, t-loop, TypedAll, t-last, t-more, Takes, takes-none, takes-more, with-def, Fine, fine, TypedFrom, typed-main, typed-def, HasType}
-use Rattle.language.specs.Faults.{Reason, Fault, f-name, f-unary, f-unary-here, f-left, f-right, f-binary-here, f-first, f-second, f-follow-here, f-group, f-block, f-arguments, f-no-function, f-wrong-number, f-wrong-argument, f-bound, f-inside, f-if, f-then, f-else, f-if-here, f-branches-here, f-while, f-do, f-while-here, f-do-here, FaultAll, f-one, f-rest, FaultTakes, p-ninth, p-twice, p-refs, p-later, FaultDef, d-many, d-twice, d-params, d-refs, d-body, d-type, FaultFrom, fault-main, fault-here, fault-later, HasFault}
+use Rattle.language.specs.Types.{Sig, Typed, t-name, t-whole, t-truth, t-trivial, t-unary, t-binary, t-follow, t-group}
+use Rattle.language.specs.Types.{t-block, t-call, t-bind, t-branch, t-loop, TypedAll, t-last, t-more, Takes, takes-none}
+use Rattle.language.specs.Types.{takes-more, with-def, Fine, fine, TypedFrom, typed-main, typed-def, HasType}
+use Rattle.language.specs.Faults.{Reason, Fault, f-name, f-unary, f-unary-here, f-left, f-right, f-binary-here, f-first, f-second}
+use Rattle.language.specs.Faults.{f-follow-here, f-group, f-block, f-arguments, f-no-function, f-wrong-number, f-wrong-argument}
+use Rattle.language.specs.Faults.{f-bound, f-inside, f-if, f-then, f-else, f-if-here, f-branches-here, f-while, f-do, f-while-here}
+use Rattle.language.specs.Faults.{f-do-here, FaultAll, f-one, f-rest, FaultTakes, p-ninth, p-twice, p-refs, p-later, FaultDef, d-many}
+use Rattle.language.specs.Faults.{d-twice, d-params, d-refs, d-body, d-type, FaultFrom, fault-main, fault-here, fault-later, HasFault}
 use Rattle.language.proofs.Executable.Checks.{Res, ok, bad, after-ok, after-bad, told-some, told-none, need-yes, need-no}
 use Rattle.language.proofs.Executable.Operators.{decided, undecided, unop-is, binop-is}
 use Rattle.language.proofs.Executable.Checker.{literal-type, unbound, infer, infers, take-params, check-def, check-from, check}

@@ -4,9 +4,16 @@ use mathlib.Core.List.{List, [], _∷_}
 use mathlib.Core.Option.{Option, none, some}
 use Prim.Native.Nat.{ℕ}
 use native.Mathlib.Omega.{arith}
-use Rattle.language.specs.Trees.{Ty, Unary, Binary, Literal, whole, truth, trivial, Exp, name, literal, unary, binary, follow, group, block, call, bind, branch, loop, Exps, last, more, Param, Def, Program, Scope, empty, push, nearest}
-use Rattle.language.specs.Types.{Sig, UnopType, BinopType, Typed, t-name, t-whole, t-truth, t-trivial, t-unary, t-binary, t-follow, t-group, t-block, t-call, t-bind, t-branch, t-loop, TypedAll, t-last, t-more, Takes, takes-none, takes-more, with-def, Fine, fine, TypedFrom, typed-main, typed-def, given, HasType}
-use Rattle.language.specs.Faults.{Reason, Fault, f-name, f-unary, f-unary-here, f-left, f-right, f-binary-here, f-first, f-second, f-follow-here, f-group, f-block, f-arguments, f-no-function, f-wrong-number, f-wrong-argument, f-bound, f-inside, f-if, f-then, f-else, f-if-here, f-branches-here, f-while, f-do, f-while-here, f-do-here, FaultAll, f-one, f-rest, FaultTakes, p-ninth, p-twice, p-refs, p-later, FaultDef, d-many, d-twice, d-params, d-refs, d-body, d-type, FaultFrom, fault-main, fault-here, fault-later, HasFault}
+use Rattle.language.specs.Trees.{Ty, Unary, Binary, Literal, whole, truth, trivial, Exp, name, literal, unary, binary, follow, group}
+use Rattle.language.specs.Trees.{block, call, bind, branch, loop, Exps, last, more, Param, Def, Program, Scope, empty, push, nearest}
+use Rattle.language.specs.Types.{Sig, UnopType, BinopType, Typed, t-name, t-whole, t-truth, t-trivial, t-unary, t-binary}
+use Rattle.language.specs.Types.{t-follow, t-group, t-block, t-call, t-bind, t-branch, t-loop, TypedAll, t-last, t-more, Takes}
+use Rattle.language.specs.Types.{takes-none, takes-more, with-def, Fine, fine, TypedFrom, typed-main, typed-def, given, HasType}
+use Rattle.language.specs.Faults.{Reason, Fault, f-name, f-unary, f-unary-here, f-left, f-right, f-binary-here, f-first, f-second}
+use Rattle.language.specs.Faults.{f-follow-here, f-group, f-block, f-arguments, f-no-function, f-wrong-number, f-wrong-argument}
+use Rattle.language.specs.Faults.{f-bound, f-inside, f-if, f-then, f-else, f-if-here, f-branches-here, f-while, f-do, f-while-here}
+use Rattle.language.specs.Faults.{f-do-here, FaultAll, f-one, f-rest, FaultTakes, p-ninth, p-twice, p-refs, p-later, FaultDef, d-many}
+use Rattle.language.specs.Faults.{d-twice, d-params, d-refs, d-body, d-type, FaultFrom, fault-main, fault-here, fault-later, HasFault}
 use Rattle.language.proofs.Executable.Checks.{Res, Says, says, faults, says-after, says-told, says-need, says-map}
 use Rattle.language.proofs.Executable.Operators.{unop, binop, Decides, decides-some, decides-none, unop-is, binop-is}
 use Rattle.language.proofs.Executable.Checker.{literal-type, unbound, infer, infers, take-params, check-def, check-from, check}

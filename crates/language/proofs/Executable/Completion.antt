@@ -7,7 +7,8 @@ use Rattle.language.specs.Grammar.{cmp, un, chain, tier, program, def, f
 use Rattle.language.proofs.Executable.Parser.{Goal, read, rest, refs, clause, until, closed, result, entire, step, parse}
 use Rattle.language.proofs.Executable.Failing.{Fails, fails, Stop, Able, anew}
 use Rattle.language.proofs.Executable.FailingPrograms.{at-program, at-def, at-formals, at-params, at-type, at-refs, at-result, at-entire}
-use Rattle.language.proofs.Executable.FailingExpressions.{at-seq, at-tail, at-bound, at-item, at-clause, at-assign, at-chain, at-cmp, at-un, at-rest, at-until}
+use Rattle.language.proofs.Executable.FailingExpressions.{at-seq, at-tail, at-bound, at-item, at-clause}
+use Rattle.language.proofs.Executable.FailingExpressions.{at-assign, at-chain, at-cmp, at-un, at-rest, at-until}
 use Rattle.language.proofs.Executable.FailingAtoms.{at-atom, at-actuals, at-args, at-closed}
 
 module _ (ts : List Token) where

@@ -12,7 +12,8 @@ use Rattle.language.proofs.Executable.Parser.{read, until, closed, step
 use Rattle.language.proofs.Executable.ParserSound.{right, at}
 use Rattle.language.proofs.Executable.Locality.{there}
 use Rattle.language.proofs.Executable.Fresh.{to-group, to-block, close, close-actuals}
-use Rattle.language.proofs.Executable.Failing.{Fails, fine, fails-same, fails-made, fails-past, fails-then, fails-test, fails-look, fails-need, Stop, Able, stop, anew, last, more}
+use Rattle.language.proofs.Executable.Failing.{Fails, fine, fails-same, fails-made, fails-past, fails-then}
+use Rattle.language.proofs.Executable.Failing.{fails-test, fails-look, fails-need, Stop, Able, stop, anew, last, more}
 
 module _ (ts : List Token) (h : ℕ) (ih : Able ts h) where
   pub at-atom : (i : ℕ) → i ≤ length ts → Fails (Stop ts (read atom) i) (step ts (parse ts h) (read atom) i)

@@ -5,15 +5,18 @@ use native.Mathlib.Omega.{arith}
 use lib.ListN.{length}
 use Rattle.language.specs.Tokens.{Token, NAME, NUMBER, DEF, REF, INT, COMMA, COLON, LPAR, RPAR, LBRACE, RBRACE}
 use Rattle.language.specs.Trees.{Ty, ref}
-use Rattle.language.specs.Grammar.{program, def, formals, params, type, seq, basics, program-seq, program-def, params-one, params-more, type-basic, type-ref}
+use Rattle.language.specs.Grammar.{program, def, formals, params, type, seq, basics, program-seq}
+use Rattle.language.specs.Grammar.{program-def, params-one, params-more, type-basic, type-ref}
 use Rattle.language.proofs.Grammar.Entries.{every}
 use Rattle.language.proofs.Grammar.FirstTokens.{grows}
 use Rattle.language.proofs.Grammar.Prefixes.{inside, in-table, within, kept-at, kept-means, kept}
 use Rattle.language.proofs.Executable.Parser.{read, refs, until, result, entire, step, parse}
 use Rattle.language.proofs.Executable.ParserSound.{right, at}
 use Rattle.language.proofs.Executable.Locality.{there}
-use Rattle.language.proofs.Executable.Fresh.{ended, to-def, close, close-formals, fresh-until, fresh-body, fresh-open, fresh-name, fresh-colon, fresh-fits}
-use Rattle.language.proofs.Executable.Failing.{Fails, fails, fine, fails-same, fails-made, fails-past, fails-then, fails-test, fails-look, fails-need, Stop, Able, stop, anew, last, more, to-end}
+use Rattle.language.proofs.Executable.Fresh.{ended, to-def, close, close-formals, fresh-until}
+use Rattle.language.proofs.Executable.Fresh.{fresh-body, fresh-open, fresh-name, fresh-colon, fresh-fits}
+use Rattle.language.proofs.Executable.Failing.{Fails, fails, fine, fails-same, fails-made, fails-past, fails-then, fails-test}
+use Rattle.language.proofs.Executable.Failing.{fails-look, fails-need, Stop, Able, stop, anew, last, more, to-end}
 
 module _ (ts : List Token) (h : ℕ) (ih : Able ts h) where
   pub at-program : (i : ℕ) → i ≤ length ts → Fails (Stop ts (read program) i) (step ts (parse ts h) (read program) i)

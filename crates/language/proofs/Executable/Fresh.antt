@@ -5,7 +5,10 @@ use Prim.Native.Nat.{ℕ, _+_}
 use native.Mathlib.Omega.{arith}
 use Rattle.language.specs.Tokens.{Token, At, entry, NAME, NUMBER, DEF, LET, IN, WHILE, IF, THEN, ELSE, INT, IS, COLON, LPAR, RPAR, LBRACE, RBRACE}
 use Rattle.language.specs.Trees.{Exp, int}
-use Rattle.language.specs.Grammar.{Tier, cmp, un, chain, or, and, sum, prod, Sym, tier, program, def, formals, params, type, seq, tail, bound, item, assign, atom, actuals, args, Reads, program-seq, def-is, formals-none, formals-some, params-one, type-basic, seq-tail, seq-item, tail-let, tail-if, let-in, item-if, item-while, item-assign, assign-one, chain-one, cmp-one, un-atom, atom-number, atom-group, atom-block, actuals-none, actuals-some, args-one}
+use Rattle.language.specs.Grammar.{Tier, cmp, un, chain, or, and, sum, prod, Sym, tier, program, def, formals, params, type, seq, tail, bound}
+use Rattle.language.specs.Grammar.{item, assign, atom, actuals, args, Reads, program-seq, def-is, formals-none, formals-some, params-one}
+use Rattle.language.specs.Grammar.{type-basic, seq-tail, seq-item, tail-let, tail-if, let-in, item-if, item-while, item-assign, assign-one}
+use Rattle.language.specs.Grammar.{chain-one, cmp-one, un-atom, atom-number, atom-group, atom-block, actuals-none, actuals-some, args-one}
 use Rattle.language.proofs.Executable.Parser.{Goal, read, rest, refs, clause, until, closed, result, entire}
 use Rattle.language.proofs.Grammar.Prefixes.{Spans}
 

@@ -4,7 +4,8 @@ use mathlib.Core.Option.{Option, none, some}
 use Prim.Native.Nat.{_<_}
 use native.Mathlib.Decide.{decLt}
 use Rattle.language.specs.Sizes.{REFS}
-use Rattle.language.specs.Trees.{Ty, int, bool, unit, ref, refs, Ty-discrete, Unary, minus, not, fetch, new, Binary, add, sub, mul, div, less, equal, and, or, assign}
+use Rattle.language.specs.Trees.{Ty, int, bool, unit, ref, refs, Ty-discrete, Unary, minus, not}
+use Rattle.language.specs.Trees.{fetch, new, Binary, add, sub, mul, div, less, equal, and, or, assign}
 use Rattle.language.specs.Types.{UnopType, u-minus, u-not, u-fetch, u-new, BinopType, b-add, b-sub, b-mul, b-div, b-less, b-equal, b-and, b-or, b-assign}
 
 -- t if the statement holds

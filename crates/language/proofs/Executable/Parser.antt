@@ -6,9 +6,12 @@ use mathlib.Core.Option.{Option}
 use Prim.Native.Nat.{ℕ, zero, suc, _+_, _*_}
 use lib.ListN.{length}
 use lib.Dec.{eqb}
-use Rattle.language.specs.Tokens.{Token, Entry, kind-at, value-at, spelling-at, entry, NAME, NUMBER, DEF, LET, IN, WHILE, IF, THEN, ELSE, REF, BECOMES, IS, SEMI, COMMA, COLON, LPAR, RPAR, LBRACE, RBRACE}
-use Rattle.language.specs.Trees.{Ty, ref, whole, Binary, Exp, name, literal, unary, binary, follow, group, block, call, bind, branch, loop, Exps, last, more, Program}
-use Rattle.language.specs.Grammar.{Level, or, sum, cmp, un, chain, Sym, Of, tier, program, def, formals, params, type, seq, tail, bound, item, assign, atom, actuals, args, part, operators, comparisons, prefixes, constants, basics, param, define, before}
+use Rattle.language.specs.Tokens.{Token, Entry, kind-at, value-at, spelling-at, entry, NAME, NUMBER, DEF, LET, IN, WHILE}
+use Rattle.language.specs.Tokens.{IF, THEN, ELSE, REF, BECOMES, IS, SEMI, COMMA, COLON, LPAR, RPAR, LBRACE, RBRACE}
+use Rattle.language.specs.Trees.{Ty, ref, whole, Binary, Exp, name, literal, unary, binary, follow}
+use Rattle.language.specs.Trees.{group, block, call, bind, branch, loop, Exps, last, more, Program}
+use Rattle.language.specs.Grammar.{Level, or, sum, cmp, un, chain, Sym, Of, tier, program, def, formals, params, type, seq, tail, bound, item}
+use Rattle.language.specs.Grammar.{assign, atom, actuals, args, part, operators, comparisons, prefixes, constants, basics, param, define, before}
 use Rattle.language.proofs.Executable.Parses.{Result, failed, got, made, made-past, then, test, look, need}
 
 -- what a step can ask for

@@ -7,7 +7,8 @@ use native.Mathlib.Omega.{arith}
 use borrow.Author.Tests.{eq-eqb}
 use Rattle.language.specs.Tokens.{Token, At, entry, kind-at, THEN, ELSE, IF, REF, SEMI, COLON, RPAR, LBRACE}
 use Rattle.language.specs.Trees.{Ty, Exp, branch, Exps}
-use Rattle.language.specs.Grammar.{cmp, un, Of, tier, Level, or, and, sum, prod, Sym, program, def, formals, params, type, seq, tail, bound, item, assign, atom, actuals, args, chain, part, Reads}
+use Rattle.language.specs.Grammar.{cmp, un, Of, tier, Level, or, and, sum, prod, Sym, program, def, formals, params}
+use Rattle.language.specs.Grammar.{type, seq, tail, bound, item, assign, atom, actuals, args, chain, part, Reads}
 use Rattle.language.proofs.Executable.Parses.{Result, got, then, test, look, need}
 use Rattle.language.proofs.Executable.Parser.{Goal, Answer, read, rest, refs, clause, until, closed, result, step, parse}
 use Rattle.language.proofs.Grammar.FirstTokens.{pull, depth, ends, no-operator, apart, grows}

@@ -5,10 +5,15 @@ use Prim.Native.Nat.{ℕ, _+_, _*_, _-_, _≤_}
 use native.Mathlib.Omega.{arith}
 use Rattle.language.specs.Tokens.{Token, At, entry, kind-at, IN, DEF, LET, WHILE, IF, BECOMES, COMMA, LPAR, RPAR, LBRACE, RBRACE}
 use Rattle.language.specs.Trees.{Exp, Def}
-use Rattle.language.specs.Grammar.{cmp, un, Of, tier, Sym, program, def, formals, params, type, seq, bound, assign, atom, actuals, args, chain, Reads, program-seq, program-def, def-is, formals-none, formals-some, params-one, params-more, type-basic, type-ref, seq-tail, seq-item, seq-more, tail-let, tail-if, let-in, item-if, item-while, item-assign, assign-one, assign-to, chain-one, chain-more, cmp-one, cmp-two, un-prefix, un-atom, atom-name, atom-call, atom-number, atom-constant, atom-group, atom-block, actuals-none, actuals-some, args-one, args-more}
+use Rattle.language.specs.Grammar.{cmp, un, Of, tier, Sym, program, def, formals, params, type, seq, bound, assign, atom, actuals, args, chain}
+use Rattle.language.specs.Grammar.{Reads, program-seq, program-def, def-is, formals-none, formals-some, params-one, params-more, type-basic}
+use Rattle.language.specs.Grammar.{type-ref, seq-tail, seq-item, seq-more, tail-let, tail-if, let-in, item-if, item-while, item-assign}
+use Rattle.language.specs.Grammar.{assign-one, assign-to, chain-one, chain-more, cmp-one, cmp-two, un-prefix, un-atom, atom-name, atom-call}
+use Rattle.language.specs.Grammar.{atom-number, atom-constant, atom-group, atom-block, actuals-none, actuals-some, args-one, args-more}
 use Rattle.language.proofs.Executable.Parses.{then, test, look, need}
 use Rattle.language.proofs.Executable.Parser.{read, rest, refs, clause, step}
-use Rattle.language.proofs.Grammar.FirstTokens.{pull, opens, ends-part, operator-pulls, comparison-pulls, no-comparison, no-prefix, apart, pull-most, grows, starts}
+use Rattle.language.proofs.Grammar.FirstTokens.{pull, opens, ends-part, operator-pulls, comparison-pulls}
+use Rattle.language.proofs.Grammar.FirstTokens.{no-comparison, no-prefix, apart, pull-most, grows, starts}
 use Rattle.language.proofs.Executable.ParserClaims.{rank-low, Found, Claim, run, plain, finds-until, finds-result, finds-closed, finds-seq, finds-if}
 
 -- What the induction gives of a part goes through here. The function stays shut, so that the check does not compute the

@@ -7,9 +7,14 @@ use lib.ListN.{length}
 use borrow.Author.Tests.{eqb-true, eqb-false}
 use Rattle.language.specs.Tokens.{Token, At, kind-at, IN, IF, THEN, ELSE, SEMI, COLON, RPAR, LBRACE, RBRACE}
 use Rattle.language.specs.Trees.{ref, Exp, binary, branch, Program}
-use Rattle.language.specs.Grammar.{cmp, un, tier, or, sum, program, def, formals, params, type, seq, tail, bound, item, assign, atom, actuals, args, chain, part, Reads, program-seq, program-def, def-is, formals-none, formals-some, params-one, params-more, type-basic, type-ref, seq-tail, seq-item, seq-more, tail-let, tail-if, let-in, item-if, item-while, item-assign, assign-one, assign-to, chain-one, cmp-one, cmp-two, un-prefix, un-atom, atom-name, atom-call, atom-number, atom-constant, atom-group, atom-block, actuals-none, actuals-some, args-one, args-more, Reading}
+use Rattle.language.specs.Grammar.{cmp, un, tier, or, sum, program, def, formals, params, type, seq, tail, bound, item, assign, atom, actuals}
+use Rattle.language.specs.Grammar.{args, chain, part, Reads, program-seq, program-def, def-is, formals-none, formals-some, params-one, params-more}
+use Rattle.language.specs.Grammar.{type-basic, type-ref, seq-tail, seq-item, seq-more, tail-let, tail-if, let-in, item-if, item-while, item-assign}
+use Rattle.language.specs.Grammar.{assign-one, assign-to, chain-one, cmp-one, cmp-two, un-prefix, un-atom, atom-name, atom-call, atom-number}
+use Rattle.language.specs.Grammar.{atom-constant, atom-group, atom-block, actuals-none, actuals-some, args-one, args-more, Reading}
 use Rattle.language.proofs.Grammar.Association.{on-the-left}
-use Rattle.language.proofs.Executable.Parses.{Result, got, All, nothing, this, all-got, all-same, all-made, all-made-past, all-then, all-test, all-look, all-need}
+use Rattle.language.proofs.Executable.Parses.{Result, got, All, nothing, this, all-got, all-same, all-made}
+use Rattle.language.proofs.Executable.Parses.{all-made-past, all-then, all-test, all-look, all-need}
 use Rattle.language.proofs.Executable.Parser.{Goal, Answer, read, rest, refs, clause, until, closed, result, entire, is, step, parse, answer}
 
 module _ (ts : List Token) where

@@ -7,8 +7,10 @@ use mathlib.Core.Option.{none}
 use Prim.Native.Nat.{ℕ, zero, suc, _+_, _≤_}
 use native.Mathlib.Omega.{arith}
 use borrow.Author.Tests.{eq-eqb}
-use Rattle.language.specs.Tokens.{Token, At, Means, entry, kind-at, value-at, spelling-at, NAME, NUMBER, LET, IN, WHILE, IF, THEN, ELSE, BECOMES, IS, SEMI, COMMA, LPAR, RPAR, LBRACE, RBRACE}
-use Rattle.language.specs.Trees.{Literal, whole, Unary, Binary, Exp, name, literal, unary, binary, follow, group, block, call, bind, branch, loop, Exps, last, more}
+use Rattle.language.specs.Tokens.{Token, At, Means, entry, kind-at, value-at, spelling-at, NAME, NUMBER, LET, IN}
+use Rattle.language.specs.Tokens.{WHILE, IF, THEN, ELSE, BECOMES, IS, SEMI, COMMA, LPAR, RPAR, LBRACE, RBRACE}
+use Rattle.language.specs.Trees.{Literal, whole, Unary, Binary, Exp, name, literal, unary, binary}
+use Rattle.language.specs.Trees.{follow, group, block, call, bind, branch, loop, Exps, last, more}
 use Rattle.language.specs.Grammar.{or, un, chain, tier, seq, bound, assign, atom, actuals, args, prefixes, constants}
 use Rattle.language.proofs.Executable.Parses.{Result, failed, got, made, made-past, then, test, look, need}
 use Rattle.language.proofs.Executable.Parser.{read, clause, until, closed, is, step, parse}

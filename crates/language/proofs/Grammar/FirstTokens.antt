@@ -8,9 +8,15 @@ use Prim.Native.Nat.{ℕ, _≤_, _<_}
 use native.Mathlib.Omega.{arith}
 use lib.Dec.{T, eqb, leb, leb→le, eqb→eq}
 use borrow.Author.Tests.{ne-eqb}
-use Rattle.language.specs.Tokens.{Token, Entry, _is_, At, entry, kind-at, NAME, NUMBER, DEF, LET, WHILE, IF, REF, NOT, TRUE, FALSE, TT, PLUS, MINUS, STAR, SLASH, AND, OR, LESS, EQUAL, BECOMES, BANG, SEMI, COMMA, LPAR, LBRACE}
+use Rattle.language.specs.Tokens.{Token, Entry, _is_, At, entry, kind-at, NAME, NUMBER, DEF, LET, WHILE, IF, REF, NOT, TRUE, FALSE}
+use Rattle.language.specs.Tokens.{TT, PLUS, MINUS, STAR, SLASH, AND, OR, LESS, EQUAL, BECOMES, BANG, SEMI, COMMA, LPAR, LBRACE}
 use Rattle.language.specs.Trees.{Literal, Unary, Binary}
-use Rattle.language.specs.Grammar.{Of, tier, Level, or, and, sum, prod, Sym, program, def, formals, params, type, seq, tail, bound, item, assign, cmp, un, atom, actuals, args, chain, part, operators, comparisons, prefixes, constants, Reads, program-seq, program-def, def-is, formals-none, formals-some, params-one, params-more, type-basic, type-ref, seq-tail, seq-item, seq-more, tail-let, tail-if, let-in, item-if, item-while, item-assign, assign-one, assign-to, chain-one, chain-more, cmp-one, cmp-two, un-prefix, un-atom, atom-name, atom-call, atom-number, atom-constant, atom-group, atom-block, actuals-none, actuals-some, args-one, args-more}
+use Rattle.language.specs.Grammar.{Of, tier, Level, or, and, sum, prod, Sym, program, def, formals, params, type, seq, tail, bound, item}
+use Rattle.language.specs.Grammar.{assign, cmp, un, atom, actuals, args, chain, part, operators, comparisons, prefixes, constants, Reads}
+use Rattle.language.specs.Grammar.{program-seq, program-def, def-is, formals-none, formals-some, params-one, params-more, type-basic}
+use Rattle.language.specs.Grammar.{type-ref, seq-tail, seq-item, seq-more, tail-let, tail-if, let-in, item-if, item-while, item-assign}
+use Rattle.language.specs.Grammar.{assign-one, assign-to, chain-one, chain-more, cmp-one, cmp-two, un-prefix, un-atom, atom-name, atom-call}
+use Rattle.language.specs.Grammar.{atom-number, atom-constant, atom-group, atom-block, actuals-none, actuals-some, args-one, args-more}
 use Rattle.language.proofs.Grammar.Entries.{every, entry-passes, found-nothing}
 
 -- ---- the numbers

@@ -11,7 +11,11 @@ use lib.ListN.{length}
 use borrow.Author.Tests.{eq-eqb}
 use Rattle.language.specs.Tokens.{Token, Entry, At, kind-at, entry, NAME, NUMBER}
 use Rattle.language.specs.Trees.{Program, Def, Binary}
-use Rattle.language.specs.Grammar.{Of, Sym, def, Level, or, and, sum, prod, operators, comparisons, prefixes, Reading, Reads, program-seq, program-def, def-is, formals-none, formals-some, params-one, params-more, type-basic, type-ref, seq-tail, seq-item, seq-more, tail-let, tail-if, let-in, item-if, item-while, item-assign, assign-one, assign-to, chain-one, chain-more, cmp-one, cmp-two, un-prefix, un-atom, atom-name, atom-call, atom-number, atom-constant, atom-group, atom-block, actuals-none, actuals-some, args-one, args-more}
+use Rattle.language.specs.Grammar.{Of, Sym, def, Level, or, and, sum, prod, operators, comparisons, prefixes, Reading, Reads, program-seq}
+use Rattle.language.specs.Grammar.{program-def, def-is, formals-none, formals-some, params-one, params-more, type-basic, type-ref}
+use Rattle.language.specs.Grammar.{seq-tail, seq-item, seq-more, tail-let, tail-if, let-in, item-if, item-while, item-assign, assign-one}
+use Rattle.language.specs.Grammar.{assign-to, chain-one, chain-more, cmp-one, cmp-two, un-prefix, un-atom, atom-name, atom-call}
+use Rattle.language.specs.Grammar.{atom-number, atom-constant, atom-group, atom-block, actuals-none, actuals-some, args-one, args-more}
 use Rattle.language.proofs.Grammar.Entries.{every, entry-passes}
 use Rattle.language.proofs.Grammar.Prefixes.{inside}
 use Rattle.language.proofs.Text.Choices.{either}

@@ -5,9 +5,12 @@ use mathlib.Core.List.{List, []}
 use mathlib.Core.Logic.{_↔_}
 use Prim.Native.Nat.{ℕ, _+_}
 use lib.ListN.{length}
-use Rattle.language.specs.Tokens.{Token, At, Means, value-at, spelling-at, NAME, NUMBER, DEF, LET, IN, WHILE, IF, THEN, ELSE, BECOMES, IS, SEMI, COMMA, COLON, LPAR, RPAR, LBRACE, RBRACE}
-use Rattle.language.specs.Trees.{Ty, Literal, whole, Unary, Binary, Exp, name, literal, unary, binary, follow, group, block, call, bind, branch, loop, Exps, last, more, Param, Def, Program}
-use Rattle.language.specs.Grammar.{Level, or, sum, cmp, un, chain, Sym, Of, tier, program, def, formals, params, type, seq, tail, bound, item, assign, atom, actuals, args, part, operators, comparisons, prefixes, constants, define, before, Reads, Reading}
+use Rattle.language.specs.Tokens.{Token, At, Means, value-at, spelling-at, NAME, NUMBER, DEF, LET, IN, WHILE}
+use Rattle.language.specs.Tokens.{IF, THEN, ELSE, BECOMES, IS, SEMI, COMMA, COLON, LPAR, RPAR, LBRACE, RBRACE}
+use Rattle.language.specs.Trees.{Ty, Literal, whole, Unary, Binary, Exp, name, literal, unary, binary, follow}
+use Rattle.language.specs.Trees.{group, block, call, bind, branch, loop, Exps, last, more, Param, Def, Program}
+use Rattle.language.specs.Grammar.{Level, or, sum, cmp, un, chain, Sym, Of, tier, program, def, formals, params, type, seq, tail, bound, item}
+use Rattle.language.specs.Grammar.{assign, atom, actuals, args, part, operators, comparisons, prefixes, constants, define, before, Reads, Reading}
 use Rattle.language.specs.Grammar as Now
 
 pub data OldReads (ts : List Token) : (s : Sym) → ℕ → ℕ → Of s → Type 0 where

@@ -4,7 +4,8 @@ use mathlib.Core.List.{List, [], _∷_, _++_}
 use Prim.Native.Nat.{ℕ, _+_}
 use native.Mathlib.Omega.{arith}
 use lib.ListN.{length, length-append}
-use Rattle.language.specs.Trees.{Literal, whole, truth, trivial, Exp, name, literal, unary, binary, follow, group, block, call, bind, branch, loop, Exps, last, more, own, Def, Program, nodes, all-nodes, def-nodes, program-nodes}
+use Rattle.language.specs.Trees.{Literal, whole, truth, trivial, Exp, name, literal, unary, binary, follow, group, block, call, bind}
+use Rattle.language.specs.Trees.{branch, loop, Exps, last, more, own, Def, Program, nodes, all-nodes, def-nodes, program-nodes}
 
 -- ---- what a node takes
 

@@ -8,7 +8,11 @@ use lib.ListN.{length, List·getD-eq-default}
 use lib.Dec.{T, ltb, ltb→lt}
 use Rattle.language.specs.Tokens.{Token, Entry, past, At, Means, kind-at, entry}
 use Rattle.language.specs.Trees.{Binary}
-use Rattle.language.specs.Grammar.{Of, Sym, Level, or, and, sum, prod, operators, comparisons, prefixes, constants, basics, Reads, program-seq, program-def, def-is, formals-none, formals-some, params-one, params-more, type-basic, type-ref, seq-tail, seq-item, seq-more, tail-let, tail-if, let-in, item-if, item-while, item-assign, assign-one, assign-to, chain-one, chain-more, cmp-one, cmp-two, un-prefix, un-atom, atom-name, atom-call, atom-number, atom-constant, atom-group, atom-block, actuals-none, actuals-some, args-one, args-more}
+use Rattle.language.specs.Grammar.{Of, Sym, Level, or, and, sum, prod, operators, comparisons, prefixes, constants, basics, Reads}
+use Rattle.language.specs.Grammar.{program-seq, program-def, def-is, formals-none, formals-some, params-one, params-more, type-basic}
+use Rattle.language.specs.Grammar.{type-ref, seq-tail, seq-item, seq-more, tail-let, tail-if, let-in, item-if, item-while, item-assign}
+use Rattle.language.specs.Grammar.{assign-one, assign-to, chain-one, chain-more, cmp-one, cmp-two, un-prefix, un-atom, atom-name, atom-call}
+use Rattle.language.specs.Grammar.{atom-number, atom-constant, atom-group, atom-block, actuals-none, actuals-some, args-one, args-more}
 use Rattle.language.proofs.Grammar.Entries.{every, entry-passes}
 use Rattle.language.proofs.Grammar.FirstTokens.{grows}
 

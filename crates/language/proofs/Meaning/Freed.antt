@@ -8,7 +8,8 @@ use lib.Dec.{eqb, leb}
 use borrow.Author.Tests.{leb-true, ne-eqb}
 use Rattle.language.specs.Sizes.{CELLS, BYTE}
 use Rattle.language.specs.Trees.{Exp, block, Scope}
-use Rattle.language.specs.State.{Value, Cells, no-cell, live, count, held, store, keep, State, with-units, with-cells, with-birth, with-byte, Outcome, value, stop, stuck, then}
+use Rattle.language.specs.State.{Value, Cells, no-cell, live, count, held, store, keep, State, with-units}
+use Rattle.language.specs.State.{with-cells, with-birth, with-byte, Outcome, value, stop, stuck, then}
 use Rattle.language.specs.Meaning.{Env, charge, begin, Fun, step, eval}
 use Rattle.language.proofs.Meaning.CellTypes.{none-some}
 use Rattle.language.proofs.Meaning.Keeping.{Keeps, Closed, keeps-any}

@@ -9,9 +9,13 @@ use lib.IntN.{ℤ, pos, negsuc}
 use borrow.Author.Tests.{leb-true, ltb-true}
 use Rattle.language.specs.Sizes.{ACTIVE, CELLS, BYTE}
 use Rattle.language.specs.Tokens.{same}
-use Rattle.language.specs.Trees.{Name, Unary, minus, not, fetch, new, Binary, add, sub, mul, div, less, equal, and, or, assign, Exp, name, literal, unary, binary, follow, group, block, call, bind, branch, loop, Exps, last, more, own, Param, Def, Program, Scope, empty, push, nearest}
-use Rattle.language.specs.State.{Stop, Value, count, store, keep, State, with-units, with-cells, with-birth, with-byte, Outcome, value, stop, stuck, then, choose, when-some, want}
-use Rattle.language.specs.Meaning.{Env, charge, begin, fit, create, apply-unary, apply-binary, emit, put, Fun, putchar, defined, enter, arguments, invoke, passes, step, eval, functions, start, run}
+use Rattle.language.specs.Trees.{Name, Unary, minus, not, fetch, new, Binary, add, sub, mul, div, less, equal, and, or}
+use Rattle.language.specs.Trees.{assign, Exp, name, literal, unary, binary, follow, group, block, call, bind, branch}
+use Rattle.language.specs.Trees.{loop, Exps, last, more, own, Param, Def, Program, Scope, empty, push, nearest}
+use Rattle.language.specs.State.{Stop, Value, count, store, keep, State, with-units, with-cells, with-birth}
+use Rattle.language.specs.State.{with-byte, Outcome, value, stop, stuck, then, choose, when-some, want}
+use Rattle.language.specs.Meaning.{Env, charge, begin, fit, create, apply-unary, apply-binary, emit, put, Fun, putchar}
+use Rattle.language.specs.Meaning.{defined, enter, arguments, invoke, passes, step, eval, functions, start, run}
 use Rattle.language.proofs.Grammar.OwnTokens.{Own, owns, all-owns, def-owns, program-owns, All, first, rest, front, back, everywhere, main-owned, own-of}
 use Rattle.language.proofs.Meaning.CellTypes.{none-some, some-one}
 

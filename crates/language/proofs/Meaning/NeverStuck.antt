@@ -10,7 +10,8 @@ use borrow.Author.Tests.{eqb-true}
 use Rattle.language.specs.Sizes.{ACTIVE}
 use Rattle.language.specs.Tokens.{same}
 use Rattle.language.specs.Trees.{Name, Ty, Exp, Exps, Def, Program, Scope, empty, push, nearest, PUTCHAR}
-use Rattle.language.specs.Types.{Sig, Typed, t-name, t-whole, t-truth, t-trivial, t-unary, t-binary, t-follow, t-group, t-block, t-call, t-bind, t-branch, t-loop, TypedAll, t-last, t-more, fine, with-def, TypedFrom, typed-main, typed-def, given, HasType}
+use Rattle.language.specs.Types.{Sig, Typed, t-name, t-whole, t-truth, t-trivial, t-unary, t-binary, t-follow, t-group, t-block, t-call, t-bind}
+use Rattle.language.specs.Types.{t-branch, t-loop, TypedAll, t-last, t-more, fine, with-def, TypedFrom, typed-main, typed-def, given, HasType}
 use Rattle.language.specs.State.{Outcome, value, stop, stuck}
 use Rattle.language.specs.Meaning.{in-range, Fun, putchar, functions, start, run}
 use Rattle.language.proofs.Grammar.OwnTokens.{Own, owns, def-owns, program-owns, front, back, everywhere, main-owned}

@@ -10,11 +10,16 @@ use lib.Dec.{leb}
 use borrow.Author.Tests.{leb-true, le-leb}
 use Rattle.language.specs.Sizes.{BYTE}
 use Rattle.language.specs.Trees.{Name, Ty, int, bool, unit, ref, Unary, Binary, Exp, Exps, Param, Scope, empty, push, nearest}
-use Rattle.language.specs.Types.{Sig, UnopType, u-minus, u-not, u-fetch, u-new, BinopType, b-add, b-sub, b-mul, b-div, b-less, b-equal, b-and, b-or, b-assign, Typed, t-name, t-whole, t-truth, t-trivial, t-unary, t-binary, t-follow, t-group, t-block, t-call, t-bind, t-branch, t-loop, TypedAll, t-last, t-more, Takes, takes-none, takes-more}
+use Rattle.language.specs.Types.{Sig, UnopType, u-minus, u-not, u-fetch, u-new, BinopType, b-add, b-sub, b-mul, b-div, b-less, b-equal}
+use Rattle.language.specs.Types.{b-and, b-or, b-assign, Typed, t-name, t-whole, t-truth, t-trivial, t-unary, t-binary, t-follow, t-group}
+use Rattle.language.specs.Types.{t-block, t-call, t-bind, t-branch, t-loop, TypedAll, t-last, t-more, Takes, takes-none, takes-more}
 use Rattle.language.specs.State.{Stop, Value, flag, State, Outcome, value, stop, then, as-int, as-bool, as-unit, as-cell, choose, when-some, want, only}
-use Rattle.language.specs.Meaning.{Env, charge, begin, in-range, fit, literal-value, create, apply-unary, apply-binary, settles, emit, put, Fun, putchar, defined, enter, arguments, invoke, passes, step, eval}
+use Rattle.language.specs.Meaning.{Env, charge, begin, in-range, fit, literal-value, create, apply-unary, apply-binary}
+use Rattle.language.specs.Meaning.{settles, emit, put, Fun, putchar, defined, enter, arguments, invoke, passes, step, eval}
 use Rattle.language.proofs.Grammar.OwnTokens.{Own, owns, all-owns, All, first, rest, front, back}
-use Rattle.language.proofs.Meaning.CellTypes.{none-some, some-one, Born, newest, Grows, stays, gains, grows-trans, Fits, fits-int, fits-bool, fits-unit, fits-ref, FitsAll, fits-none, fits-more, holds-live, EnvFits, env-empty, env-push, StateFits, keep-holds, store-holds, held-fits, env-find, fits-grows, env-grows, holds-grows}
+use Rattle.language.proofs.Meaning.CellTypes.{none-some, some-one, Born, newest, Grows, stays, gains, grows-trans, Fits, fits-int, fits-bool}
+use Rattle.language.proofs.Meaning.CellTypes.{fits-unit, fits-ref, FitsAll, fits-none, fits-more, holds-live, EnvFits, env-empty, env-push}
+use Rattle.language.proofs.Meaning.CellTypes.{StateFits, keep-holds, store-holds, held-fits, env-find, fits-grows, env-grows, holds-grows}
 
 -- not stuck; a value is of the type t, under the cells born up to then
 pub data Good (R : ℤ → Type 0) (Σ : List Ty) (t : Ty) : Outcome → Type 0 where

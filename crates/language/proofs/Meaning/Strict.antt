@@ -9,13 +9,18 @@ use mathlib.Core.Option.{Option, none, some}
 use Prim.Native.Nat.{ℕ, zero, suc}
 use lib.IntN.{ℤ}
 use Rattle.language.specs.Sizes.{ACTIVE}
-use Rattle.language.specs.Trees.{Ty, Binary, add, sub, mul, div, less, equal, and, or, assign, Exp, name, literal, unary, binary, follow, group, block, call, bind, branch, loop, Exps, last, more, own, Param, Program, Scope, empty, push, PUTCHAR}
-use Rattle.language.specs.Types.{Sig, BinopType, b-add, b-sub, b-mul, b-div, b-less, b-equal, b-and, b-or, b-assign, Typed, t-name, t-whole, t-truth, t-trivial, t-unary, t-binary, t-follow, t-group, t-block, t-call, t-bind, t-branch, t-loop, given, HasType}
+use Rattle.language.specs.Trees.{Ty, Binary, add, sub, mul, div, less, equal, and, or, assign, Exp, name, literal, unary, binary, follow}
+use Rattle.language.specs.Trees.{group, block, call, bind, branch, loop, Exps, last, more, own, Param, Program, Scope, empty, push, PUTCHAR}
+use Rattle.language.specs.Types.{Sig, BinopType, b-add, b-sub, b-mul, b-div, b-less, b-equal, b-and, b-or, b-assign, Typed, t-name, t-whole, t-truth}
+use Rattle.language.specs.Types.{t-trivial, t-unary, t-binary, t-follow, t-group, t-block, t-call, t-bind, t-branch, t-loop, given, HasType}
 use Rattle.language.specs.State.{Value, State, Outcome, value, stop, stuck, then, as-int, as-bool, as-cell, choose, when-some, want, too-deep}
-use Rattle.language.specs.Meaning.{Env, charge, begin, in-range, apply-binary, settles, Fun, putchar, defined, enter, arguments, invoke, passes, step, eval, functions, start, run}
+use Rattle.language.specs.Meaning.{Env, charge, begin, in-range, apply-binary, settles, Fun, putchar, defined}
+use Rattle.language.specs.Meaning.{enter, arguments, invoke, passes, step, eval, functions, start, run}
 use Rattle.language.proofs.Grammar.OwnTokens.{owns, program-owns, rest, front, back, everywhere, main-owned}
-use Rattle.language.proofs.Meaning.CellTypes.{stays, Fits, fits-int, fits-bool, fits-ref, EnvFits, env-empty, env-grows, fits-grows, StateFits, holds-none}
-use Rattle.language.proofs.Meaning.Safety.{Good, good-value, good-stop, Fair, Ready, Safe, good-then, good-choose, good-begin, binary-good, settled, step-good}
+use Rattle.language.proofs.Meaning.CellTypes.{stays, Fits, fits-int, fits-bool, fits-ref, EnvFits}
+use Rattle.language.proofs.Meaning.CellTypes.{env-empty, env-grows, fits-grows, StateFits, holds-none}
+use Rattle.language.proofs.Meaning.Safety.{Good, good-value, good-stop, Fair, Ready, Safe, good-then}
+use Rattle.language.proofs.Meaning.Safety.{good-choose, good-begin, binary-good, settled, step-good}
 use Rattle.language.proofs.Meaning.NeverStuck.{final, main-typed, program-ready, not-stuck}
 
 -- ---- the stricter meaning

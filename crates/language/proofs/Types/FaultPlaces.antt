@@ -5,9 +5,14 @@ use native.Mathlib.Omega.{arith}
 use lib.ListN.{length}
 use Rattle.language.specs.Tokens.{Token}
 use Rattle.language.specs.Trees.{Ty, Exp, Exps, Param, Def, Program, Scope}
-use Rattle.language.specs.Grammar.{program, formals, params, Reads, Reading, program-seq, program-def, def-is, formals-none, formals-some, params-one, params-more}
+use Rattle.language.specs.Grammar.{program, formals, params, Reads, Reading, program-seq, program-def}
+use Rattle.language.specs.Grammar.{def-is, formals-none, formals-some, params-one, params-more}
 use Rattle.language.specs.Types.{Sig}
-use Rattle.language.specs.Faults.{Reason, Fault, f-name, f-unary, f-unary-here, f-left, f-right, f-binary-here, f-first, f-second, f-follow-here, f-group, f-block, f-arguments, f-no-function, f-wrong-number, f-wrong-argument, f-bound, f-inside, f-if, f-then, f-else, f-if-here, f-branches-here, f-while, f-do, f-while-here, f-do-here, FaultAll, f-one, f-rest, FaultTakes, p-ninth, p-twice, p-refs, p-later, FaultDef, d-many, d-twice, d-params, d-refs, d-body, d-type, FaultFrom, fault-main, fault-here, fault-later, HasFault}
+use Rattle.language.specs.Faults.{Reason, Fault, f-name, f-unary, f-unary-here, f-left, f-right, f-binary-here, f-first, f-second}
+use Rattle.language.specs.Faults.{f-follow-here, f-group, f-block, f-arguments, f-no-function, f-wrong-number, f-wrong-argument}
+use Rattle.language.specs.Faults.{f-bound, f-inside, f-if, f-then, f-else, f-if-here, f-branches-here, f-while, f-do, f-while-here}
+use Rattle.language.specs.Faults.{f-do-here, FaultAll, f-one, f-rest, FaultTakes, p-ninth, p-twice, p-refs, p-later, FaultDef, d-many}
+use Rattle.language.specs.Faults.{d-twice, d-params, d-refs, d-body, d-type, FaultFrom, fault-main, fault-here, fault-later, HasFault}
 use Rattle.language.proofs.Grammar.FirstTokens.{grows}
 use Rattle.language.proofs.Grammar.OwnTokens.{Own, owns, all-owns, def-owns, program-owns, All, first, rest, front, back, all-same}
 use Rattle.language.proofs.Grammar.OwnOnce.{own-inside}

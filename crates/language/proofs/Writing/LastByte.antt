@@ -18,8 +18,11 @@ ends : (t : Token) (ts : List Token) → (s : List ℕ) × (written-out (t ∷ t
 unfolding written-out behind
 ends t [] = (t .spelling, refl)
 ends t (u ∷ us) =
-    let z = ends u us in
-    (t .spelling ++ (code " " ∷ z .0), ap (λ (w : List ℕ). t .spelling ++ (code " " ∷ w)) (z .1) ∙ sym (append-assoc (t .spelling) (code " " ∷ z .0) (code "\n" ∷ [])))
+    let z = ends u us in (
+      t .spelling ++ (code " " ∷ z .0),
+      ap (λ (w : List ℕ). t .spelling ++ (code " " ∷ w)) (z .1)
+          ∙ sym (append-assoc (t .spelling) (code " " ∷ z .0) (code "\n" ∷ [])),
+    )
 
 pub ends-in-feed : (ts : List Token) (p : Program) → Reading ts p → (s : List ℕ) × (written-out ts ≡ s ++ (code "\n" ∷ []))
 ends-in-feed [] p r = absurd (omega (arith, some-token [] p r))

@@ -12,7 +12,8 @@ use Rattle.language.specs.Tokens.{Token}
 use Rattle.language.specs.Trees.{Ty, Program}
 use Rattle.language.specs.Numbers.{Refusal, long-text, passed, refused}
 use Rattle.language.specs.Answers.{Origin, Passes, Refused, by-origin, by-tokens, unread, faulty, left}
-use Rattle.language.specs.Writing.{written-out, TooLong, Fits, WriteReport, write-report, Wrote, write-short, write-refused, write-long, write-passed, Write}
+use Rattle.language.specs.Writing.{written-out, TooLong, Fits, WriteReport, write-report, Wrote}
+use Rattle.language.specs.Writing.{write-short, write-refused, write-long, write-passed, Write}
 use Rattle.language.proofs.Answers.Origins.{Lawful, Fate, fails, passes, Comes, fate, fate-comes, passes-is, refused-is, not-both}
 
 -- a text does not both fit and not

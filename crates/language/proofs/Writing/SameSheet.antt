@@ -11,7 +11,8 @@ use Rattle.language.specs.Tokens.{Token, SameButPlaces, same-none, same-
 use Rattle.language.specs.Trees.{Ty, Program}
 use Rattle.language.specs.Numbers.{passed, refused}
 use Rattle.language.specs.Answers.{TextGives, from-text, Passes, Lent, RunReport, Ran}
-use Rattle.language.specs.Writing.{behind, written-out, Fits, WriteReport, write-report, Wrote, write-short, write-refused, write-long, write-passed, Write}
+use Rattle.language.specs.Writing.{behind, written-out, Fits, WriteReport, write-report, Wrote}
+use Rattle.language.specs.Writing.{write-short, write-refused, write-long, write-passed, Write}
 use Rattle.language.proofs.Text.Marks.{laws-1}
 use Rattle.language.proofs.Answers.Origins.{text-lawful}
 use Rattle.language.proofs.Answers.PlacesAside.{same-passes, SameRun, same-run}

@@ -42,9 +42,15 @@ use Rattle.phrases.proofs.operands.un.Reads as operands·un
 use Rattle.phrases.proofs.+items-clause+items-if_else+items-let_in+items-seq+items-until+items-while_block+names-arguments+names-name_or_call+operands-assign+operands-atom+operands-rest+operands-tier+operands-un.Lts-operands-un as operands·un-lts
 use Rattle.phrases.proofs.+items-clause+items-if_else+items-let_in+items-seq+items-until+items-while_block+names-arguments+names-name_or_call+operands-assign+operands-atom+operands-rest+operands-tier+operands-un.{statement}
 use Rattle.phrases.proofs.+items-clause+items-if_else+items-let_in+items-seq+items-until+items-while_block+names-arguments+names-name_or_call+operands-assign+operands-atom+operands-rest+operands-tier+operands-un.Tie.{close}
-use Setup.{μ-items·clause, items·clause-at, items·clause-claims, μ-items·if-else, items·if-else-at, items·if-else-claims, μ-items·let-in, items·let-in-at, items·let-in-claims, μ-items·seq, items·seq-at, items·seq-claims, μ-items·until, items·until-at, items·until-claims, μ-items·while-block, items·while-block-at, items·while-block-claims, μ-names·arguments, names·arguments-at, names·arguments-claims, μ-names·name-or-call, names·name-or-call-at, names·name-or-call-claims, μ-operands·assign, operands·assign-at, operands·assign-claims, μ-operands·atom, operands·atom-at, operands·atom-claims, μ-operands·rest, operands·rest-at, operands·rest-claims, μ-operands·tier, operands·tier-at, operands·tier-claims, μ-operands·un, operands·un-at, operands·un-claims}
+use Setup.{μ-items·clause, items·clause-at, items·clause-claims, μ-items·if-else, items·if-else-at, items·if-else-claims, μ-items·let-in}
+use Setup.{items·let-in-at, items·let-in-claims, μ-items·seq, items·seq-at, items·seq-claims, μ-items·until, items·until-at, items·until-claims}
+use Setup.{μ-items·while-block, items·while-block-at, items·while-block-claims, μ-names·arguments, names·arguments-at, names·arguments-claims}
+use Setup.{μ-names·name-or-call, names·name-or-call-at, names·name-or-call-claims, μ-operands·assign, operands·assign-at}
+use Setup.{operands·assign-claims, μ-operands·atom, operands·atom-at, operands·atom-claims, μ-operands·rest, operands·rest-at}
+use Setup.{operands·rest-claims, μ-operands·tier, operands·tier-at, operands·tier-claims, μ-operands·un, operands·un-at, operands·un-claims}
 
-pub +items·clause+items·if-else+items·let-in+items·seq+items·until+items·while-block+names·arguments+names·name-or-call+operands·assign+operands·atom+operands·rest+operands·tier+operands·un-spec :
+pub
+    +items·clause+items·if-else+items·let-in+items·seq+items·until+items·while-block+names·arguments+names·name-or-call+operands·assign+operands·atom+operands·rest+operands·tier+operands·un-spec :
     {M : Type 1} → statement M
 +items·clause+items·if-else+items·let-in+items·seq+items·until+items·while-block+names·arguments+names·name-or-call+operands·assign+operands·atom+operands·rest+operands·tier+operands·un-spec =
     close μ-items·clause μ-items·if-else μ-items·let-in μ-items·seq μ-items·until μ-items·while-block μ-names·arguments μ-names·name-or-call

@@ -74,73 +74,81 @@ returns-2 c =
 
 value-word-requires : tie.Need-value-word-requires Inv-loop μ-loop
 value-word-requires c κs =
-    let h = c .before .before .before .before .before .before .before in
+    let at-kind = c .before .before .before in
+    let at-piece-at = at-kind .before .before in
+    let here = at-piece-at .before .before in
+    let start = here .before .before .before .before in
+    let h = here in
     let t = text h in
     let l = h .loop in
-    let piece = c .before .before .before .before .before .piece-at .ensures in
-    let x = subst (IsPiece t (l .at)) (c .before .before .before .kind .given .1) piece in
-    let room = c .before .before .before .before .before .before .before .before .before .before .before .pre in
+    let piece = at-piece-at .piece-at .ensures in
+    let x = subst (IsPiece t (l .at)) (at-kind .kind .given .1) piece in
+    let room = start .pre in
     let b = form-bounds t (l .at) _ _ (x .0 .form) in
     let long = reached-length (l .inv) in
     record { room = omega arith; few = l .inv .few; order = omega (arith, b .0); inside = b .1; spans = reached-spans (l .inv) room }
 
 cast-put : tie.Need-cast-put Inv-loop μ-loop
 cast-put c =
-    omega (
-      arith,
-      c .before .before .before .before .before .before .before .before .loop-test .taken,
-      c .before .before .before .before .before .before .before .before .before .before .if1 .left,
-    )
+    let earlier = c .before .before .before .before .before .before .before in
+    let at-loop-test = earlier .before in
+    let at-if1 = at-loop-test .before .before in
+    omega (arith, at-loop-test .loop-test .taken, at-if1 .if1 .left)
 
 cast-put-2 : tie.Need-cast-put-2 Inv-loop μ-loop
 cast-put-2 c =
-    let h = c .before .before .before .before .before .before .before .before .before in
+    let at-kind = c .before .before .before .before .before in
+    let at-piece-at = at-kind .before .before in
+    let here = at-piece-at .before .before in
+    let at-if1 = here .before in
+    let h = here in
     let t = text h in
     let l = h .loop in
-    let piece = c .before .before .before .before .before .before .before .piece-at .ensures in
-    let x = subst (IsPiece t (l .at)) (c .before .before .before .before .before .kind .given .1) piece in
-    omega (
-      arith,
-      form-bounds t (l .at) _ _ (x .0 .form) .1,
-      c .before .before .before .before .before .before .before .before .before .before .if1 .left,
-    )
+    let piece = at-piece-at .piece-at .ensures in
+    let x = subst (IsPiece t (l .at)) (at-kind .kind .given .1) piece in
+    omega (arith, form-bounds t (l .at) _ _ (x .0 .form) .1, at-if1 .if1 .left)
 
 put-requires : tie.Need-put-requires Inv-loop μ-loop
 put-requires c κs =
-    let l = c .before .before .before .before .before .before .before .before .before .loop in
-    omega (
-      arith,
-      reached-length (l .inv),
-      c .before .before .before .before .before .before .before .before .before .before .before .before .before .pre,
-      l .inv .few,
-      c .before .before .before .if2 .left,
-    )
+    let at-if2 = c .before .before .before in
+    let at-loop = at-if2 .before .before .before .before .before .before in
+    let start = at-loop .before .before .before .before in
+    let l = at-loop .loop in omega (arith, reached-length (l .inv), start .pre, l .inv .few, at-if2 .if2 .left)
 
 add-count : tie.Need-add-count Inv-loop μ-loop
 add-count c =
-    omega (arith, c .before .before .before .before .before .before .before .before .before .before .before .before .loop .inv .few)
+    let earlier = c .before .before .before .before .before .before .before in
+    let at-loop = earlier .before .before .before .before .before in
+    omega (arith, at-loop .loop .inv .few)
 
 loop-less-2 : tie.Need-loop-less-2 Inv-loop μ-loop
 loop-less-2 c =
-    let h = c .before .before .before .before .before .before .before .before .before .before .before .before in
+    let earlier = c .before .before .before .before .before .before .before in
+    let at-kind = earlier .before in
+    let at-piece-at = at-kind .before .before in
+    let here = at-piece-at .before .before in
+    let h = here in
     let t = text h in
     let l = h .loop in
-    let piece = c .before .before .before .before .before .before .before .before .before .before .piece-at .ensures in
-    let x = subst (IsPiece t (l .at)) (c .before .before .before .before .before .before .before .before .kind .given .1) piece in
-    omega (arith, form-bounds t (l .at) _ _ (x .0 .form))
+    let piece = at-piece-at .piece-at .ensures in
+    let x = subst (IsPiece t (l .at)) (at-kind .kind .given .1) piece in omega (arith, form-bounds t (l .at) _ _ (x .0 .form))
 
 loop-again-2 : tie.Need-loop-again-2 Inv-loop μ-loop
 loop-again-2 c =
-    let h = c .before .before .before .before .before .before .before .before .before .before .before .before in
+    let at-value-word = c .before .before .before .before in
+    let at-if2 = at-value-word .before .before in
+    let at-kind = at-if2 .before .before in
+    let at-piece-at = at-kind .before .before in
+    let here = at-piece-at .before .before in
+    let start = here .before .before .before .before in
+    let h = here in
     let t = text h in
     let l = h .loop in
-    let piece = c .before .before .before .before .before .before .before .before .before .before .piece-at .ensures in
-    let x = subst (IsPiece t (l .at)) (c .before .before .before .before .before .before .before .before .kind .given .1) piece in
-    let room =
-    c .before .before .before .before .before .before .before .before .before .before .before .before .before .before .before .before .pre
-    in
-    let left = c .before .before .before .before .before .before .if2 .left in
-    let word = c .before .before .before .before .value-word .ensures in
+    let piece = at-piece-at .piece-at .ensures in
+    let x = subst (IsPiece t (l .at)) (at-kind .kind .given .1) piece in
+    let room = start .pre in
+    let left = at-if2 .if2 .left in
+    let word = at-value-word .value-word .ensures in
     reached-next (l .inv) room (omega (arith, l .inv .few, left)) (x .0) (x .1) word (c .before .before .put .ensures)
 
 enum-told : tie.Need-enum-told Inv-loop μ-loop

@@ -24,7 +24,12 @@ same-length c = search needs
 
 returns : tie.Need-returns
 returns c =
-    record { answer = refl; laid = c .before .before .put .ensures; clear = ap without-rows (c .before .before .put .ensures) ∙ without-put-row _ _ _ _ _ _ _ (omega arith) }
+    record {
+      answer = refl;
+      laid = c .before .before .put .ensures;
+      clear = ap without-rows (c .before .before .put .ensures)
+          ∙ without-put-row _ _ _ _ _ _ _ (omega arith);
+    }
 
 pub node-spec : {M : Type 1} → statement M
 node-spec = tie.close (tie.spec cast-put put-requires cast-t12 add-t13 same-length returns)

@@ -32,10 +32,10 @@ kind-requires-2 c κs = search needs
 
 add-t22 : tie.Need-add-t22
 add-t22 c =
-    let p = c .before .before .before .before .before .before .before .before .before .before .before .before .before .before .pre in
-    let o = (known-params (c .before .before .before .before .before .before .before .before .params .ensures)
-    (c .before .before .before .before .list .given .1)) .ahead in
-    omega arith
+    let at-list = c .before .before .before .before in
+    let at-params = at-list .before .before .before .before in
+    let start = at-params .before .before .before .before .before .before in
+    let p = start .pre in let o = (known-params (at-params .params .ensures) (at-list .list .given .1)) .ahead in omega arith
 
 enum-known-list-2 : tie.Need-enum-known-list-2
 enum-known-list-2 c = search needs
@@ -45,33 +45,44 @@ same-length-2 c = search needs
 
 returns-2 : tie.Need-returns-2
 returns-2 c =
+    let at-list = c .before .before .before .before in
+    let at-params = at-list .before .before .before .before in
+    let at-if1 = at-params .before .before in
+    let at-kind = at-if1 .before in
     let i = within _ _ _ _ (sym (c .before .kind2 .ensures) ∙ c .if2 .taken) (omega arith) in
     formals-some
-    (λ e. c .before .before .before .before .before .before .before .before .before .before .if1 .left
-    (c .before .before .before .before .before .before .before .before .before .before .before .kind .ensures ∙ e))
-    (known-params (c .before .before .before .before .before .before .before .before .params .ensures)
-    (c .before .before .before .before .list .given .1)) (sym (c .before .kind2 .ensures) ∙ c .if2 .taken) i
+    (λ e. at-if1 .if1 .left
+    (at-kind .kind .ensures ∙ e))
+    (known-params (at-params .params .ensures)
+    (at-list .list .given .1)) (sym (c .before .kind2 .ensures) ∙ c .if2 .taken) i
 
 same-length-3 : tie.Need-same-length-3
 same-length-3 c = search needs
 
 returns-3 : tie.Need-returns-3
 returns-3 c =
+    let at-list = c .before .before .before .before in
+    let at-params = at-list .before .before .before .before in
+    let at-if1 = at-params .before .before in
+    let at-kind = at-if1 .before in
     formals-other
-    (λ e. c .before .before .before .before .before .before .before .before .before .before .if1 .left
-    (c .before .before .before .before .before .before .before .before .before .before .before .kind .ensures ∙ e))
-    (known-params (c .before .before .before .before .before .before .before .before .params .ensures)
-    (c .before .before .before .before .list .given .1)) (λ e. c .if2 .left (c .before .kind2 .ensures ∙ e))
+    (λ e. at-if1 .if1 .left
+    (at-kind .kind .ensures ∙ e))
+    (known-params (at-params .params .ensures)
+    (at-list .list .given .1)) (λ e. c .if2 .left (c .before .kind2 .ensures ∙ e))
 
 same-length-4 : tie.Need-same-length-4
 same-length-4 c = search needs
 
 returns-4 : tie.Need-returns-4
 returns-4 c =
+    let at-params = c .before .before .before .before .before in
+    let at-if1 = at-params .before .before in
+    let at-kind = at-if1 .before in
     formals-failed
-    (λ e. c .before .before .before .before .before .before .before .if1 .left
-    (c .before .before .before .before .before .before .before .before .kind .ensures ∙ e))
-    (known-params (c .before .before .before .before .before .params .ensures) (c .before .list2 .given .1))
+    (λ e. at-if1 .if1 .left
+    (at-kind .kind .ensures ∙ e))
+    (known-params (at-params .params .ensures) (c .before .list2 .given .1))
 
 pub formals-spec : {M : Type 1} → statement M
 formals-spec =

@@ -51,7 +51,9 @@ add-formals-2 c = search needs
 
 formals-requires : tie.Need-formals-requires
 formals-requires c κs =
-    let p = c .before .before .before .before .before .before .before .before .pre .0 in
+    let earlier = c .before .before .before .before .before .before .before in
+    let start = earlier .before in
+    let p = start .pre .0 in
     let i = within _ _ _ _ (sym (c .before .before .kind2 .ensures) ∙ c .before .if2 .left) (omega arith) in
     record { wide = p .wide; few = p .few; inside = omega arith; owned = omega arith }
 
@@ -60,71 +62,82 @@ enum-known-list c = search needs
 
 result-requires : tie.Need-result-requires
 result-requires c κs =
-    let p = c .before .before .before .before .before .before .before .before .before .before .before .before .before .before .before .pre .0 in
-    let l = c .before .before .before .before .before .before .formals .kept .0 in
-    let o = (known-params (c .before .before .before .before .before .before .formals .ensures) (c .before .before .list .given .1)) .ahead in
-    (omega arith, p .few, o .most)
+    let at-formals = c .before .before .before .before .before .before in
+    let earlier = at-formals .before .before .before .before .before .before .before in
+    let start = earlier .before .before in
+    let p = start .pre .0 in
+    let l = at-formals .formals .kept .0 in
+    let o = (known-params (at-formals .formals .ensures) (c .before .before .list .given .1)) .ahead in (omega arith, p .few, o .most)
 
 enum-known-named : tie.Need-enum-known-named
 enum-known-named c = search needs
 
 add-until : tie.Need-add-until
 add-until c =
-    let p = c .before .before .before .before .before .before .before .before .before .before .before .before .before .before .before .before .before .before .before .before .pre .0 in
-    let r = (known-type (c .before .before .before .before .result .ensures) (c .before .before .named .given .1)) .ahead in
-    omega arith
+    let at-result = c .before .before .before .before in
+    let earlier = at-result .before .before .before .before .before .before .before in
+    let earlier-2 = earlier .before .before .before .before .before .before .before in
+    let start = earlier-2 .before .before in
+    let p = start .pre .0 in let r = (known-type (at-result .result .ensures) (c .before .before .named .given .1)) .ahead in omega arith
 
 until-requires : tie.Need-until-requires
 until-requires c κs =
-    let p = c .before .before .before .before .before .before .before .before .before .before .before .before .before .before .before .before .before .before .before .before .pre .0 in
-    let l = c .before .before .before .before .before .before .before .before .before .before .before .formals .kept .0 in
-    let o = (known-params (c .before .before .before .before .before .before .before .before .before .before .before .formals .ensures)
-    (c .before .before .before .before .before .before .before .list .given .1)) .ahead in
-    let r = (known-type (c .before .before .before .before .result .ensures) (c .before .before .named .given .1)) .ahead in
+    let at-result = c .before .before .before .before in
+    let at-list = at-result .before .before .before in
+    let at-formals = at-list .before .before .before .before in
+    let earlier = at-formals .before .before .before .before .before .before .before in
+    let start = earlier .before .before in
+    let p = start .pre .0 in
+    let l = at-formals .formals .kept .0 in
+    let o = (known-params (at-formals .formals .ensures)
+    (at-list .list .given .1)) .ahead in
+    let r = (known-type (at-result .result .ensures) (c .before .before .named .given .1)) .ahead in
     (record { wide = omega arith; few = p .few; inside = omega arith; owned = omega arith }, omega arith)
 
 around-requires : tie.Need-around-requires
 around-requires c κs =
-    let p = c .before .before .before .before .before .before .before .before .before .before .before .before .before .before .before .before .before .before .before .before .before .before .before .before .pre .0 in
-    let o = (known-params
-    (c .before .before .before .before .before .before .before .before .before .before .before .before .before .before .before .formals .ensures)
-    (c .before .before .before .before .before .before .before .before .before .before .before .list .given .1)) .ahead in
-    let r = (known-type (c .before .before .before .before .before .before .before .before .result .ensures)
-    (c .before .before .before .before .before .before .named .given .1)) .ahead in
-    top-fits p _ (c .before .before .before .until .ensures) (omega arith) (omega arith)
-    (c .before .before .before .until .kept .0
-    ∙ c .before .before .before .before .before .before .before .before .before .before .before .before .before .before .before .formals .kept .0)
-    (omega arith)
+    let at-until = c .before .before .before in
+    let at-named = at-until .before .before .before in
+    let at-result = at-named .before .before in
+    let at-list = at-result .before .before .before in
+    let at-formals = at-list .before .before .before .before in
+    let earlier = at-formals .before .before .before .before .before .before .before in
+    let start = earlier .before .before in
+    let p = start .pre .0 in
+    let o = (known-params (at-formals .formals .ensures) (at-list .list .given .1)) .ahead in
+    let r = (known-type (at-result .result .ensures) (at-named .named .given .1)) .ahead in
+    top-fits p _ (at-until .until .ensures) (omega arith) (omega arith) (at-until .until .kept .0 ∙ at-formals .formals .kept .0) (omega arith)
 
 sub-header : tie.Need-sub-header
 sub-header c =
-    let q = (known-params
-    (c .before .before .before .before .before .before .before .before .before .before .before .before .before .before .before .before .before .before .before .formals .ensures)
-    (c .before .before .before .before .before .before .before .before .before .before .before .before .before .before .before .list .given .1)) .rows in
-    omega arith
+    let earlier = c .before .before .before .before .before .before .before in
+    let earlier-2 = earlier .before .before .before .before .before .before .before in
+    let at-list = earlier-2 .before in
+    let at-formals = at-list .before .before .before .before in
+    let q = (known-params (at-formals .formals .ensures) (at-list .list .given .1)) .rows in omega arith
 
 sub-header-2 : tie.Need-sub-header-2
 sub-header-2 c =
-    let q = (known-params
-    (c .before .before .before .before .before .before .before .before .before .before .before .before .before .before .before .before .before .before .before .formals .ensures)
-    (c .before .before .before .before .before .before .before .before .before .before .before .before .before .before .before .list .given .1)) .rows in
-    omega arith
+    let earlier = c .before .before .before .before .before .before .before in
+    let earlier-2 = earlier .before .before .before .before .before .before .before in
+    let at-list = earlier-2 .before in
+    let at-formals = at-list .before .before .before .before in
+    let q = (known-params (at-formals .formals .ensures) (at-list .list .given .1)) .rows in omega arith
 
 header-requires : tie.Need-header-requires
 header-requires c κs =
-    let p = c .before .before .before .before .before .before .before .before .before .before .before .before .before .before .before .before .before .before .before .before .before .before .before .before .before .before .before .before .pre .0 in
-    let l = (c .before .before .before .around .kept .0 ∙ c .before .before .before .before .before .before .before .until .kept .0
-    ∙ c .before .before .before .before .before .before .before .before .before .before .before .before .before .before .before .before .before .before .before .formals .kept .0) in
-    let i = within _ _ _ _
-    (c .before .before .before .before .before .before .before .before .before .before .before .before .before .before .before .before .before .before .before .before .before .before .before .before .before .before .before .before .pre .1)
-    (omega arith) in
-    let o = (known-params
-    (c .before .before .before .before .before .before .before .before .before .before .before .before .before .before .before .before .before .before .before .formals .ensures)
-    (c .before .before .before .before .before .before .before .before .before .before .before .before .before .before .before .list .given .1)) .ahead in
-    let q = (known-params
-    (c .before .before .before .before .before .before .before .before .before .before .before .before .before .before .before .before .before .before .before .formals .ensures)
-    (c .before .before .before .before .before .before .before .before .before .before .before .before .before .before .before .list .given .1)) .rows in
-    (omega arith, omega arith, omega arith, omega arith)
+    let at-around = c .before .before .before in
+    let at-until = at-around .before .before .before .before in
+    let earlier = at-until .before .before .before .before .before .before .before in
+    let at-list = earlier .before in
+    let at-formals = at-list .before .before .before .before in
+    let earlier-2 = at-formals .before .before .before .before .before .before .before in
+    let start = earlier-2 .before .before in
+    let p = start .pre .0 in
+    let l = (at-around .around .kept .0 ∙ at-until .until .kept .0 ∙ at-formals .formals .kept .0) in
+    let i = within _ _ _ _ (start .pre .1) (omega arith) in
+    let o = (known-params (at-formals .formals .ensures) (at-list .list .given .1)) .ahead in
+    let q = (known-params (at-formals .formals .ensures) (at-list .list .given .1)) .rows in (omega arith, omega arith, omega arith, omega arith)
 
 enum-known-named-2 : tie.Need-enum-known-named-2
 enum-known-named-2 c = search needs
@@ -137,56 +150,53 @@ same-length-3 c = search needs
 
 returns-3 : tie.Need-returns-3
 returns-3 c =
-    let p = c .before .before .before .before .before .before .before .before .before .before .before .before .before .before .before .before .before .before .before .before .before .before .before .before .before .before .before .before .before .before .before .pre .0 in
-    let i = within _ _ _ _
-    (c .before .before .before .before .before .before .before .before .before .before .before .before .before .before .before .before .before .before .before .before .before .before .before .before .before .before .before .before .before .before .before .pre .1)
-    (omega arith) in
-    function-all
-    (c .before .before .before .before .before .before .before .before .before .before .before .before .before .before .before .before .before .before .before .before .before .before .before .before .before .before .before .before .before .before .before .pre .1)
-    (sym
-    (c .before .before .before .before .before .before .before .before .before .before .before .before .before .before .before .before .before .before .before .before .before .before .before .before .before .before .before .before .kind .ensures)
-    ∙ c .before .before .before .before .before .before .before .before .before .before .before .before .before .before .before .before .before .before .before .before .before .before .before .before .before .before .before .if1 .left)
-    (sym
-    (c .before .before .before .before .before .before .before .before .before .before .before .before .before .before .before .before .before .before .before .before .before .before .before .before .before .kind2 .ensures)
-    ∙ c .before .before .before .before .before .before .before .before .before .before .before .before .before .before .before .before .before .before .before .before .before .before .before .before .if2 .left)
-    (known-params
-    (c .before .before .before .before .before .before .before .before .before .before .before .before .before .before .before .before .before .before .before .before .before .before .formals .ensures)
-    (c .before .before .before .before .before .before .before .before .before .before .before .before .before .before .before .before .before .before .list .given .1))
-    (known-type
-    (c .before .before .before .before .before .before .before .before .before .before .before .before .before .before .before .result .ensures)
-    (c .before .before .before .before .before .before .before .before .before .before .before .before .before .named .given .1))
-    (omega arith) refl _
-    (body (c .before .before .before .before .before .before .before .before .before .before .until .ensures)
-    (c .before .before .before .before .before .before .around .ensures)) (c .before .before .header .ensures)
+    let at-around = c .before .before .before .before .before .before in
+    let at-until = at-around .before .before .before .before in
+    let at-named = at-until .before .before .before in
+    let at-result = at-named .before .before in
+    let at-list = at-result .before .before .before in
+    let at-formals = at-list .before .before .before .before in
+    let at-if2 = at-formals .before .before in
+    let at-kind2 = at-if2 .before in
+    let at-if1 = at-kind2 .before .before in
+    let at-kind = at-if1 .before in
+    let start = at-kind .before .before .before in
+    let p = start .pre .0 in
+    let i = within _ _ _ _ (start .pre .1) (omega arith) in
+    function-all (start .pre .1) (sym (at-kind .kind .ensures) ∙ at-if1 .if1 .left) (sym (at-kind2 .kind2 .ensures) ∙ at-if2 .if2 .left)
+    (known-params (at-formals .formals .ensures) (at-list .list .given .1)) (known-type (at-result .result .ensures) (at-named .named .given .1))
+    (omega arith) refl _ (body (at-until .until .ensures) (at-around .around .ensures)) (c .before .before .header .ensures)
 
 same-length-4 : tie.Need-same-length-4
 same-length-4 c = search needs
 
 returns-4 : tie.Need-returns-4
 returns-4 c =
-    function-result
-    (c .before .before .before .before .before .before .before .before .before .before .before .before .before .before .before .before .before .before .before .pre .1)
-    (sym
-    (c .before .before .before .before .before .before .before .before .before .before .before .before .before .before .before .before .kind .ensures)
-    ∙ c .before .before .before .before .before .before .before .before .before .before .before .before .before .before .before .if1 .left)
-    (sym (c .before .before .before .before .before .before .before .before .before .before .before .before .before .kind2 .ensures)
-    ∙ c .before .before .before .before .before .before .before .before .before .before .before .before .if2 .left)
-    (known-params (c .before .before .before .before .before .before .before .before .before .before .formals .ensures)
-    (c .before .before .before .before .before .before .list .given .1))
-    (known-type (c .before .before .before .result .ensures) (c .before .named2 .given .1))
+    let at-result = c .before .before .before in
+    let at-list = at-result .before .before .before in
+    let at-formals = at-list .before .before .before .before in
+    let at-if2 = at-formals .before .before in
+    let at-kind2 = at-if2 .before in
+    let at-if1 = at-kind2 .before .before in
+    let at-kind = at-if1 .before in
+    let start = at-kind .before .before .before in
+    function-result (start .pre .1) (sym (at-kind .kind .ensures) ∙ at-if1 .if1 .left) (sym (at-kind2 .kind2 .ensures) ∙ at-if2 .if2 .left)
+    (known-params (at-formals .formals .ensures) (at-list .list .given .1))
+    (known-type (at-result .result .ensures) (c .before .named2 .given .1))
 
 same-length-5 : tie.Need-same-length-5
 same-length-5 c = search needs
 
 returns-5 : tie.Need-returns-5
 returns-5 c =
-    function-formals
-    (c .before .before .before .before .before .before .before .before .before .before .before .before .before .before .pre .1)
-    (sym (c .before .before .before .before .before .before .before .before .before .before .before .kind .ensures)
-    ∙ c .before .before .before .before .before .before .before .before .before .before .if1 .left)
-    (sym (c .before .before .before .before .before .before .before .before .kind2 .ensures)
-    ∙ c .before .before .before .before .before .before .before .if2 .left)
-    (known-params (c .before .before .before .before .before .formals .ensures) (c .before .list2 .given .1))
+    let at-formals = c .before .before .before .before .before in
+    let at-if2 = at-formals .before .before in
+    let at-kind2 = at-if2 .before in
+    let at-if1 = at-kind2 .before .before in
+    let at-kind = at-if1 .before in
+    let start = at-kind .before .before .before in
+    function-formals (start .pre .1) (sym (at-kind .kind .ensures) ∙ at-if1 .if1 .left) (sym (at-kind2 .kind2 .ensures) ∙ at-if2 .if2 .left)
+    (known-params (at-formals .formals .ensures) (c .before .list2 .given .1))
 
 pub function-spec : {M : Type 1} → statement M
 function-spec =

@@ -80,12 +80,16 @@ opens c =
 -- none of these begins there
 other : (c : tie.Else5) → Begins (text (start5 c)) (place (start5 c)) others
 other c =
-    let blank = no-blank (c .before .before .before .before .before .before .before .before .before .before) in
-    let letter = no-letter (c .before .before .before .before .before .before .before .before) in
-    let digit = no-digit (c .before .before .before .before .before .before) in
+    let here = c .before .before .before in
+    let here-2 = here .before .before .before in
+    let here-3 = here-2 .before .before in
+    let here-4 = here-3 .before .before in
+    let blank = no-blank (here-4) in
+    let letter = no-letter (here-3) in
+    let digit = no-digit (here-2) in
     let seen = sym (c .before .stands-at2 .ensures) ∙ c .if5 .left in
     let no-open = stands-no (text (start5 c)) (place (start5 c)) (spell "/*") seen in
-    (record { blank = blank; letter = letter; digit = digit }, no-line (c .before .before .before), no-open)
+    (record { blank = blank; letter = letter; digit = digit }, no-line (here), no-open)
 
 byte-requires : tie.Need-byte-requires
 byte-requires c κs = search needs
@@ -128,10 +132,9 @@ is-digit-requires c κs = search needs
 
 number-requires : tie.Need-number-requires
 number-requires c κs =
-    let digit =
-    known is-digit (c .before .before .before .before .before .before .byte .ensures) (c .before .is-digit .ensures) (c .if3 .taken)
-    in
-    (c .before .before .before .before .before .before .before .before .pre, digit)
+    let at-byte = c .before .before .before .before .before .before in
+    let start = at-byte .before .before in
+    let digit = known is-digit (at-byte .byte .ensures) (c .before .is-digit .ensures) (c .if3 .taken) in (start .pre, digit)
 
 enum-known-end : tie.Need-enum-known-end
 enum-known-end c = search needs

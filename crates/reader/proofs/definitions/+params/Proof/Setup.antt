@@ -20,4 +20,5 @@ abbrev pub params-below : ℕ → In 1 params-kinds.ps
 params-below t = and 1 params-kinds.ps (falls 1 params-kinds.ps _<_ μ-params t) params.Pre
 
 abbrev pub params-claims : ℕ → params-lts.Claims
-params-claims t = (kind-reads.Asked, kind-reads.Learnt, type-at-reads.Asked, type-at-reads.Learnt, put-reads.Asked, put-reads.Learnt, params-below t, params.Post)
+params-claims t =
+    (kind-reads.Asked, kind-reads.Learnt, type-at-reads.Asked, type-at-reads.Learnt, put-reads.Asked, put-reads.Learnt, params-below t, params.Post)
