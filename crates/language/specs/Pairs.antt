@@ -1,4 +1,5 @@
--- A rule book and a loom's sheet: two sheets that are read as one text, and what an answer tells of a place in them (R07).
+-- A rule book and a loom's sheet: two sheets that are read as one text, and what an answer tells of a place in them
+-- (R07).
 use mathlib.Core.Bool.{cond}
 use mathlib.Core.List.{List, [], _∷_, _++_}
 use Prim.Native.Char.{code}

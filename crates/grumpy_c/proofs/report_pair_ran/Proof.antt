@@ -46,10 +46,9 @@ returns c =
     let at-front = c .before .before .before in
     let at-complement = at-front .before .before in
     let at-answer = at-complement .before .before in
-    let f : SFits w64 (at-answer .answer .given .0 .1 .0) = search needs in
-    let bits = at-complement .complement .ensures ∙ ap (ofZ w64) (toZ-ofZ {w = w64} f) in
-    let written = c .before .before .write-pair-run-report .ensures in
-    told-value _ _ _ _ _ _ _ _ (at-front .front .result) (at-answer .answer .given .1) bits (at-front .front .ensures) written
+    let f : SFits w64 (at-answer .answer .given .0 .1 .0) = search needs in let bits = at-complement .complement .ensures
+    ∙ ap (ofZ w64) (toZ-ofZ {w = w64} f) in told-value _ _ _ _ _ _ _ _ (at-front .front .result) (at-answer .answer .given .1) bits (at-front .front .ensures)
+    (c .before .before .write-pair-run-report .ensures)
 
 same-length-2 : tie.Need-same-length-2
 same-length-2 c = search needs

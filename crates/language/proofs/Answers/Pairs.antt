@@ -12,9 +12,12 @@ use Rattle.language.specs.Tokens.{Token}
 use Rattle.language.specs.Trees.{Ty, Program}
 use Rattle.language.specs.State.{Outcome, value, stop, stuck}
 use Rattle.language.specs.Meaning.{type-number}
-use Rattle.language.specs.Numbers.{Refusal, short-memory, large-allowance, long-source, text, no-reading, types, long-text, Told, passed, refused, stopped}
+use Rattle.language.specs.Numbers.{Refusal, short-memory, large-allowance, long-source, text}
+use Rattle.language.specs.Numbers.{no-reading, types, long-text, Told, passed, refused, stopped}
 use Rattle.language.specs.Answers as Answers
-use Rattle.language.specs.Answers.{Spot, nowhere, at, place-in, TextDenies, TextGives, from-text, unread, faulty, keeps, Refused, by-origin, by-tokens, Passes, Ending, ending, after-run, CheckReport, check-report, Checked, check-short, check-refused, check-passed, Check, RunReport, Lent, Ran, run-short, run-large, run-refused, run-ended, Run}
+use Rattle.language.specs.Answers.{Spot, nowhere, at, place-in, TextDenies, TextGives, from-text, unread, faulty, keeps, Refused, by-origin}
+use Rattle.language.specs.Answers.{by-tokens, Passes, Ending, ending, after-run, CheckReport, check-report, Checked, check-short}
+use Rattle.language.specs.Answers.{check-refused, check-passed, Check, RunReport, Lent, Ran, run-short, run-large, run-refused, run-ended, Run}
 use Rattle.language.specs.Pairs.{joined, Place, place-of, front, PairDenies, too-long, flawed, from-pair}
 use Rattle.language.proofs.Text.Marks.{laws-1}
 use Rattle.language.proofs.Text.OneSplit.{one-flaw}

@@ -9,7 +9,8 @@ use Rattle.language.specs.Tokens.{Vocabulary, Token, past, place-at}
 use Rattle.language.specs.Text.{Reaches, start, skip, next, token-of}
 use Rattle.language.specs.Text.Content.{token}
 use Rattle.language.specs.Numbers.{Refusal}
-use Rattle.language.specs.Answers.{Spot, nowhere, at, place-in, from-text, unread, faulty, Refused, by-origin, by-tokens, CheckReport, Checked, check-short, check-refused, check-passed, RunReport, Lent, Ran, run-short, run-large, run-refused, run-ended}
+use Rattle.language.specs.Answers.{Spot, nowhere, at, place-in, from-text, unread, faulty, Refused, by-origin, by-tokens, CheckReport, Checked}
+use Rattle.language.specs.Answers.{check-short, check-refused, check-passed, RunReport, Lent, Ran, run-short, run-large, run-refused, run-ended}
 use Rattle.language.specs.Pairs.{joined, Place, place-of, front, too-long, flawed, from-pair}
 use Rattle.language.proofs.Text.OnePiece.{form-bounds}
 use Rattle.language.proofs.Text.OneSplit.{reached-inside}

@@ -8,13 +8,17 @@ part-requires : tie.Need-part-requires
 part-requires c κs = search needs
 
 returns : tie.Need-returns
-returns c = let a = c .before .before .before .before .args in shows-second (a .first) (a .second) (a .spot) _ (c .before .if1 .taken) (c .part .ensures)
+returns c =
+    let start = c .before .before .before .before in
+    let a = start .args in shows-second (a .first) (a .second) (a .spot) _ (c .before .if1 .taken) (c .part .ensures)
 
 part-requires-2 : tie.Need-part-requires-2
 part-requires-2 c κs = search needs
 
 returns-2 : tie.Need-returns-2
-returns-2 c = let a = c .before .before .before .before .args in shows-first (a .first) (a .second) (a .spot) _ (c .before .if1 .left) (c .part2 .ensures)
+returns-2 c =
+    let start = c .before .before .before .before in
+    let a = start .args in shows-first (a .first) (a .second) (a .spot) _ (c .before .if1 .left) (c .part2 .ensures)
 
 pub line-spec : {M : Type 1} → statement M
 line-spec = tie.close (tie.spec part-requires returns part-requires-2 returns-2)
