@@ -1,10 +1,10 @@
 /* The box: reads, checks, runs and rewrites a rate sheet written in Grumpy.
  *
- * Three functions. They keep nothing between calls, ask for no memory of their own but the stack, of which
+ * Five functions. They keep nothing between calls, ask for no memory of their own but the stack, of which
  * GRUMPY_STACK bytes are enough, and call nothing from outside but memset. They may be called from several
  * threads at once, each with memory of its own.
  *
- * Lent memory. The caller lends `table` and, to grumpy_run, `work`, of at least the words named below;
+ * Lent memory. The caller lends `table` and, to those that run, `work`, of at least the words named below;
  * what they hold before the call does not matter. After the call the required words are zero and all
  * further words are as they were. If a memory is too short the answer is GRUMPY_SHORT_MEMORY and nothing
  * is changed at all. `out` may have any length, 0 too: the bytes printed, or those written, are its first
@@ -20,11 +20,25 @@
  *     report[2]  the type of the sheet, if it passed: GRUMPY_INT, GRUMPY_BOOL, ... ; else 0.
  *                Of grumpy_write the bytes written
  *
- * and grumpy_run also
+ * and those that run also
  *
  *     report[3]  the value, a number in 64-bit two's complement: (int64_t)report[3]; 0 unless the number is 0
  *     report[4]  the units used
  *     report[5]  the bytes printed
+ *
+ * Two sheets. grumpy_check_pair and grumpy_run_pair take a rule book and a loom's sheet, and read them as the
+ * first, one line feed, then the second; the limits hold for the whole. They tell besides, behind the words
+ * above (from report[3] on for check, from report[6] on for run):
+ *
+ *     sheet      which of the two holds the place, 1 or 2; report[1] is then counted in that sheet
+ *     begin      where the line around the place begins in that sheet,
+ *     end        and where it ends, its line feed not among its bytes
+ *
+ * A place at the end of a sheet shows the empty part there. Where the number has no place, sheet is 1 and
+ * all else 0. To print the line of a run, with both sheets at hand:
+ *
+ *     const uint8_t *sheet = report[6] == 1 ? first : second;
+ *     fwrite(sheet + report[7], 1, report[8] - report[7], stdout);
  *
  * A report that is too short is answered with GRUMPY_SHORT_MEMORY, and nothing is changed. Words of the
  * report past these are left alone.
@@ -45,6 +59,8 @@ extern "C" {
 #define GRUMPY_CHECK_REPORT 3
 #define GRUMPY_RUN_REPORT 6
 #define GRUMPY_WRITE_REPORT 3
+#define GRUMPY_CHECK_PAIR_REPORT 6
+#define GRUMPY_RUN_PAIR_REPORT 9
 
 /* bytes of stack that a thread which calls these functions should have: measured on the worst sheets that a
  * search has found, not proved */
@@ -108,6 +124,20 @@ uint32_t grumpy_write(const uint8_t *source, size_t source_length,
                       uint32_t *table, size_t table_length,
                       uint8_t *out, size_t out_length,
                       uint64_t *report, size_t report_length);
+
+/* Check and run of two sheets, read as one. */
+uint32_t grumpy_check_pair(const uint8_t *first, size_t first_length,
+                           const uint8_t *second, size_t second_length,
+                           uint32_t *table, size_t table_length,
+                           uint64_t *report, size_t report_length);
+
+uint32_t grumpy_run_pair(const uint8_t *first, size_t first_length,
+                         const uint8_t *second, size_t second_length,
+                         uint32_t *table, size_t table_length,
+                         uint32_t *work, size_t work_length,
+                         uint8_t *out, size_t out_length,
+                         uint64_t allowance,
+                         uint64_t *report, size_t report_length);
 
 #ifdef __cplusplus
 }

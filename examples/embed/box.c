@@ -1,5 +1,5 @@
-/* A box in small: it sets the call of a shift under a rate sheet, checks and runs the whole, prints the slip
- * and says what goes into the wage book.
+/* A box in small: it sets the call of a shift under a rate sheet, as a second sheet, checks and runs the two,
+ * prints the slip and says what goes into the wage book.
  *
  *     box SHEET PICKS RATE
  *
@@ -18,13 +18,13 @@
 /* the largest number that a sheet, and so a call, can have */
 #define LARGEST 2147483647u
 
-/* the call at its longest, with the line feed before it and the 0 that C puts behind it */
-#define CALL sizeof "\npay(2147483647,2147483647)"
-
 static uint32_t table[GRUMPY_TABLE];
 static uint32_t work[GRUMPY_WORK];
 static uint8_t slip[4096];
-static char sheet[GRUMPY_SOURCE + 1 + CALL];
+static uint8_t sheet[GRUMPY_SOURCE + 1];
+
+/* the call, with room for its longest and the 0 that C puts behind it */
+static char call[sizeof "pay(2147483647,2147483647)"];
 
 /* A word becomes part of a program, so it is read as a number first: pasted as it is, `1)+pay(1` would be a
  * call that nobody meant. Digits only, so there is no sign. */
@@ -55,15 +55,18 @@ static long load(const char *name) {
   return failed ? -1 : (long)n;
 }
 
-/* What the box answered. A place behind the sheet's own bytes is in the call, which the clerk did not write. */
-static int refuse(uint32_t number, uint64_t place, size_t own) {
+/* What the box answered, with the line of the sheet that it tells. `spot` is the part of a report that two sheets
+ * have besides: the sheet, and where its line begins and ends. Sheet 2 is the call, which the clerk did not write. */
+static int refuse(uint32_t number, uint64_t place, const uint64_t *spot) {
   fprintf(stderr, "not paid: number %" PRIu32, number);
   if (number == GRUMPY_LONG_SOURCE) {
     fprintf(stderr, ", the sheet with its call is too long\n");
-  } else if (place > own) {
-    fprintf(stderr, " in the call pay(PICKS,RATE)\n");
+  } else if (spot[0] == 2) {
+    fprintf(stderr, " in the call %s\n", call);
   } else {
     fprintf(stderr, " at byte %" PRIu64 "\n", place);
+    fwrite(sheet + spot[1], 1, spot[2] - spot[1], stderr);
+    fputc('\n', stderr);
   }
   return 1;
 }
@@ -75,26 +78,27 @@ static void tell(const uint64_t *report) {
 }
 
 static int pay(size_t own, uint32_t picks, uint32_t rate) {
-  uint64_t report[GRUMPY_RUN_REPORT];
-  size_t length = own + (size_t)sprintf(sheet + own, "\npay(%" PRIu32 ",%" PRIu32 ")", picks, rate);
-  const uint8_t *source = (const uint8_t *)sheet;
+  uint64_t report[GRUMPY_RUN_PAIR_REPORT];
+  size_t length = (size_t)sprintf(call, "pay(%" PRIu32 ",%" PRIu32 ")", picks, rate);
+  const uint8_t *second = (const uint8_t *)call;
 
   /* A sheet that passes may still give something else than an int, and its value would be booked as one. */
-  uint32_t number = grumpy_check(source, length, table, GRUMPY_TABLE, report, GRUMPY_CHECK_REPORT);
-  if (number != GRUMPY_OK) return refuse(number, report[1], own);
+  uint32_t number =
+      grumpy_check_pair(sheet, own, second, length, table, GRUMPY_TABLE, report, GRUMPY_CHECK_PAIR_REPORT);
+  if (number != GRUMPY_OK) return refuse(number, report[1], report + GRUMPY_CHECK_REPORT);
   if (report[2] != GRUMPY_INT) {
     fprintf(stderr, "not paid: what pay gives is of type %" PRIu64 ", and a wage is an int\n", report[2]);
     return 1;
   }
 
-  number = grumpy_run(source, length, table, GRUMPY_TABLE, work, GRUMPY_WORK, slip, sizeof slip,
-                      GRUMPY_ALLOWANCE, report, GRUMPY_RUN_REPORT);
+  number = grumpy_run_pair(sheet, own, second, length, table, GRUMPY_TABLE, work, GRUMPY_WORK, slip, sizeof slip,
+                           GRUMPY_ALLOWANCE, report, GRUMPY_RUN_PAIR_REPORT);
   if (fwrite(slip, 1, report[5], stdout) != report[5] || fflush(stdout) != 0) {
     perror("standard output");
     return 2;
   }
   tell(report);
-  if (number != GRUMPY_OK) return refuse(number, report[1], own);
+  if (number != GRUMPY_OK) return refuse(number, report[1], report + GRUMPY_RUN_REPORT);
   fprintf(stderr, "wage book: %" PRId64 "\n", (int64_t)report[3]);
   return 0;
 }

@@ -5,11 +5,11 @@
  * which nothing can be written. With `paint` the stack is filled with a pattern before each call, to see
  * afterwards how far down it was written.
  *
- * A request is seven words of 64 bits (service: 0 check, 1 run, 2 write; the lengths of source, table, work, output
- * and report; the allowance), then these five memories as they are. The answer is four words (the number
- * returned; how many bytes were changed that were not lent; with `paint` the bytes of stack that the call
- * took and those left below it, else 0 and 0), then the four memories that may be written. All in the
- * machine's own order of bytes.
+ * A request is eight words of 64 bits (the service, as in the enum below; the lengths of source, second source,
+ * table, work, output and report; the allowance), then these six memories as they are. The answer is four words
+ * (the number returned; how many bytes were changed that were not lent; with `paint` the bytes of stack that
+ * the call took and those left below it, else 0 and 0), then the four memories that may be written. All in
+ * the machine's own order of bytes.
  */
 #define _GNU_SOURCE
 #include <pthread.h>
@@ -20,9 +20,14 @@
 
 #include "../../include/grumpy.h"
 
-enum { SOURCE, TABLE, WORK, OUT, REPORT, MEMORIES };
+enum { CHECK, RUN, WRITE, CHECK_PAIR, RUN_PAIR };
 
-static const size_t width[MEMORIES] = {1, 4, 4, 1, 8};
+enum { SOURCE, SECOND, TABLE, WORK, OUT, REPORT, MEMORIES };
+
+static const size_t width[MEMORIES] = {1, 1, 4, 4, 1, 8};
+
+/* a request: the service, the length of each memory, the allowance */
+enum { SERVICE, LENGTHS, ALLOWANCE = LENGTHS + MEMORIES, ASKED };
 
 /* bytes kept before and behind each loan, to see whether they are touched */
 #define MARGIN 256
@@ -70,15 +75,26 @@ static uint64_t touched(const struct memory *m) {
 }
 
 static uint64_t call(const uint64_t *asked, struct memory *m) {
-  uint8_t *source = m[SOURCE].all + MARGIN;
+  const uint64_t *length = asked + LENGTHS;
+  const uint64_t allowance = asked[ALLOWANCE];
+  uint8_t *source = m[SOURCE].all + MARGIN, *second = m[SECOND].all + MARGIN;
   uint32_t *table = (uint32_t *)(m[TABLE].all + MARGIN), *work = (uint32_t *)(m[WORK].all + MARGIN);
   uint8_t *out = m[OUT].all + MARGIN;
   uint64_t *report = (uint64_t *)(m[REPORT].all + MARGIN);
-  switch (asked[0]) {
-    case 0: return grumpy_check(source, asked[1], table, asked[2], report, asked[5]);
-    case 1:
-      return grumpy_run(source, asked[1], table, asked[2], work, asked[3], out, asked[4], asked[6], report, asked[5]);
-    case 2: return grumpy_write(source, asked[1], table, asked[2], out, asked[4], report, asked[5]);
+#define LENT(memory, which) memory, length[which]
+  switch (asked[SERVICE]) {
+    case CHECK: return grumpy_check(LENT(source, SOURCE), LENT(table, TABLE), LENT(report, REPORT));
+    case RUN:
+      return grumpy_run(LENT(source, SOURCE), LENT(table, TABLE), LENT(work, WORK), LENT(out, OUT), allowance,
+                        LENT(report, REPORT));
+    case WRITE:
+      return grumpy_write(LENT(source, SOURCE), LENT(table, TABLE), LENT(out, OUT), LENT(report, REPORT));
+    case CHECK_PAIR:
+      return grumpy_check_pair(LENT(source, SOURCE), LENT(second, SECOND), LENT(table, TABLE),
+                               LENT(report, REPORT));
+    case RUN_PAIR:
+      return grumpy_run_pair(LENT(source, SOURCE), LENT(second, SECOND), LENT(table, TABLE), LENT(work, WORK),
+                             LENT(out, OUT), allowance, LENT(report, REPORT));
   }
   fail("no such service");
   return 0;
@@ -123,25 +139,35 @@ __attribute__((noinline)) static uint64_t measured(const uint64_t *asked, struct
   return number;
 }
 
+/* Whether a memory that may only be read is as it was. */
+static int changed(const struct memory *m, const unsigned char *before) {
+  return memcmp(before, m->all + MARGIN, m->bytes) != 0;
+}
+
+static unsigned char *copy(const struct memory *m, unsigned char *to) {
+  to = realloc(to, m->bytes + 1);
+  if (!to) fail("no memory");
+  memcpy(to, m->all + MARGIN, m->bytes);
+  return to;
+}
+
 static void *serve(void *unused) {
   (void)unused;
   static struct memory m[MEMORIES];
-  uint64_t asked[7];
-  unsigned char *before = NULL;
-  while (fread(asked, 8, 7, stdin) == 7) {
-    for (int k = 0; k < MEMORIES; k++) lend(&m[k], asked[1 + k] * width[k]);
-    before = realloc(before, m[SOURCE].bytes + 1);
-    if (!before) fail("no memory");
-    memcpy(before, m[SOURCE].all + MARGIN, m[SOURCE].bytes);
+  uint64_t asked[ASKED];
+  unsigned char *before[TABLE] = {NULL};
+  while (fread(asked, 8, ASKED, stdin) == ASKED) {
+    for (int k = 0; k < MEMORIES; k++) lend(&m[k], asked[LENGTHS + k] * width[k]);
+    for (int k = SOURCE; k < TABLE; k++) before[k] = copy(&m[k], before[k]);
     uint64_t told[4] = {0};
     told[0] = painted ? measured(asked, m, told + 2) : call(asked, m);
     for (int k = 0; k < MEMORIES; k++) told[1] += touched(&m[k]);
-    told[1] += memcmp(before, m[SOURCE].all + MARGIN, m[SOURCE].bytes) != 0;
+    for (int k = SOURCE; k < TABLE; k++) told[1] += changed(&m[k], before[k]);
     put(told, sizeof told);
     for (int k = TABLE; k < MEMORIES; k++) put(m[k].all + MARGIN, m[k].bytes);
     if (fflush(stdout)) fail("the answer cannot be written");
   }
-  free(before);
+  for (int k = SOURCE; k < TABLE; k++) free(before[k]);
   for (int k = 0; k < MEMORIES; k++) free(m[k].all);
   return NULL;
 }

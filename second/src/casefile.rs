@@ -9,19 +9,25 @@
 //! room 8192
 //! | the sheet, one line
 //! | and another, with an LF between the two
+//! & the second sheet, of two
+//! & and its second line
 //! ? number place type
 //! > number place "text"
+//! @ sheet place begin end
 //! = number place type value units printed "bytes"
 //! ```
 //!
 //! The loans may be left out where they are the usual ones; `room` is what is
 //! lent to Write. The `?` line is the answer of Check and may be left out where
 //! it follows from the `=` line, which is the answer of Run and ends the case.
-//! The `>` line is the answer of Write, if that is laid down. Lines that start
-//! with `#` and empty lines are nothing. See `quote` for the escapes.
+//! The `>` line is the answer of Write, if that is laid down. Of two sheets these
+//! answers are those of the whole, and the `@` line says where the place is among
+//! the two, and where the line around it begins and ends. Lines that start with
+//! `#` and empty lines are nothing. See `quote` for the escapes.
 
 use crate::answer::Lent;
-use crate::cases::{check_from_run, ran, told, Case};
+use crate::cases::{check_from_run, in_pair, ran, told, Case};
+use crate::pair::whole;
 use crate::quote;
 use crate::services::{Service, Wanted};
 use crate::trial::Trial;
@@ -81,8 +87,11 @@ pub fn read_file(name: &str, text: &str) -> Result<Vec<Case>, String> {
 struct Draft {
     title: String,
     sheet: Option<Vec<u8>>,
+    second: Option<Vec<u8>>,
     trial: Trial,
     wanted: Vec<(Service, Wanted)>,
+    /// Sheet, place, begin and end, of two sheets.
+    place: Option<[u64; 4]>,
 }
 
 impl Draft {
@@ -90,8 +99,10 @@ impl Draft {
         Draft {
             title,
             sheet: None,
+            second: None,
             trial: Trial::of(b"", Lent::default()),
             wanted: Vec::new(),
+            place: None,
         }
     }
 
@@ -100,7 +111,9 @@ impl Draft {
         let (word, rest) = line.split_once(' ').unwrap_or((line, ""));
         let Trial { lent, room, .. } = &mut self.trial;
         match word {
-            "|" => self.sheet_line(rest)?,
+            "|" => add_line(&mut self.sheet, rest)?,
+            "&" => add_line(&mut self.second, rest)?,
+            "@" => self.place = Some(four(rest)?),
             "allowance" => lent.allowance = number(rest)?,
             "output" => lent.output = number(rest)?,
             "table" => lent.table = number(rest)?,
@@ -114,41 +127,57 @@ impl Draft {
         Ok(word == "=")
     }
 
-    fn sheet_line(&mut self, text: &str) -> Result<(), String> {
-        let bytes = quote::decode(text)?;
-        match &mut self.sheet {
-            Some(sheet) => {
-                sheet.push(b'\n');
-                sheet.extend(bytes);
-            }
-            None => self.sheet = Some(bytes),
+    fn close(mut self) -> Result<Case, String> {
+        let sheet = self.sheet.take().ok_or("the case has no sheet")?;
+        let run = self.answer(Service::Run).ok_or("the case has no answer")?;
+        let check = self.answer(Service::Check).or_else(|| check_from_run(&run));
+        if let (Some(check), None) = (&check, self.answer(Service::Check)) {
+            self.wanted.push((Service::Check, check.clone()));
         }
-        Ok(())
-    }
-
-    fn close(self) -> Result<Case, String> {
-        let Draft {
-            title,
-            sheet,
-            mut trial,
-            mut wanted,
-        } = self;
-        trial.sheet = sheet.ok_or("the case has no sheet")?;
-        if wanted.iter().all(|(service, _)| *service != Service::Check) {
-            let run = wanted.iter().find(|(s, _)| *s == Service::Run);
-            let check = run.and_then(|(_, run)| check_from_run(run));
-            wanted.extend(check.map(|check| (Service::Check, check)));
+        self.trial.sheet = sheet;
+        match (self.second.take(), self.place) {
+            (None, None) => {}
+            (Some(second), Some(place)) => {
+                self.trial.cut = Some(self.trial.sheet.len());
+                self.trial.sheet = whole(&self.trial.sheet, &second);
+                let pair = |told: &Wanted| in_pair(told, place);
+                self.wanted.push((Service::RunPair, pair(&run)));
+                let check = check.iter().map(|told| (Service::CheckPair, pair(told)));
+                self.wanted.extend(check);
+            }
+            _ => return Err("two sheets and a place among them go together".to_string()),
         }
         Ok(Case {
-            title,
-            trial,
-            wanted,
+            title: self.title,
+            trial: self.trial,
+            wanted: self.wanted,
         })
     }
+
+    fn answer(&self, service: Service) -> Option<Wanted> {
+        let found = self.wanted.iter().find(|(s, _)| *s == service);
+        found.map(|(_, wanted)| wanted.clone())
+    }
+}
+
+fn add_line(sheet: &mut Option<Vec<u8>>, text: &str) -> Result<(), String> {
+    let bytes = quote::decode(text)?;
+    *sheet = Some(match sheet.take() {
+        Some(before) => whole(&before, &bytes),
+        None => bytes,
+    });
+    Ok(())
 }
 
 fn number<T: std::str::FromStr>(text: &str) -> Result<T, String> {
     text.parse().map_err(|_| format!("no number: {text}"))
+}
+
+fn four(text: &str) -> Result<[u64; 4], String> {
+    let numbers: Result<Vec<u64>, String> = text.split(' ').map(number).collect();
+    numbers?
+        .try_into()
+        .map_err(|_| "four numbers are wanted".to_string())
 }
 
 fn quoted(text: &str) -> Result<Vec<u8>, String> {

@@ -53,6 +53,19 @@ pub fn check_from_run(run: &Wanted) -> Option<Wanted> {
     }
 }
 
+/// The same said of two sheets, the place being this one of sheet, place, begin
+/// and end, where the number has one.
+pub fn in_pair(whole: &Wanted, place: [u64; 4]) -> Wanted {
+    let [sheet, place, begin, end] = match whole.number {
+        0 | 10 | 40 | 41 => [1, 0, 0, 0],
+        _ => place,
+    };
+    let mut told = whole.clone();
+    told.report[0] = place;
+    told.report.extend([sheet, begin, end]);
+    told
+}
+
 impl Case {
     /// A case that lays down what Run says, and Check where that follows.
     pub fn of_run(title: &str, trial: Trial, run: Wanted) -> Case {
@@ -93,6 +106,10 @@ pub fn show(service: Service, wanted: &Wanted) -> String {
             format!("= {number} {place} {kind} {value} {units} {printed} \"{output}\"")
         }
         (Service::Write, [place, _]) => format!("> {number} {place} \"{output}\""),
+        (Service::RunPair, [place, .., sheet, begin, end]) => {
+            format!("@ {sheet} {place} {begin} {end}")
+        }
+        (Service::CheckPair, report) => format!("check pair {number} {report:?}"),
         _ => unreachable!("a report of another length"),
     }
 }
@@ -114,8 +131,15 @@ pub fn show_case(title: &str, trial: &Trial) -> String {
             text += &format!("{name} {here}\n");
         }
     }
-    text += &format!("| {}\n", quote::encode(&trial.sheet));
-    for service in [Service::Check, Service::Write, Service::Run] {
+    let (first, second) = trial.parts();
+    text += &format!("| {}\n", quote::encode(first));
+    let mut services = vec![Service::Check, Service::Write];
+    if trial.cut.is_some() {
+        text += &format!("& {}\n", quote::encode(second));
+        services.push(Service::RunPair);
+    }
+    services.push(Service::Run);
+    for service in services {
         text += &format!("{}\n", show(service, &wanted(service, trial)));
     }
     text

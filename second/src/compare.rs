@@ -13,6 +13,8 @@ use std::fmt::Debug;
 pub struct Call<'a> {
     pub service: Service,
     pub source: &'a [u8],
+    /// The second of two sources, if there are two.
+    pub second: &'a [u8],
     pub table: &'a mut [u32],
     pub work: &'a mut [u32],
     pub output: &'a mut [u8],
@@ -28,6 +30,9 @@ pub trait Other {
 }
 
 const MARGIN: usize = 16;
+
+/// Of a sheet with very many LFs these are enough.
+const MOST_CUTS: usize = 12;
 
 /// A memory filled at random, of which only the middle is lent.
 struct Memory<T> {
@@ -79,7 +84,15 @@ impl Memory<u32> {
 /// Holds every service on this trial, and some on the sheet written out again.
 pub fn compare(other: &dyn Other, trial: &Trial) -> Result<(), String> {
     for service in Service::ALL {
-        hold(other, trial, service)?;
+        if service.applies(trial) {
+            hold(other, trial, service)?;
+        }
+    }
+    // A sheet cut in two says the same wherever it is cut (R07.2).
+    if trial.fill.is_multiple_of(20) {
+        for cut in trial.cuts().iter().take(MOST_CUTS) {
+            hold(other, cut, Service::RunPair)?;
+        }
     }
     if trial.fill.is_multiple_of(2) {
         promise::kept(other, trial).map_err(|e| format!("promise: {e}"))?;
@@ -109,9 +122,11 @@ fn differs(other: &dyn Other, trial: &Trial, service: Service) -> Result<(), Str
     let mut work = Memory::new(service.work(trial), || chance.next_word() as u32);
     let mut output = Memory::new(service.output(trial), || chance.next_word() as u8);
     let mut report = Memory::new(trial.report(service), || chance.next_word());
+    let (source, second) = service.sources(trial);
     let number = other.call(Call {
         service,
-        source: &trial.sheet,
+        source,
+        second,
         table: table.lent(),
         work: work.lent(),
         output: output.lent(),
@@ -167,6 +182,7 @@ mod tests {
                 "a unit for each allowed" if call.service == Service::Run && number == 0 => {
                     call.report[3] = call.allowance
                 }
+                "the other sheet" if call.service == Service::RunPair => call.report[6] ^= 3,
                 "no line feed" if call.service == Service::Write && number == 0 => {
                     output[used - 1] = b' '
                 }
@@ -186,7 +202,12 @@ mod tests {
                 output: call.output.len(),
                 allowance: call.allowance,
             };
-            let mut trial = Trial::of(call.source, lent);
+            let mut trial = match call.service {
+                Service::CheckPair | Service::RunPair => {
+                    Trial::of_pair(call.source, call.second, lent)
+                }
+                _ => Trial::of(call.source, lent),
+            };
             trial.room = call.output.len();
             let told = wanted(call.service, &trial);
             leave(call.table, told.table, TABLE_WORDS);
@@ -230,6 +251,7 @@ mod tests {
             "a word not cleared",
             "a word past the end",
             "a byte too many",
+            "the other sheet",
             "no line feed",
         ] {
             assert!(failures(fault) > 0, "{fault}");

@@ -15,6 +15,7 @@ pub fn hold(trial: &Trial) -> Result<(), String> {
     let answer = answer::run(&trial.sheet, &trial.lent);
     let mut laws = run_laws(trial, &answer);
     laws.extend(write_laws(trial, &answer));
+    laws.extend(pair_laws(trial));
     laws.extend(promises(trial, &answer));
     match laws.iter().find(|(holds, _)| !holds) {
         Some((_, law)) => Err(law.to_string()),
@@ -99,6 +100,35 @@ fn promises(trial: &Trial, answer: &Answer) -> Vec<Law> {
             "more units, another end",
         ),
     ]
+}
+
+/// R07.2: wherever a sheet is cut, the place is the same byte of the whole, and
+/// the line is around it.
+fn pair_laws(trial: &Trial) -> Vec<Law> {
+    let whole = wanted(Service::Run, trial);
+    let mut laws = Vec::new();
+    for cut in trial.cuts().iter().take(20) {
+        let told = wanted(Service::RunPair, cut);
+        let [place, kind, value, units, printed, sheet, begin, end] = told.report[..] else {
+            unreachable!("eight words behind the number");
+        };
+        let (first, second) = cut.parts();
+        let before = if sheet == 2 {
+            first.len() as u64 + 1
+        } else {
+            0
+        };
+        let shown = if sheet == 2 { second } else { first };
+        let same = [before + place, kind, value, units, printed] == whole.report[..];
+        let around = begin <= place && place <= end && end <= shown.len() as u64;
+        let line = around && !shown[begin as usize..end as usize].contains(&b'\n');
+        laws.push((
+            told.number == whole.number && same,
+            "cut in two it is another answer",
+        ));
+        laws.push((line, "a line that is none"));
+    }
+    laws
 }
 
 fn kinds(source: &[u8]) -> Vec<Kind> {

@@ -96,6 +96,7 @@ impl Pipes {
     fn ask(&mut self, call: &Call) -> io::Result<()> {
         let lengths = [
             call.source.len(),
+            call.second.len(),
             call.table.len(),
             call.work.len(),
             call.output.len(),
@@ -105,6 +106,7 @@ impl Pipes {
         self.send_long(&lengths.map(|n| n as u64))?;
         self.send_long(&[call.allowance])?;
         self.asked.write_all(call.source)?;
+        self.asked.write_all(call.second)?;
         self.send_short(call.table)?;
         self.send_short(call.work)?;
         self.asked.write_all(call.output)?;

@@ -34,6 +34,7 @@ fn call(other: &dyn Other, service: Service, trial: &Trial, lent: &Lent) -> Resu
     other.call(Call {
         service,
         source: &trial.sheet,
+        second: &[],
         table: &mut table,
         work: &mut work,
         output: &mut output,

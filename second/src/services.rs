@@ -1,6 +1,7 @@
 //! The services as they are reached from outside, and what each must come to.
 
 use crate::answer::{self, Left};
+use crate::pair::{placed, Placed};
 use crate::trial::Trial;
 use crate::write;
 
@@ -9,38 +10,59 @@ pub enum Service {
     Check,
     Run,
     Write,
+    CheckPair,
+    RunPair,
 }
 
+use Service::{Check, CheckPair, Run, RunPair, Write};
+
 impl Service {
-    pub const ALL: [Service; 3] = [Service::Check, Service::Run, Service::Write];
+    pub const ALL: [Service; 5] = [Check, Run, Write, CheckPair, RunPair];
 
     /// Its number in what is asked of the bridge.
     pub fn code(self) -> u64 {
         self as u64
     }
 
+    /// Whether the trial is one for this service.
+    pub fn applies(self, trial: &Trial) -> bool {
+        match self {
+            CheckPair | RunPair => trial.cut.is_some(),
+            _ => true,
+        }
+    }
+
     /// The words of a complete report.
     pub fn words(self) -> usize {
         match self {
-            Service::Check | Service::Write => 3,
-            Service::Run => 6,
+            Check | Write => 3,
+            Run | CheckPair => 6,
+            RunPair => 9,
+        }
+    }
+
+    /// The sources that the trial has for this service.
+    pub fn sources(self, trial: &Trial) -> (&[u8], &[u8]) {
+        match self {
+            CheckPair | RunPair => trial.parts(),
+            _ => (&trial.sheet, &[]),
         }
     }
 
     /// The words of work memory that the trial lends to this service.
     pub fn work(self, trial: &Trial) -> usize {
         match self {
-            Service::Run => trial.lent.work,
-            Service::Check | Service::Write => 0,
+            Run | RunPair => trial.lent.work,
+            _ => 0,
         }
     }
 
     /// The bytes of output that the trial lends to this service.
     pub fn output(self, trial: &Trial) -> usize {
         match self {
-            Service::Check => 0,
-            Service::Run => trial.lent.output,
-            Service::Write => trial.room,
+            Run | RunPair => trial.lent.output,
+            Write => trial.room,
+            Check | CheckPair => 0,
         }
     }
 }
@@ -60,36 +82,59 @@ pub struct Wanted {
 /// What this interpreter says to the trial.
 pub fn wanted(service: Service, trial: &Trial) -> Wanted {
     match service {
-        Service::Check => {
-            let told = answer::check(&trial.sheet, trial.lent.table);
-            Wanted {
-                number: told.number,
-                report: vec![told.place, told.kind],
-                output: vec![],
-                table: told.table,
-                work: Left::AsBefore,
-            }
-        }
-        Service::Run => {
-            let told = answer::run(&trial.sheet, &trial.lent);
-            let (value, printed) = (told.value as u64, told.printed.len() as u64);
-            Wanted {
-                number: told.number,
-                report: vec![told.place, told.kind, value, told.units, printed],
-                output: told.printed,
-                table: told.table,
-                work: told.work,
-            }
-        }
-        Service::Write => {
-            let told = write::write(&trial.sheet, trial.lent.table, trial.room);
-            Wanted {
-                number: told.number,
-                report: vec![told.place, told.text.len() as u64],
-                output: told.text,
-                table: told.table,
-                work: Left::AsBefore,
-            }
-        }
+        Check => checked(trial),
+        Run => ran(trial),
+        Write => written(trial),
+        CheckPair => of_pair(checked(trial), trial),
+        RunPair => of_pair(ran(trial), trial),
     }
+}
+
+fn checked(trial: &Trial) -> Wanted {
+    let told = answer::check(&trial.sheet, trial.lent.table);
+    Wanted {
+        number: told.number,
+        report: vec![told.place, told.kind],
+        output: vec![],
+        table: told.table,
+        work: Left::AsBefore,
+    }
+}
+
+fn ran(trial: &Trial) -> Wanted {
+    let told = answer::run(&trial.sheet, &trial.lent);
+    let (value, printed) = (told.value as u64, told.printed.len() as u64);
+    Wanted {
+        number: told.number,
+        report: vec![told.place, told.kind, value, told.units, printed],
+        output: told.printed,
+        table: told.table,
+        work: told.work,
+    }
+}
+
+fn written(trial: &Trial) -> Wanted {
+    let told = write::write(&trial.sheet, trial.lent.table, trial.room);
+    Wanted {
+        number: told.number,
+        report: vec![told.place, told.text.len() as u64],
+        output: told.text,
+        table: told.table,
+        work: Left::AsBefore,
+    }
+}
+
+/// The same told of two sheets: the place in its own, and at the end the sheet
+/// and the line.
+fn of_pair(mut told: Wanted, trial: &Trial) -> Wanted {
+    let (first, second) = trial.parts();
+    let Placed {
+        sheet,
+        place,
+        begin,
+        end,
+    } = placed(told.number, told.report[0], first, second);
+    told.report[0] = place;
+    told.report.extend([sheet, begin, end]);
+    told
 }

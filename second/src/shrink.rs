@@ -25,10 +25,19 @@ pub fn shrink(start: Trial, mut fails: impl FnMut(&Trial) -> bool) -> Trial {
 
 /// Tries the trial with these parts as its sheet.
 fn accept(best: &mut Trial, parts: &[Vec<u8>], fails: &mut impl FnMut(&Trial) -> bool) -> bool {
-    let next = Trial {
+    let mut next = Trial {
         sheet: parts.concat(),
         ..best.clone()
     };
+    // A sheet that is cut stays so, at the LF that is nearest to the old cut.
+    if let Some(cut) = best.cut {
+        let mut feeds: Vec<usize> = (0..next.sheet.len()).collect();
+        feeds.retain(|at| next.sheet[*at] == b'\n');
+        let Some(feed) = feeds.into_iter().min_by_key(|at| at.abs_diff(cut)) else {
+            return false;
+        };
+        next.cut = Some(feed);
+    }
     let still = fails(&next);
     if still {
         *best = next;
@@ -39,11 +48,12 @@ fn accept(best: &mut Trial, parts: &[Vec<u8>], fails: &mut impl FnMut(&Trial) ->
 /// Puts the usual loan in place of each one that does not matter.
 fn plain_loans(best: &mut Trial, fails: &mut impl FnMut(&Trial) -> bool) {
     let usual = Lent::default();
-    let changes: [fn(&mut Trial, Lent); 7] = [
+    let changes: [fn(&mut Trial, Lent); 8] = [
         |t, usual| t.lent.table = usual.table,
         |t, usual| t.lent.work = usual.work,
         |t, usual| t.lent.output = usual.output,
         |t, usual| t.lent.allowance = usual.allowance,
+        |t, _| t.cut = None,
         |t, _| t.room = MOST_BYTES,
         |t, _| t.short = None,
         |t, _| t.more = 0,

@@ -2,6 +2,7 @@
 
 use crate::answer::{self, Lent, MOST_BYTES, MOST_UNITS, TABLE_WORDS, WORK_WORDS};
 use crate::chance::Chance;
+use crate::pair::whole;
 use crate::services::Service;
 use crate::write::write;
 use crate::{damage, rare, sheets, slips};
@@ -9,6 +10,8 @@ use crate::{damage, rare, sheets, slips};
 #[derive(Clone, Debug)]
 pub struct Trial {
     pub sheet: Vec<u8>,
+    /// The LF at which the sheet is cut in two for the services of two sheets.
+    pub cut: Option<usize>,
     pub lent: Lent,
     /// The bytes lent to Write.
     pub room: usize,
@@ -25,12 +28,38 @@ impl Trial {
     pub fn of(sheet: &[u8], lent: Lent) -> Trial {
         Trial {
             sheet: sheet.to_vec(),
+            cut: None,
             lent,
             room: MOST_BYTES,
             short: None,
             more: 0,
             fill: 1,
         }
+    }
+
+    /// A trial of two sheets, which together are one.
+    pub fn of_pair(first: &[u8], second: &[u8], lent: Lent) -> Trial {
+        Trial {
+            cut: Some(first.len()),
+            ..Trial::of(&whole(first, second), lent)
+        }
+    }
+
+    /// The two sheets, if it is cut.
+    pub fn parts(&self) -> (&[u8], &[u8]) {
+        let cut = self.cut.unwrap_or(self.sheet.len());
+        let second = self.sheet.get(cut + 1..).unwrap_or_default();
+        (&self.sheet[..cut], second)
+    }
+
+    /// The same sheet, cut at every one of its LFs.
+    pub fn cuts(&self) -> Vec<Trial> {
+        let feeds = places_of(b'\n', &self.sheet).into_iter();
+        let cut = |at: usize| Trial {
+            cut: Some(at),
+            ..self.clone()
+        };
+        feeds.map(cut).collect()
     }
 
     /// The words of the report of this service.
@@ -45,18 +74,49 @@ impl Trial {
 /// The trial of this number in the series of this seed.
 pub fn make(seed: u64, index: u64) -> Trial {
     let mut chance = Chance::new(seed, index);
-    let sheet = make_sheet(&mut chance);
+    let mut sheet = make_sheet(&mut chance);
+    let cut = make_cut(&mut chance, &mut sheet);
     let lent = make_loans(&mut chance, &sheet);
     let room = make_room(&mut chance, &sheet);
     let short = chance.one_in(300).then(|| chance.below(100));
     Trial {
         sheet,
+        cut,
         lent,
         room,
         short,
         more: chance.pick(&[0, 0, 0, 1, 4]),
         fill: chance.next_word(),
     }
+}
+
+/// One of the sheet's LFs to cut it at. If it has none, a space becomes one, or
+/// one is put in anywhere, so that tokens, comments and numbers are cut too.
+fn make_cut(chance: &mut Chance, sheet: &mut Vec<u8>) -> Option<usize> {
+    if chance.one_in(2) {
+        return None;
+    }
+    let feeds = places_of(b'\n', sheet);
+    let spaces = places_of(b' ', sheet);
+    if !feeds.is_empty() && !chance.one_in(6) {
+        return Some(chance.pick(&feeds));
+    }
+    if !spaces.is_empty() && !chance.one_in(6) {
+        let at = chance.pick(&spaces);
+        sheet[at] = b'\n';
+        return Some(at);
+    }
+    let at = match chance.below(4) {
+        0 => 0,
+        1 => sheet.len(),
+        _ => chance.below(sheet.len() + 1),
+    };
+    sheet.insert(at, b'\n');
+    Some(at)
+}
+
+fn places_of(byte: u8, sheet: &[u8]) -> Vec<usize> {
+    (0..sheet.len()).filter(|at| sheet[*at] == byte).collect()
 }
 
 /// Room for what is written of the sheet, or not quite.

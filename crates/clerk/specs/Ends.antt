@@ -1,10 +1,13 @@
 -- What came of a sheet, from what the box answered, and the status that the program ends with.
 use mathlib.Core.Bool.{Bool, true, false, cond}
-use lib.Dec.{eqb, ltb}
+use lib.Dec.{eqb}
 use Prim.Native.Nat.{ℕ}
 use Rattle.grumpy.specs.declared.answers.Checked as checked
+use Rattle.grumpy.specs.declared.answers.PairChecked as pair-checked
+use Rattle.grumpy.specs.declared.answers.PairRan as pair-ran
 use Rattle.grumpy.specs.declared.answers.Ran as ran
 use Rattle.numbers.specs.declared.Refusal.{Refusal}
+use Rattle.pairs.specs.declared.Spot.{Spot}
 use Rattle.clerk.specs.declared.causes.Cause as cause
 use Rattle.clerk.specs.declared.ends.End.{End}
 use Rattle.clerk.specs.declared.ends.End.the-variants.{Passed, Value, Refused, Stopped}
@@ -27,23 +30,36 @@ is-unread Refusal.NoReading = true
 is-unread (Refusal.Types r) = false
 is-unread Refusal.LongText = false
 
--- ---- a rate sheet of `own` bytes, with a call under it that begins behind them
+-- ---- a rate sheet, with a call under it as the second sheet
 
 abbrev pub sided : (called : Bool) → Refusal → (place : ℕ) → End
 sided called r place =
     cond called (Refused (cause.the-variants.Called r) 0) (Refused (cause.the-variants.Refused r) place)
 
 -- a sheet that is too long with its call is so by its call
-abbrev pub refused-under : (own : ℕ) → Refusal → (place : ℕ) → End
-refused-under own r place = cond (is-long r) (sided true r place) (sided (ltb own place) r place)
+abbrev pub refused-under : Refusal → Spot → End
+refused-under r s = cond (is-long r) (sided true r (s .at)) (sided (eqb (s .sheet) 2) r (s .at))
 
 -- what a call gives has to be an int, whose number is 1 (S067)
 abbrev pub passed-under : (type-number : ℕ) → End
 passed-under k = cond (eqb k 1) (Passed k) (Refused (cause.the-variants.NoWage k) 0)
 
-abbrev pub checked-under : (own : ℕ) → checked.Checked → End
-checked-under own (checked.the-variants.Passed k) = passed-under k
-checked-under own (checked.the-variants.Refused r p) = refused-under own r p
+abbrev pub checked-under : pair-checked.PairChecked → End
+checked-under (pair-checked.the-variants.Passed k) = passed-under k
+checked-under (pair-checked.the-variants.Refused r s) = refused-under r s
+
+-- a place in the call counts as the end of the sheet, which has `own` bytes
+abbrev pub own-place : (own : ℕ) → Spot → ℕ
+own-place own s = cond (eqb (s .sheet) 2) own (s .at)
+
+abbrev pub ran-under : (own : ℕ) → pair-ran.PairRan → End
+ran-under own (pair-ran.the-variants.Value k v u n) = Value k v u n
+ran-under own (pair-ran.the-variants.Stopped w s k u n) = Stopped (cause.the-variants.Stopped w) (own-place own s) k u n
+ran-under own (pair-ran.the-variants.Refused r s) = refused-under r s
+
+abbrev pub unread-under : pair-checked.PairChecked → Bool
+unread-under (pair-checked.the-variants.Passed k) = false
+unread-under (pair-checked.the-variants.Refused r s) = is-unread r
 
 -- no program with its call, and one without it: then it is whole already
 abbrev pub completed-if : (unread : Bool) → End → End

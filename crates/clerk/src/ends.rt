@@ -1,11 +1,15 @@
 // What came of a sheet, from what the box answered.
 ghost use mathlib.Core.Path.{_≡_};
 ghost use Rattle.clerk.specs.Ends.{is-long, is-unread, sided, refused-under, passed-under, checked-end};
-ghost use Rattle.clerk.specs.Ends.{checked-under, ran-end, unread-end, completed-if, status-of, printed-of};
+ghost use Rattle.clerk.specs.Ends.{checked-under, own-place, ran-under, unread-under, ran-end, unread-end};
+ghost use Rattle.clerk.specs.Ends.{completed-if, status-of, printed-of};
 use crate::causes::Cause;
 use grumpy::answers::Checked;
+use grumpy::answers::PairChecked;
+use grumpy::answers::PairRan;
 use grumpy::answers::Ran;
 use numbers::Refusal;
+use pairs::Spot;
 
 pub enum End {
     // It passed, and has the type with this number.
@@ -28,6 +32,9 @@ pub enum End {
 }
 
 const INT: u32 = 1;
+
+// The sheet that the call is, of the two.
+const CALL: u32 = 2;
 
 fn is_long(why: Refusal) -> bool
     ensures { λ r. ⌜ r ≡ is-long why ⌝ }
@@ -67,14 +74,14 @@ fn side(called: bool, why: Refusal, place: usize) -> End
     End::Refused(Cause::Refused(why), place)
 }
 
-// A sheet of so many bytes was refused with a call under it, which begins behind them.
-fn refused(own: usize, why: Refusal, place: usize) -> End
-    ensures { λ r. ⌜ r ≡ refused-under own why place ⌝ }
+// A sheet was refused with a call under it.
+fn refused(why: Refusal, spot: Spot) -> End
+    ensures { λ r. ⌜ r ≡ refused-under why spot ⌝ }
 {
     if is_long(why) {
-        return side(true, why, place);
+        return side(true, why, spot.at);
     }
-    side(own < place, why, place)
+    side(spot.sheet == CALL, why, spot.at)
 }
 
 // What a call gives has to be an int.
@@ -97,17 +104,73 @@ pub fn of_check(answer: Checked) -> End
     }
 }
 
-// What came of the check of a rate sheet of so many bytes, with a call under it.
-pub fn of_called_check(own: usize, answer: Checked) -> End
-    ensures { λ r. ⌜ r ≡ checked-under own answer ⌝ }
+// What came of the check of a rate sheet, with a call under it.
+pub fn of_called_check(answer: PairChecked) -> End
+    ensures { λ r. ⌜ r ≡ checked-under answer ⌝ }
 {
     match answer {
-        Checked::Passed(type_number) => passed(type_number),
-        Checked::Refused(why, place) => refused(own, why, place),
+        PairChecked::Passed(type_number) => passed(type_number),
+        PairChecked::Refused(why, spot) => refused(why, spot),
     }
 }
 
-// What came of a run. It is no matter whether a call stood under the sheet: it was checked before.
+// A place in the sheet, which has so many bytes. One in the call counts as the sheet's end.
+fn own_place(own: usize, spot: Spot) -> usize
+    ensures { λ r. ⌜ r ≡ own-place own spot ⌝ }
+{
+    if spot.sheet == CALL {
+        return own;
+    }
+    spot.at
+}
+
+// What came of the run of a rate sheet of so many bytes, with a call under it.
+pub fn of_called_run(own: usize, answer: PairRan) -> End
+    ensures { λ r. ⌜ r ≡ ran-under own answer ⌝ }
+{
+    match answer {
+        PairRan::Value {
+            type_number,
+            value,
+            units,
+            printed,
+        } => End::Value {
+            type_number,
+            value,
+            units,
+            printed,
+        },
+        PairRan::Stopped {
+            why,
+            spot,
+            type_number,
+            units,
+            printed,
+        } => {
+            let place = own_place(own, spot);
+            End::Stopped {
+                why: Cause::Stopped(why),
+                place,
+                type_number,
+                units,
+                printed,
+            }
+        }
+        PairRan::Refused(why, spot) => refused(why, spot),
+    }
+}
+
+// Is this rate sheet, with the call under it, no program?
+pub fn unread_called(answer: PairChecked) -> bool
+    ensures { λ r. ⌜ r ≡ unread-under answer ⌝ }
+{
+    match answer {
+        PairChecked::Passed(_) => false,
+        PairChecked::Refused(why, _) => is_unread(why),
+    }
+}
+
+// What came of the run of a whole sheet.
 pub fn of_run(answer: Ran) -> End
     ensures { λ r. ⌜ r ≡ ran-end answer ⌝ }
 {

@@ -32,7 +32,8 @@ fn meaning(out: &mut [u8], at: usize, why: Cause) -> usize
 // File, line and column of a place in the sheet.
 pub fn position(out: &mut [u8], at: usize, file: &[u8], sheet: &[u8], place: usize) -> usize
     ensures { λ r. ⌜ Counts r (now (out .exit)) ⌝ }
-    ensures { λ r. ⌜ Positioned (now (file .entry)) (now (sheet .entry)) place (now (out .entry)) (now (out .exit)) at r ⌝ }
+    ensures { λ r.
+        ⌜ Positioned (now (file .entry)) (now (sheet .entry)) place (now (out .entry)) (now (out .exit)) at r ⌝ }
 {
     let spot = spot(sheet, place);
     let a = fields::name(out, at, file);

@@ -5,3 +5,5 @@ pub mod Determined
 pub mod Demands
 pub mod Rewriting
 pub mod HeadOffice
+pub mod Moves
+pub mod TwoSheets

@@ -2,7 +2,7 @@
 use mathlib.Core.List.{List, []}
 use mathlib.Core.Logic.{_⊎_}
 use mathlib.Core.Option.{some}
-use mathlib.Core.Path.{_≡_, refl, sym, subst, _∙_}
+use mathlib.Core.Path.{_≡_, refl, sym, ap, subst, _∙_}
 use Prim.Native.Nat.{ℕ, _≤_, _<_}
 use lib.ListN.{length}
 use Rattle.language.specs.Sizes.{TOKENS, TABLE, WORK, ALLOWANCE}
@@ -97,10 +97,10 @@ ended-ran : (source w : List ℕ) (l : Lent) {ts : List Token} {p : Program} {t 
 ended-ran source w l count n bs (Ending.Value v u k) g f p x s a b = rw (a, b) (run-ended g f p x)
 ended-ran source w l count n bs (Ending.Stopped y i u k) g f p x s a b = rw (a, b, byte-stands source s i) (run-ended g f p x)
 
-pub answered-sheet : (source w work out work′ out′ : List ℕ) (P : Held) (t allowance : ℕ) (s : Seen) (e : Ending) (r : Ran)
-    → Executed w work out work′ out′ P allowance e → s ≡ Seen.Passes P t → r ≡ ran-of w (P .count) (length source) t e
+pub answered-sheet : (source w work out work′ out′ : List ℕ) (P : Held) (t allowance end : ℕ) (s : Seen) (e : Ending) (r : Ran)
+    → Executed w work out work′ out′ P allowance e → s ≡ Seen.Passes P t → end ≡ length source → r ≡ ran-of w (P .count) end t e
     → Answered source w work out work′ out′ allowance s r
-answered-sheet source w work out work′ out′ P t allowance s e r x z k = record {
+answered-sheet source w work out work′ out′ P t allowance end s e r x z n j = let k = j ∙ ap (λ (i : ℕ). ran-of w (P .count) i t e) n in record {
   told = λ l y g o m f.
       let p = subst (OfSource source w) z y in
       let b = x .told (p .tokens) (p .program) (p .type) (p .holds) (p .passes .proper .typed) in

@@ -4,10 +4,14 @@ use lib.IntN.{pos}
 use Rattle.language.specs.Numbers.{passed, refused, stopped}
 use Rattle.language.specs.Answers.{CheckReport, check-report, RunReport, refusal}
 use Rattle.language.specs.Writing.{WriteReport, write-report}
+use Rattle.language.specs.Pairs.{Place, front}
 use Rattle.numbers.specs.Meanings.{refusal-meant, stop-meant}
+use Rattle.pairs.specs.Spots.{meant}
 use Rattle.grumpy.specs.declared.answers.Checked.{Checked}
 use Rattle.grumpy.specs.declared.answers.Ran.{Ran}
 use Rattle.grumpy.specs.declared.answers.Wrote.{Wrote}
+use Rattle.grumpy.specs.declared.answers.PairChecked.{PairChecked}
+use Rattle.grumpy.specs.declared.answers.PairRan.{PairRan}
 
 abbrev pub checked-report : Checked → CheckReport ℕ
 checked-report (Checked.Passed t) = check-report passed 0 t
@@ -22,3 +26,15 @@ ran-report (Ran.Refused y i) = refusal (refusal-meant y) i
 abbrev pub wrote-report : Wrote → WriteReport ℕ
 wrote-report (Wrote.Written n) = write-report passed 0 n
 wrote-report (Wrote.Refused y i) = write-report (refused (refusal-meant y)) i 0
+
+-- the same of two sheets
+abbrev pub pair-checked-report : PairChecked → CheckReport Place
+pair-checked-report (PairChecked.Passed t) = check-report passed front t
+pair-checked-report (PairChecked.Refused y x) = check-report (refused (refusal-meant y)) (meant x) 0
+
+abbrev pub pair-ran-report : PairRan → RunReport Place
+pair-ran-report (PairRan.Value t v u n) =
+    record { told = passed; place = front; type = t; value = v; units = u; printed = n }
+pair-ran-report (PairRan.Stopped y x t u n) =
+    record { told = stopped (stop-meant y); place = meant x; type = t; value = pos 0; units = u; printed = n }
+pair-ran-report (PairRan.Refused y x) = refusal (refusal-meant y) (meant x)

@@ -1,6 +1,7 @@
 // What the services answer. `specs/Reports.antt` gives the paper's numbers for each case.
 use numbers::Refusal;
 use numbers::Stop;
+use pairs::Spot;
 
 // A type's number, or a refusal and the byte it is told at.
 pub enum Checked {
@@ -31,4 +32,27 @@ pub enum Ran {
 pub enum Wrote {
     Written(usize),
     Refused(Refusal, usize),
+}
+
+// The same of two sheets: a refusal or a stop is told at a spot, which names the sheet and the line.
+pub enum PairChecked {
+    Passed(u32),
+    Refused(Refusal, Spot),
+}
+
+pub enum PairRan {
+    Value {
+        type_number: u32,
+        value: i64,
+        units: u32,
+        printed: usize,
+    },
+    Stopped {
+        why: Stop,
+        spot: Spot,
+        type_number: u32,
+        units: u32,
+        printed: usize,
+    },
+    Refused(Refusal, Spot),
 }

@@ -1,15 +1,23 @@
-// The three services of the box. Check reads a sheet and answers its type or a refusal; run checks it
-// again and runs it; write checks it and writes it out again. They take any bytes, any lent memory and any
-// allowance, and tell what the table of numbers has; what they leave in lent memory follows from that.
+// The services of the box. Check reads a sheet and answers its type or a refusal; run checks it again and
+// runs it; write checks it and writes it out again. Check and run also take two sheets, a rule book and a
+// loom's, and read them as one. All take any bytes, any lent memory and any allowance, and tell what the
+// table of numbers has; what they leave in lent memory follows from that.
 ghost use Rattle.language.specs.Answers.{from-text, Check, Run};
+ghost use Rattle.language.specs.Pairs.{from-pair};
 ghost use Rattle.language.specs.Writing.{Write};
+ghost use Rattle.pairs.specs.Spots.{Shows};
+ghost use Rattle.tokens.specs.Shown.{text-of};
 ghost use Rattle.grumpy.specs.Reports.{checked-report, ran-report, wrote-report};
+ghost use Rattle.grumpy.specs.Reports.{pair-checked-report, pair-ran-report};
 
 pub mod answers;
 mod outcomes;
+mod places;
 mod writings;
 
 use crate::answers::Checked;
+use crate::answers::PairChecked;
+use crate::answers::PairRan;
 use crate::answers::Ran;
 use crate::answers::Wrote;
 use language::ALLOWANCE;
@@ -17,16 +25,19 @@ use language::TABLE;
 use language::WORK;
 use layout::memory;
 use numbers::Refusal;
+use pairs::Spot;
 use sheets::Seen;
+use tokens::view::View;
 
-pub fn check(source: &[u8], table: &mut [u32]) -> Checked
-    ensures { λ r. ⌜ Check (from-text (now (source .entry))) (now (table .entry)) (checked-report r)
-        (now (table .exit)) ⌝ }
+// What check answers for the text that a view shows.
+fn check_text(first: &[u8], second: &[u8], view: View, table: &mut [u32]) -> Checked
+    ensures { λ r. ⌜ Check (from-text (text-of (first .entry) (second .entry) view)) (now (table .entry))
+        (checked-report r) (now (table .exit)) ⌝ }
 {
     if table.len() < TABLE {
         return Checked::Refused(Refusal::ShortMemory, 0);
     }
-    let seen = sheets::examine(source, table);
+    let seen = sheets::examine(first, second, view, table);
     memory::clear(table, 0, TABLE);
     match seen {
         Seen::Passes {
@@ -35,6 +46,62 @@ pub fn check(source: &[u8], table: &mut [u32]) -> Checked
         } => Checked::Passed(type_number),
         Seen::Refused(why, place) => Checked::Refused(why, place),
     }
+}
+
+pub fn check(source: &[u8], table: &mut [u32]) -> Checked
+    ensures { λ r. ⌜ Check (from-text (now (source .entry))) (now (table .entry)) (checked-report r)
+        (now (table .exit)) ⌝ }
+{
+    check_text(source, source, View::Plain, table)
+}
+
+// The first sheet, one LF, then the second, without their being put together.
+pub fn check_pair(first: &[u8], second: &[u8], table: &mut [u32]) -> PairChecked
+    ensures { λ r. ⌜ Check (from-pair (now (first .entry)) (now (second .entry))) (now (table .entry))
+        (pair-checked-report r) (now (table .exit)) ⌝ }
+{
+    let answer = check_text(first, second, View::Joined, table);
+    places::checked(first, second, answer)
+}
+
+// What run answers for the text that a view shows.
+fn run_text(
+    first: &[u8],
+    second: &[u8],
+    view: View,
+    table: &mut [u32],
+    work: &mut [u32],
+    out: &mut [u8],
+    allowance: u64,
+) -> Ran
+    ensures { λ r. ⌜ Run (from-text (text-of (first .entry) (second .entry) view)) (now (table .entry))
+        (now (work .entry)) (now (out .entry)) allowance (ran-report r) (now (table .exit)) (now (work .exit))
+        (now (out .exit)) ⌝ }
+{
+    if table.len() < TABLE {
+        return Ran::Refused(Refusal::ShortMemory, 0);
+    }
+    if work.len() < WORK {
+        return Ran::Refused(Refusal::ShortMemory, 0);
+    }
+    if ALLOWANCE < allowance {
+        memory::clear(table, 0, TABLE);
+        memory::clear(work, 0, WORK);
+        return Ran::Refused(Refusal::LargeAllowance, 0);
+    }
+    let seen = sheets::examine(first, second, view, table);
+    let answer = outcomes::run_or_refuse(
+        first,
+        second,
+        view,
+        table,
+        work,
+        out,
+        seen,
+        allowance as u32,
+    );
+    memory::clear(table, 0, TABLE);
+    answer
 }
 
 // `source` is the whole sheet, its call set under it; `out` gets the bytes of the slip.
@@ -48,21 +115,24 @@ pub fn run(
     ensures { λ r. ⌜ Run (from-text (now (source .entry))) (now (table .entry)) (now (work .entry)) (now (out .entry))
         allowance (ran-report r) (now (table .exit)) (now (work .exit)) (now (out .exit)) ⌝ }
 {
-    if table.len() < TABLE {
-        return Ran::Refused(Refusal::ShortMemory, 0);
-    }
-    if work.len() < WORK {
-        return Ran::Refused(Refusal::ShortMemory, 0);
-    }
-    if ALLOWANCE < allowance {
-        memory::clear(table, 0, TABLE);
-        memory::clear(work, 0, WORK);
-        return Ran::Refused(Refusal::LargeAllowance, 0);
-    }
-    let seen = sheets::examine(source, table);
-    let answer = outcomes::run_or_refuse(source, table, work, out, seen, allowance as u32);
-    memory::clear(table, 0, TABLE);
-    answer
+    run_text(source, source, View::Plain, table, work, out, allowance)
+}
+
+// The same of two sheets: the rule book, and the loom's sheet with its call.
+pub fn run_pair(
+    first: &[u8],
+    second: &[u8],
+    table: &mut [u32],
+    work: &mut [u32],
+    out: &mut [u8],
+    allowance: u64,
+) -> PairRan
+    ensures { λ r. ⌜ Run (from-pair (now (first .entry)) (now (second .entry))) (now (table .entry))
+        (now (work .entry)) (now (out .entry)) allowance (pair-ran-report r) (now (table .exit)) (now (work .exit))
+        (now (out .exit)) ⌝ }
+{
+    let answer = run_text(first, second, View::Joined, table, work, out, allowance);
+    places::ran(first, second, answer)
 }
 
 // `out` gets the sheet's tokens, one space between every two and LF at the end.
@@ -74,8 +144,15 @@ pub fn write(source: &[u8], table: &mut [u32], out: &mut [u8]) -> Wrote
     if table.len() < TABLE {
         return Wrote::Refused(Refusal::ShortMemory, 0);
     }
-    let seen = sheets::examine(source, table);
+    let seen = sheets::examine(source, source, View::Plain, table);
     let answer = writings::write_or_refuse(source, table, out, seen);
     memory::clear(table, 0, TABLE);
     answer
+}
+
+// The line that a spot shows, as a part of its sheet.
+pub fn line<'a>(first: &'a [u8], second: &'a [u8], spot: Spot) -> &'a [u8]
+    ensures { λ r. ⌜ Shows (first .entry) (second .entry) spot r ⌝ }
+{
+    pairs::line(first, second, spot)
 }

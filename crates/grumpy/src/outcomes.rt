@@ -7,6 +7,7 @@ ghost use Rattle.language.specs.Meaning.{value-number};
 ghost use Rattle.layout.specs.Table.{zeros};
 ghost use Rattle.layout.specs.Values.{meant};
 ghost use Rattle.runner.specs.Contract.{Loaded};
+ghost use Rattle.tokens.specs.Shown.{text-of};
 ghost use Rattle.grumpy.specs.Outcomes.{Executed, ran-of, Runnable, Answered};
 use crate::answers::Ran;
 use language::WORK;
@@ -17,6 +18,8 @@ use numbers::Refusal;
 use numbers::Stop;
 use runner::Done;
 use sheets::Seen;
+use tokens::view::View;
+use tokens::view::len;
 
 // How a program ends: a value as it is reported, or a stop and the token it is told at; with the units
 // used and the bytes printed.
@@ -126,7 +129,9 @@ fn refuse(work: &mut [u32], out: &mut [u8], why: Refusal, place: usize) -> Ran
 
 // What comes of a sheet that was examined: it runs, or it is refused.
 pub fn run_or_refuse(
-    source: &[u8],
+    first: &[u8],
+    second: &[u8],
+    view: View,
     table: &[u32],
     work: &mut [u32],
     out: &mut [u8],
@@ -134,8 +139,8 @@ pub fn run_or_refuse(
     allowance: u32,
 ) -> Ran
     requires { ⌜ Runnable (now table) (now work) allowance seen ⌝ }
-    ensures { λ r. ⌜ Answered (now (source .entry)) (now (table .entry)) (now (work .entry)) (now (out .entry))
-        (now (work .exit)) (now (out .exit)) allowance seen r ⌝ }
+    ensures { λ r. ⌜ Answered (text-of (first .entry) (second .entry) view) (now (table .entry)) (now (work .entry))
+        (now (out .entry)) (now (work .exit)) (now (out .exit)) allowance seen r ⌝ }
 {
     match seen {
         Seen::Passes {
@@ -143,7 +148,8 @@ pub fn run_or_refuse(
             type_number,
         } => {
             let ending = execute(table, work, out, program, allowance);
-            answer(table, program.count, source.len(), type_number, ending)
+            let end = len(first, second, view);
+            answer(table, program.count, end, type_number, ending)
         }
         Seen::Refused(why, place) => refuse(work, out, why, place),
     }

@@ -1,2 +1,3 @@
 pub mod TwosComplement
 pub mod Told
+pub mod ToldPairs

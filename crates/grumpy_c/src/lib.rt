@@ -1,16 +1,21 @@
 // The C interface of the box. All functions return the paper's number and write a report: number, place,
 // type, and for run also value (64-bit two's complement), units and bytes printed; for write bytes written
-// in the type's stead. A report that is too short is answered like memory that is too short, and nothing
-// is changed.
+// in the type's stead; for two sheets also the sheet, and where the line that is shown begins and ends in it.
+// A report that is too short is answered like memory that is too short, and nothing is changed.
 ghost use mathlib.Core.Path.{_≡_};
-ghost use Prim.Native.Nat.{ℕ, _≤_};
+ghost use Prim.Native.Nat.{ℕ, _+_, _≤_};
 ghost use lib.ListN.{length};
 ghost use mir.Syntax.{w64};
 ghost use mir.Val.{ofZ};
+ghost use Rattle.pairs.specs.Spots.{meant};
 ghost use Rattle.grumpy_c.specs.Reports.{three, six, ToldChecked, ToldRan, ToldWrote, CheckedC, RanC, WroteC};
+ghost use Rattle.grumpy_c.specs.Pairs.{spot-words, ToldPairChecked, ToldPairRan, PairCheckedC, PairRanC};
 use grumpy::answers::Checked;
+use grumpy::answers::PairChecked;
+use grumpy::answers::PairRan;
 use grumpy::answers::Ran;
 use grumpy::answers::Wrote;
+use pairs::Spot;
 
 // The two's complement of v.
 fn complement(v: i64) -> u64
@@ -50,6 +55,16 @@ fn write_run_report(
     report[3] = value;
     report[4] = units as u64;
     report[5] = printed as u64;
+}
+
+// The sheet, and where its line begins and ends, from word k on.
+fn write_spot(report: &mut [u64], k: usize, spot: Spot)
+    requires { ⌜ k + 3 ≤ length (now report) ⌝ }
+    ensures { λ _. ⌜ now (report .exit) ≡ spot-words (now (report .entry)) k (meant spot) ⌝ }
+{
+    report[k] = spot.sheet as u64;
+    report[k + 1] = spot.begin as u64;
+    report[k + 2] = spot.end as u64;
 }
 
 fn report_checked(report: &mut [u64], answer: Checked) -> u32
@@ -167,4 +182,119 @@ pub extern "C" fn grumpy_write(
     }
     let answer = grumpy::write(source, table, out);
     report_wrote(report, answer)
+}
+
+fn write_pair_check_report(report: &mut [u64], number: u32, spot: Spot, type_number: u32)
+    requires { ⌜ 6 ≤ length (now report) ⌝ }
+    ensures { λ _. ⌜ now (report .exit) ≡
+        spot-words (three (now (report .entry)) number (meant spot .at) «type_number») 3 (meant spot) ⌝ }
+{
+    write_three(report, number, spot.at, type_number as u64);
+    write_spot(report, 3, spot);
+}
+
+fn write_pair_run_report(
+    report: &mut [u64],
+    number: u32,
+    spot: Spot,
+    type_number: u32,
+    value: u64,
+    units: u32,
+    printed: usize,
+)
+    requires { ⌜ 9 ≤ length (now report) ⌝ }
+    ensures { λ _. ⌜ now (report .exit) ≡ spot-words
+        (six (now (report .entry)) number (meant spot .at) «type_number» value units printed) 6 (meant spot) ⌝ }
+{
+    write_run_report(report, number, spot.at, type_number, value, units, printed);
+    write_spot(report, 6, spot);
+}
+
+fn report_pair_checked(report: &mut [u64], answer: PairChecked) -> u32
+    requires { ⌜ 6 ≤ length (now report) ⌝ }
+    ensures { λ r. ⌜ ToldPairChecked answer (now (report .entry)) (now (report .exit)) r ⌝ }
+{
+    match answer {
+        PairChecked::Passed(type_number) => {
+            write_pair_check_report(report, 0, pairs::front(), type_number);
+            0
+        }
+        PairChecked::Refused(why, spot) => {
+            let number = numbers::of_refusal(why);
+            write_pair_check_report(report, number, spot, 0);
+            number
+        }
+    }
+}
+
+fn report_pair_ran(report: &mut [u64], answer: PairRan) -> u32
+    requires { ⌜ 9 ≤ length (now report) ⌝ }
+    ensures { λ r. ⌜ ToldPairRan answer (now (report .entry)) (now (report .exit)) r ⌝ }
+{
+    match answer {
+        PairRan::Value {
+            type_number,
+            value,
+            units,
+            printed,
+        } => {
+            let bits = complement(value);
+            write_pair_run_report(report, 0, pairs::front(), type_number, bits, units, printed);
+            0
+        }
+        PairRan::Stopped {
+            why,
+            spot,
+            type_number,
+            units,
+            printed,
+        } => {
+            let number = numbers::of_stop(why);
+            write_pair_run_report(report, number, spot, type_number, 0, units, printed);
+            number
+        }
+        PairRan::Refused(why, spot) => {
+            let number = numbers::of_refusal(why);
+            write_pair_run_report(report, number, spot, 0, 0, 0, 0);
+            number
+        }
+    }
+}
+
+#[no_mangle]
+pub extern "C" fn grumpy_check_pair(
+    first: &[u8],
+    second: &[u8],
+    table: &mut [u32],
+    report: &mut [u64],
+) -> u32
+    ensures { λ r. ⌜ PairCheckedC (now (first .entry)) (now (second .entry)) (now (table .entry)) (now (report .entry))
+        (now (table .exit)) (now (report .exit)) r ⌝ }
+{
+    if report.len() < 6 {
+        return 40;
+    }
+    let answer = grumpy::check_pair(first, second, table);
+    report_pair_checked(report, answer)
+}
+
+#[no_mangle]
+pub extern "C" fn grumpy_run_pair(
+    first: &[u8],
+    second: &[u8],
+    table: &mut [u32],
+    work: &mut [u32],
+    out: &mut [u8],
+    allowance: u64,
+    report: &mut [u64],
+) -> u32
+    ensures { λ r. ⌜ PairRanC (now (first .entry)) (now (second .entry)) (now (table .entry)) (now (work .entry))
+        (now (out .entry)) allowance (now (report .entry)) (now (table .exit)) (now (work .exit)) (now (out .exit))
+        (now (report .exit)) r ⌝ }
+{
+    if report.len() < 9 {
+        return 40;
+    }
+    let answer = grumpy::run_pair(first, second, table, work, out, allowance);
+    report_pair_ran(report, answer)
 }

@@ -10,6 +10,7 @@ pub mod NotAgain
 pub mod PlacesAside
 pub mod OldSheets
 pub mod DecimalSheets
+pub mod Pairs
 pub mod Examples
 pub mod FurtherExamples
 pub mod LetAfterElse

@@ -5,3 +5,4 @@ pub mod Executable
 pub mod Meaning
 pub mod Answers
 pub mod Writing
+pub mod Pairs

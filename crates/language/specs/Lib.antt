@@ -12,3 +12,4 @@ pub mod Meaning
 pub mod Numbers
 pub mod Answers
 pub mod Writing
+pub mod Pairs

@@ -1,6 +1,6 @@
-// What the program around the box does with bytes: it reads a number among its arguments, sets the call of
-// a shift under a rate sheet, finds the line and the column of a place, puts text behind text so that it can
-// be seen, and takes a number's sign off.
+// What the program around the box does with bytes: it reads a number among its arguments, spells the call
+// of a shift, finds the line and the column of a place, puts text behind text so that it can be seen, and takes
+// a number's sign off.
 ghost use mathlib.Core.Path.{_≡_};
 ghost use Prim.Native.Nat.{min};
 ghost use lib.IntN.{natAbs};
@@ -23,7 +23,7 @@ pub use amounts::Number;
 pub use amounts::up_to;
 pub use characters::readable;
 pub use lines::trimmed;
-pub use sheet::compose;
+pub use sheet::call;
 pub use text::blanks;
 pub use text::decimal;
 pub use text::put;

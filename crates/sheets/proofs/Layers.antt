@@ -203,10 +203,12 @@ module _ (source w w₁ : List ℕ) (long : TABLE ≤ length w) where
       subst (OfSource source w₂) (sym e)
       (subst (Refused (from-text source) (refusal-meant y)) (sym (byte-stands source st i)) (by-tokens (given x) a))
 
-  pub examined-tokens : (r : split.Split) (n : ℕ) (w₂ : List ℕ) (v : Verdict) (s : Seen) → Tokens.IsSplit source w w₁ r → r ≡ split.the-variants.Tokens n
-      → Read w₁ w₂ n v → Placed w₂ n (length source) v s → Examined source w w₂ s
-  examined-tokens q n w₂ v s y e r z = let x = subst (Tokens.IsSplit source w w₁) e y in record {
-    told = of-tokens x w₂ (r .stands (x .tokens) (whole-stands x)) v s (r .told (x .tokens) (whole-stands x)) z;
+  pub examined-tokens : (r : split.Split) (n end : ℕ) (w₂ : List ℕ) (v : Verdict) (s : Seen) → Tokens.IsSplit source w w₁ r
+      → r ≡ split.the-variants.Tokens n → Read w₁ w₂ n v → end ≡ length source → Placed w₂ n end v s → Examined source w w₂ s
+  examined-tokens q n end w₂ v s y e r l z = let x = subst (Tokens.IsSplit source w w₁) e y in record {
+    told =
+        of-tokens x w₂ (r .stands (x .tokens) (whole-stands x)) v s (r .told (x .tokens) (whole-stands x))
+        (subst (λ (k : ℕ). Placed w₂ n k v s) l z);
     rest = r .rest ∙ laid-rest (x .tokens) (x .splits .few) (x .laid);
     long = r .long ∙ laid-long (x .tokens) (x .laid);
   }

@@ -1,16 +1,19 @@
 // What becomes of a source: split into tokens, read and typed, it is a program that the table holds, or it
-// is refused. Both services of the box begin with this.
+// is refused. Both services of the box begin with this, for one sheet and for two.
 ghost use mathlib.Core.Path.{_≡_};
 ghost use Prim.Native.Nat.{_≤_};
 ghost use lib.ListN.{length};
 ghost use Rattle.language.specs.Sizes.{TOKENS, TABLE};
 ghost use Rattle.checker.specs.Checked.{Checkable};
+ghost use Rattle.tokens.specs.Shown.{text-of};
 ghost use Rattle.sheets.specs.Sheets.{byte-of, Typed, Standing, Read, Placed, Examined};
 use layout::Held;
 use numbers::Refusal;
 use reader::Found;
 use rules::Typing;
 use tokens::answer::Split;
+use tokens::view::View;
+use tokens::view::len;
 
 // What becomes of tokens: a program, as the table holds it, with its type's number; or why they are none,
 // and the ordinal of the token at which this is told.
@@ -81,15 +84,17 @@ fn placed(table: &[u32], count: usize, end: usize, verdict: Verdict) -> Seen
     }
 }
 
-// What becomes of a source.
-pub fn examine(source: &[u8], table: &mut [u32]) -> Seen
+// What becomes of the source that a view shows.
+pub fn examine(first: &[u8], second: &[u8], view: View, table: &mut [u32]) -> Seen
     requires { ⌜ TABLE ≤ length (now table) ⌝ }
-    ensures { λ r. ⌜ Examined (now (source .entry)) (now (table .entry)) (now (table .exit)) r ⌝ }
+    ensures { λ r.
+        ⌜ Examined (text-of (first .entry) (second .entry) view) (now (table .entry)) (now (table .exit)) r ⌝ }
 {
-    match tokens::split(source, table) {
+    match tokens::split(first, second, view, table) {
         Split::Tokens(count) => {
             let verdict = read(table, count);
-            placed(table, count, source.len(), verdict)
+            let end = len(first, second, view);
+            placed(table, count, end, verdict)
         }
         Split::Stopped(flaw, at) => Seen::Refused(Refusal::Text(flaw), at),
         Split::TooLong => Seen::Refused(Refusal::LongSource, 0),

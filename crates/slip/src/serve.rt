@@ -12,6 +12,7 @@ use clerk::ends;
 use clerk::ends::End;
 use clerk::tasks;
 use grumpy::answers::Checked;
+use grumpy::answers::PairChecked;
 use grumpy::answers::Wrote;
 use language::ALLOWANCE;
 use language::SOURCE;
@@ -30,22 +31,46 @@ fn examine(source: &[u8]) -> Checked {
     grumpy::check(source, table)
 }
 
+fn examine_called(sheet: &[u8], call: &[u8]) -> PairChecked {
+    let mut words = [0u32; TABLE];
+    let table: &mut [u32] = &mut words;
+    grumpy::check_pair(sheet, call, table)
+}
+
 // Reports what came of a run; what was printed stands first in `out`.
 fn ran(asked: Asked, sheet: &[u8], out: &[u8], allowance: u64, end: End) -> u32 {
     let n = input::within(ends::printed(end), out);
     reports::report(asked, sheet, &out[..n], allowance, end)
 }
 
-// Runs a source, which is the sheet with its call or the sheet itself, and reports.
-fn execute(asked: Asked, sheet: &[u8], source: &[u8], allowance: u64) -> u32 {
+// Runs a whole sheet, and reports.
+fn run_whole(asked: Asked, sheet: &[u8], allowance: u64) -> u32 {
     let mut words = [0u32; TABLE];
     let mut cells = [0u32; WORK];
     let mut bytes = io::large_buffer();
     let table: &mut [u32] = &mut words;
     let work: &mut [u32] = &mut cells;
     let out: &mut [u8] = &mut bytes;
-    let answer = grumpy::run(source, table, work, out, allowance);
+    let answer = grumpy::run(sheet, table, work, out, allowance);
     ran(asked, sheet, out, allowance, ends::of_run(answer))
+}
+
+// Runs a rate sheet with the call under it, and reports.
+fn run_called(asked: Asked, sheet: &[u8], call: &[u8]) -> u32 {
+    let mut words = [0u32; TABLE];
+    let mut cells = [0u32; WORK];
+    let mut bytes = io::large_buffer();
+    let table: &mut [u32] = &mut words;
+    let work: &mut [u32] = &mut cells;
+    let out: &mut [u8] = &mut bytes;
+    let answer = grumpy::run_pair(sheet, call, table, work, out, ALLOWANCE);
+    ran(
+        asked,
+        sheet,
+        out,
+        ALLOWANCE,
+        ends::of_called_run(sheet.len(), answer),
+    )
 }
 
 fn check_whole(asked: Asked) -> u32 {
@@ -56,10 +81,6 @@ fn check_whole(asked: Asked) -> u32 {
     let n = input::within(length, &bytes);
     let end = ends::of_check(examine(&bytes[..n]));
     reports::report(asked, &bytes[..n], b"", 0, end)
-}
-
-fn run_whole(asked: Asked, sheet: &[u8], allowance: u64) -> u32 {
-    execute(asked, sheet, sheet, allowance)
 }
 
 fn run(asked: Asked) -> u32 {
@@ -113,27 +134,31 @@ fn write(asked: Asked) -> u32 {
 }
 
 // What a rate sheet with its call under it comes to; where that is no program, the sheet alone may be one.
-fn judge(sheet: &[u8], whole: &[u8]) -> End {
-    let answer = examine(whole);
-    let end = ends::of_called_check(sheet.len(), answer);
-    if ends::unread(answer) {
+fn judge(sheet: &[u8], call: &[u8]) -> End {
+    let answer = examine_called(sheet, call);
+    let end = ends::of_called_check(answer);
+    if ends::unread_called(answer) {
         return ends::completed(end, ends::unread(examine(sheet)));
     }
     end
 }
 
-// Sets the call under the sheet, checks the whole and, if it is to be paid, runs it. The sheet has one byte
-// more than a source may have at most, and the call no more than 27.
-fn call(asked: Asked, sheet: &[u8], picks: u32, rate: u32, paid: bool) -> u32 {
-    let mut whole = [0u8; SOURCE + 64];
-    let n = page::compose(&mut whole, sheet, picks as u64, rate as u64);
-    let end = judge(sheet, &whole[..n]);
+// Checks the sheet with the call under it and, if it is to be paid, runs both.
+fn pay_or_check(asked: Asked, sheet: &[u8], call: &[u8], paid: bool) -> u32 {
+    let end = judge(sheet, call);
     if paid {
         if ends::status(end) == 0 {
-            return execute(asked, sheet, &whole[..n], ALLOWANCE);
+            return run_called(asked, sheet, call);
         }
     }
     reports::report(asked, sheet, b"", 0, end)
+}
+
+// Sets the call under the sheet, as a second sheet; it has no more than 26 bytes.
+fn call(asked: Asked, sheet: &[u8], picks: u32, rate: u32, paid: bool) -> u32 {
+    let mut bytes = [0u8; 64];
+    let n = page::call(&mut bytes, picks as u64, rate as u64);
+    pay_or_check(asked, sheet, &bytes[..n], paid)
 }
 
 fn check(asked: Asked) -> u32 {

@@ -1,4 +1,5 @@
 pub mod Compared
+pub mod Views
 pub mod WordRows
 pub mod FirstBytes
 pub mod MarkBytes

@@ -1,5 +1,5 @@
-// Bytes of a text: how one is read, the classes that tell what may begin at a place, and where a run of
-// bytes of one class ends.
+// Bytes of a text: the classes that tell what may begin at a place, and where a run of bytes of one class
+// ends.
 ghost use mathlib.Core.Bool.{true};
 ghost use mathlib.Core.Path.{_≡_};
 ghost use Prim.Native.Nat.{_≤_};
@@ -10,14 +10,11 @@ ghost use Rattle.language.specs.Text.{is-name-byte, is-in-line};
 ghost use Rattle.language.proofs.Text.Runs.{Run};
 ghost use Rattle.language.proofs.Text.Spellings.{stands};
 ghost use Rattle.tokens.specs.Found.{is-of};
-
-// The byte at a place, 0 past the end. Every other function reads the text through this one, so a text
-// that lies in several parts changes nothing else.
-pub fn byte(source: &[u8], at: usize) -> u8
-    ensures { λ r. ⌜ r ≡ Text.byte (now (source .entry)) at ⌝ }
-{
-    if at < source.len() { source[at] } else { 0 }
-}
+ghost use Rattle.tokens.specs.Shown.{text-of};
+use crate::view::View;
+use crate::view::ahead;
+use crate::view::byte;
+use crate::view::len;
 
 pub fn is_letter(b: u8) -> bool
     ensures { λ r. ⌜ r ≡ is-letter b ⌝ }
@@ -131,13 +128,14 @@ pub fn is_of(class: Class, b: u8) -> bool
 }
 
 // Where the run of bytes of a class from a place on ends.
-pub fn run_end(source: &[u8], at: usize, class: Class) -> usize
-    requires { ⌜ at ≤ length (now source) ⌝ }
-    ensures { λ r. ⌜ Run (is-of class) (now (source .entry)) at r ⌝ }
+pub fn run_end(first: &[u8], second: &[u8], view: View, at: usize, class: Class) -> usize
+    requires { ⌜ at ≤ length (text-of first second view) ⌝ }
+    ensures { λ r. ⌜ Run (is-of class) (text-of (first .entry) (second .entry) view) at r ⌝ }
 {
+    let size = len(first, second, view);
     let mut i = at;
-    while i < source.len() {
-        if !is_of(class, byte(source, i)) {
+    while i < size {
+        if !is_of(class, byte(first, second, view, i)) {
             return i;
         }
         i += 1;
@@ -146,37 +144,37 @@ pub fn run_end(source: &[u8], at: usize, class: Class) -> usize
 }
 
 // Where the name that goes on at a place ends.
-pub fn name_end(source: &[u8], at: usize) -> usize
-    requires { ⌜ at ≤ length (now source) ⌝ }
-    ensures { λ r. ⌜ Run is-name-byte (now (source .entry)) at r ⌝ }
+pub fn name_end(first: &[u8], second: &[u8], view: View, at: usize) -> usize
+    requires { ⌜ at ≤ length (text-of first second view) ⌝ }
+    ensures { λ r. ⌜ Run is-name-byte (text-of (first .entry) (second .entry) view) at r ⌝ }
 {
-    run_end(source, at, Class::NameByte)
+    run_end(first, second, view, at, Class::NameByte)
 }
 
 // Where the digits of a base that go on at a place end.
-pub fn digits_end(source: &[u8], at: usize, base: u64) -> usize
-    requires { ⌜ at ≤ length (now source) ⌝ }
-    ensures { λ r. ⌜ Run (is-digit-of base) (now (source .entry)) at r ⌝ }
+pub fn digits_end(first: &[u8], second: &[u8], view: View, at: usize, base: u64) -> usize
+    requires { ⌜ at ≤ length (text-of first second view) ⌝ }
+    ensures { λ r. ⌜ Run (is-digit-of base) (text-of (first .entry) (second .entry) view) at r ⌝ }
 {
-    run_end(source, at, Class::DigitOf(base))
+    run_end(first, second, view, at, Class::DigitOf(base))
 }
 
 // Where the line that goes on at a place ends: at its LF, which is not among its bytes, or with the text.
-pub fn line_end(source: &[u8], at: usize) -> usize
-    requires { ⌜ at ≤ length (now source) ⌝ }
-    ensures { λ r. ⌜ Run is-in-line (now (source .entry)) at r ⌝ }
+pub fn line_end(first: &[u8], second: &[u8], view: View, at: usize) -> usize
+    requires { ⌜ at ≤ length (text-of first second view) ⌝ }
+    ensures { λ r. ⌜ Run is-in-line (text-of (first .entry) (second .entry) view) at r ⌝ }
 {
-    run_end(source, at, Class::InLine)
+    run_end(first, second, view, at, Class::InLine)
 }
 
 // Do these bytes stand at a place?
-pub fn stands_at(source: &[u8], at: usize, bytes: &[u8]) -> bool
-    requires { ⌜ at ≤ length (now source) ⌝ }
-    ensures { λ r. ⌜ r ≡ stands (now (source .entry)) at (now (bytes .entry)) ⌝ }
+pub fn stands_at(first: &[u8], second: &[u8], view: View, at: usize, bytes: &[u8]) -> bool
+    requires { ⌜ at ≤ length (text-of first second view) ⌝ }
+    ensures { λ r. ⌜ r ≡ stands (text-of (first .entry) (second .entry) view) at (now (bytes .entry)) ⌝ }
 {
     let mut i = 0;
     while i < bytes.len() {
-        if byte(source, at + i) != bytes[i] {
+        if ahead(first, second, view, at, i) != bytes[i] {
             return false;
         }
         i += 1;

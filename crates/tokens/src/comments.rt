@@ -3,7 +3,11 @@ ghost use Prim.Native.Nat.{_<_};
 ghost use lib.ListN.{length};
 ghost use Rattle.language.specs.Text as Text;
 ghost use Rattle.tokens.specs.Found.{IsPair, IsClose};
-use crate::bytes::byte;
+ghost use Rattle.tokens.specs.Shown.{text-of};
+use crate::view::View;
+use crate::view::ahead;
+use crate::view::byte;
+use crate::view::len;
 
 pub enum Pair {
     Opens,
@@ -12,20 +16,20 @@ pub enum Pair {
 }
 
 // Whether `/*` or `*/` stands at a place.
-pub fn pair_at(source: &[u8], at: usize) -> Pair
-    requires { ⌜ at < length (now source) ⌝ }
-    ensures { λ r. ⌜ IsPair (now (source .entry)) at r ⌝ }
+pub fn pair_at(first: &[u8], second: &[u8], view: View, at: usize) -> Pair
+    requires { ⌜ at < length (text-of first second view) ⌝ }
+    ensures { λ r. ⌜ IsPair (text-of (first .entry) (second .entry) view) at r ⌝ }
 {
-    let first = byte(source, at);
-    let second = byte(source, at + 1);
-    if first == b'/' {
-        if second == b'*' {
+    let here = byte(first, second, view, at);
+    let behind = ahead(first, second, view, at, 1);
+    if here == b'/' {
+        if behind == b'*' {
             return Pair::Opens;
         }
         return Pair::Neither;
     }
-    if first == b'*' {
-        if second == b'/' {
+    if here == b'*' {
+        if behind == b'/' {
             return Pair::Closes;
         }
     }
@@ -39,17 +43,18 @@ pub enum Close {
 
 // Where the comment that opens at a place ends. Each mark takes its two bytes, so the inside begins
 // behind both bytes of `/*`, and `/*/` is not closed.
-pub fn comment_end(source: &[u8], at: usize) -> Close
-    requires { ⌜ Text.Opens (now source) at ⌝ }
-    ensures { λ r. ⌜ IsClose (now (source .entry)) at r ⌝ }
+pub fn comment_end(first: &[u8], second: &[u8], view: View, at: usize) -> Close
+    requires { ⌜ Text.Opens (text-of first second view) at ⌝ }
+    ensures { λ r. ⌜ IsClose (text-of (first .entry) (second .entry) view) at r ⌝ }
 {
+    let size = len(first, second, view);
     let mut depth: usize = 1;
     let mut i = at + 2;
     while 0 < depth {
-        if source.len() <= i {
+        if size <= i {
             return Close::Never;
         }
-        match pair_at(source, i) {
+        match pair_at(first, second, view, i) {
             Pair::Opens => {
                 depth += 1;
                 i += 2;

@@ -6,6 +6,7 @@ ghost use lib.Seq.{slice};
 ghost use Rattle.language.specs.Sizes.{TABLE};
 ghost use Rattle.tokens.specs.Found.{Comparable, ValueWord};
 ghost use Rattle.tokens.specs.Answer.{IsSplit};
+ghost use Rattle.tokens.specs.Shown.{text-of};
 
 pub mod answer;
 pub mod bytes;
@@ -13,11 +14,14 @@ mod comments;
 mod marks;
 mod names;
 mod pieces;
+pub mod view;
 mod words;
 mod worth;
 
 use crate::answer::Split;
 use crate::pieces::Piece;
+use crate::view::View;
+use crate::view::len;
 use language::SOURCE;
 use language::TOKENS;
 use language::kinds;
@@ -25,7 +29,9 @@ use numbers::Flaw;
 
 // The fourth word of the token that is to be the next one of the table.
 fn value_word(
-    source: &[u8],
+    first: &[u8],
+    second: &[u8],
+    view: View,
     table: &[u32],
     count: usize,
     kind: u32,
@@ -33,29 +39,32 @@ fn value_word(
     q: usize,
     value: u32,
 ) -> u32
-    requires { ⌜ Comparable (now source) (now table) count p q ⌝ }
+    requires { ⌜ Comparable (text-of first second view) (now table) count p q ⌝ }
     ensures { λ r.
-        ⌜ ValueWord (now (source .entry)) (now (table .entry)) count kind (slice p q (now (source .entry))) value r ⌝ }
+        ⌜ ValueWord (text-of (first .entry) (second .entry) view) (now (table .entry)) count kind
+        (slice p q (text-of (first .entry) (second .entry) view)) value r ⌝ }
 {
     if kind == kinds::NAME {
-        return names::name_number(source, table, count, p, q);
+        return names::name_number(first, second, view, table, count, p, q);
     }
     value
 }
 
-// Splits the source into tokens and writes them into the table, as far as the first flaw. All other
+// Splits the text into tokens and writes them into the table, as far as the first flaw. All other
 // words of the table stay as they were.
-pub fn split(source: &[u8], table: &mut [u32]) -> Split
+pub fn split(first: &[u8], second: &[u8], view: View, table: &mut [u32]) -> Split
     requires { ⌜ TABLE ≤ length (now table) ⌝ }
-    ensures { λ r. ⌜ IsSplit (now (source .entry)) (now (table .entry)) (now (table .exit)) r ⌝ }
+    ensures { λ r.
+        ⌜ IsSplit (text-of (first .entry) (second .entry) view) (now (table .entry)) (now (table .exit)) r ⌝ }
 {
-    if SOURCE < source.len() {
+    let size = len(first, second, view);
+    if SOURCE < size {
         return Split::TooLong;
     }
     let mut at = 0;
     let mut count = 0;
-    while at < source.len() {
-        match pieces::piece_at(source, at) {
+    while at < size {
+        match pieces::piece_at(first, second, view, at) {
             Piece::Space(end) => {
                 at = end;
             }
@@ -63,7 +72,7 @@ pub fn split(source: &[u8], table: &mut [u32]) -> Split
                 if count == TOKENS {
                     return Split::Stopped(Flaw::ManyTokens, at);
                 }
-                let word = value_word(source, table, count, kind, at, end, value);
+                let word = value_word(first, second, view, table, count, kind, at, end, value);
                 layout::token::put(table, count, kind, at as u32, end as u32, word);
                 count += 1;
                 at = end;

@@ -8,7 +8,10 @@ ghost use Rattle.language.proofs.Text.Places.{Begins};
 ghost use Rattle.language.proofs.Text.Places.Sort.{others};
 ghost use Rattle.language.specs.Tokens.{PAST};
 ghost use Rattle.tokens.specs.Found.{IsMark, mark-kind};
-use crate::bytes::byte;
+ghost use Rattle.tokens.specs.Shown.{text-of};
+use crate::view::View;
+use crate::view::ahead;
+use crate::view::byte;
 use language::kinds;
 
 pub enum Mark {
@@ -19,16 +22,16 @@ pub enum Mark {
 
 // The mark at a place where no blank, name, number or comment begins: of those that stand there the
 // longest.
-pub fn mark_at(source: &[u8], at: usize) -> Mark
-    requires { ⌜ (at < length (now source)) × Begins (now source) at others ⌝ }
-    ensures { λ r. ⌜ IsMark (now (source .entry)) at r ⌝ }
+pub fn mark_at(first: &[u8], second: &[u8], view: View, at: usize) -> Mark
+    requires { ⌜ (at < length (text-of first second view)) × Begins (text-of first second view) at others ⌝ }
+    ensures { λ r. ⌜ IsMark (text-of (first .entry) (second .entry) view) at r ⌝ }
 {
-    let first = byte(source, at);
-    let two = double(first, byte(source, at + 1));
+    let here = byte(first, second, view, at);
+    let two = double(here, ahead(first, second, view, at, 1));
     if two != kinds::PAST {
         return Mark::Is(two, 2);
     }
-    let one = single(first);
+    let one = single(here);
     if one != kinds::PAST {
         return Mark::Is(one, 1);
     }

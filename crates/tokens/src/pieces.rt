@@ -2,7 +2,7 @@
 ghost use Prim.Native.Nat.{_<_};
 ghost use lib.ListN.{length};
 ghost use Rattle.tokens.specs.Found.{IsPiece};
-use crate::bytes::byte;
+ghost use Rattle.tokens.specs.Shown.{text-of};
 use crate::bytes::is_blank;
 use crate::bytes::is_digit;
 use crate::bytes::is_letter;
@@ -13,6 +13,8 @@ use crate::comments::Close;
 use crate::comments::comment_end;
 use crate::marks::Mark;
 use crate::marks::mark_at;
+use crate::view::View;
+use crate::view::byte;
 use crate::words::word;
 use crate::worth::Worth;
 use crate::worth::number;
@@ -29,34 +31,34 @@ pub enum Piece {
 }
 
 // The longest piece at a place. What begins there is settled by its first two bytes.
-pub fn piece_at(source: &[u8], at: usize) -> Piece
-    requires { ⌜ at < length (now source) ⌝ }
-    ensures { λ r. ⌜ IsPiece (now (source .entry)) at r ⌝ }
+pub fn piece_at(first: &[u8], second: &[u8], view: View, at: usize) -> Piece
+    requires { ⌜ at < length (text-of first second view) ⌝ }
+    ensures { λ r. ⌜ IsPiece (text-of (first .entry) (second .entry) view) at r ⌝ }
 {
-    let first = byte(source, at);
-    if is_blank(first) {
+    let here = byte(first, second, view, at);
+    if is_blank(here) {
         return Piece::Space(at + 1);
     }
-    if is_letter(first) {
-        let end = name_end(source, at);
-        return Piece::Token(word(source, at, end), end, 0);
+    if is_letter(here) {
+        let end = name_end(first, second, view, at);
+        return Piece::Token(word(first, second, view, at, end), end, 0);
     }
-    if is_digit(first) {
-        return match number(source, at) {
+    if is_digit(here) {
+        return match number(first, second, view, at) {
             Worth::Is(end, value) => Piece::Token(kinds::NUMBER, end, value),
             Worth::TooLarge => Piece::LargeNumber,
         };
     }
-    if stands_at(source, at, b"//") {
-        return Piece::Space(line_end(source, at + 2));
+    if stands_at(first, second, view, at, b"//") {
+        return Piece::Space(line_end(first, second, view, at + 2));
     }
-    if stands_at(source, at, b"/*") {
-        return match comment_end(source, at) {
+    if stands_at(first, second, view, at, b"/*") {
+        return match comment_end(first, second, view, at) {
             Close::At(end) => Piece::Space(end),
             Close::Never => Piece::OpenComment,
         };
     }
-    match mark_at(source, at) {
+    match mark_at(first, second, view, at) {
         Mark::Is(kind, size) => Piece::Token(kind, at + size, 0),
         Mark::None => Piece::Nothing,
     }

@@ -9,10 +9,13 @@ ghost use Rattle.language.proofs.Text.Bases.{base-told};
 ghost use Rattle.language.specs.Text as Text;
 ghost use Rattle.language.specs.Text.{is-digit};
 ghost use Rattle.tokens.specs.Found.{IsNumber};
-use crate::bytes::byte;
+ghost use Rattle.tokens.specs.Shown.{text-of};
 use crate::bytes::digits_end;
 use crate::bytes::is_digit_of;
 use crate::bytes::worth;
+use crate::view::View;
+use crate::view::ahead;
+use crate::view::byte;
 use language::LARGEST;
 
 // Where the digits of a number begin, and their base.
@@ -37,12 +40,16 @@ fn base_of(a: u8, b: u8) -> u64
 
 // How the number that begins with the digit at a place is written. Without a digit of its own a base is
 // none, and the number is the digits that stand there.
-fn digits_at(source: &[u8], at: usize) -> Digits
-    requires { ⌜ (at < length (now source)) × (is-digit (Text.byte (now source) at) ≡ true) ⌝ }
-    ensures { λ r. ⌜ Bases.Digits (now (source .entry)) at (r .from) (r .base) ⌝ }
+fn digits_at(first: &[u8], second: &[u8], view: View, at: usize) -> Digits
+    requires { ⌜ (at < length (text-of first second view))
+        × (is-digit (Text.byte (text-of first second view) at) ≡ true) ⌝ }
+    ensures { λ r. ⌜ Bases.Digits (text-of (first .entry) (second .entry) view) at (r .from) (r .base) ⌝ }
 {
-    let base = base_of(byte(source, at), byte(source, at + 1));
-    if is_digit_of(base, byte(source, at + 2)) {
+    let base = base_of(
+        byte(first, second, view, at),
+        ahead(first, second, view, at, 1),
+    );
+    if is_digit_of(base, ahead(first, second, view, at, 2)) {
         return Digits {
             from: at + 2,
             base: base,
@@ -59,18 +66,19 @@ pub enum Worth {
 
 // The number that begins with the digit at a place. No digit is read once the value is too large, and
 // so no product can wrap.
-pub fn number(source: &[u8], at: usize) -> Worth
-    requires { ⌜ (at < length (now source)) × (is-digit (Text.byte (now source) at) ≡ true) ⌝ }
-    ensures { λ r. ⌜ IsNumber (now (source .entry)) at r ⌝ }
+pub fn number(first: &[u8], second: &[u8], view: View, at: usize) -> Worth
+    requires { ⌜ (at < length (text-of first second view))
+        × (is-digit (Text.byte (text-of first second view) at) ≡ true) ⌝ }
+    ensures { λ r. ⌜ IsNumber (text-of (first .entry) (second .entry) view) at r ⌝ }
 {
-    let digits = digits_at(source, at);
+    let digits = digits_at(first, second, view, at);
     let from = digits.from;
     let base = digits.base;
-    let end = digits_end(source, from, base);
+    let end = digits_end(first, second, view, from, base);
     let mut value: u64 = 0;
     let mut i = from;
     while i < end {
-        value = value * base + worth(byte(source, i));
+        value = value * base + worth(byte(first, second, view, i));
         if LARGEST < value {
             return Worth::TooLarge;
         }

@@ -11,18 +11,20 @@ enum-known-count c = search needs
 
 read-requires : tie.Need-read-requires
 read-requires c κs =
-    let count = c .before .before in
-    let split = count .before .before .before .before in
-    let start = split .before .before .before .before in
-    whole-standing _ _ _ (start .pre) _ _ (split .split .ensures) (count .count .given .1)
+    let at-split = c .before .before .before .before .before .before in
+    let start = at-split .before .before .before .before .before in
+    whole-standing _ _ _ (start .pre) _ _ (at-split .split .ensures) (c .before .before .count .given .1)
+
+len-requires : tie.Need-len-requires
+len-requires c κs = search needs
 
 placed-requires : tie.Need-placed-requires
 placed-requires c κs =
-    let read = c .before .before .before in
-    let count = read .before .before .before in
-    let split = count .before .before .before .before in
-    let start = split .before .before .before .before in
-    whole-read _ _ _ (start .pre) _ _ _ _ (split .split .ensures) (count .count .given .1) (read .read .ensures)
+    let at-read = c .before .before .before .before in
+    let at-count = at-read .before .before .before in
+    let at-split = at-count .before .before .before .before in
+    let start = at-split .before .before .before .before .before in
+    whole-read _ _ _ (start .pre) _ _ _ _ (at-split .split .ensures) (at-count .count .given .1) (at-read .read .ensures)
 
 enum-known-flaw : tie.Need-enum-known-flaw
 enum-known-flaw c = search needs
@@ -35,29 +37,30 @@ same-length c = search needs
 
 returns : tie.Need-returns
 returns c =
-    let read = c .before .before .before .before in
-    let count = read .before .before .before in
-    let split = count .before .before .before .before in
-    let start = split .before .before .before .before in
-    examined-tokens _ _ _ (start .pre) _ _ _ _ _ (split .split .ensures) (count .count .given .1) (read .read .ensures) (c .placed .ensures)
+    let at-read = c .before .before .before .before .before in
+    let at-count = at-read .before .before .before in
+    let at-split = at-count .before .before .before .before in
+    let start = at-split .before .before .before .before .before in
+    examined-tokens _ _ _ (start .pre) _ _ _ _ _ _ (at-split .split .ensures) (at-count .count .given .1) (at-read .read .ensures)
+    (c .before .before .len .ensures) (c .placed .ensures)
 
 same-length-2 : tie.Need-same-length-2
 same-length-2 c = search needs
 
 returns-2 : tie.Need-returns-2
 returns-2 c =
-    let split = c .before .before .before .before .before in
-    let start = split .before .before .before .before in
-    examined-flaw _ _ _ (start .pre) _ _ _ (split .split .ensures) (c .before .flaw .given .1)
+    let at-split = c .before .before .before .before .before in
+    let start = at-split .before .before .before .before .before in
+    examined-flaw _ _ _ (start .pre) _ _ _ (at-split .split .ensures) (c .before .flaw .given .1)
 
 same-length-3 : tie.Need-same-length-3
 same-length-3 c = search needs
 
 returns-3 : tie.Need-returns-3
 returns-3 c =
-    let split = c .before .before .before .before in
-    let start = split .before .before .before .before in
-    examined-long _ _ _ (start .pre) _ (split .split .ensures) (c .enum-told .given .1)
+    let at-split = c .before .before .before .before in
+    let start = at-split .before .before .before .before .before in
+    examined-long _ _ _ (start .pre) _ (at-split .split .ensures) (c .enum-told .given .1)
 
 pub examine-spec : {M : Type 1} → statement M
 examine-spec =
@@ -66,6 +69,7 @@ examine-spec =
     split-requires
     enum-known-count
     read-requires
+    len-requires
     placed-requires
     enum-known-flaw
     enum-told

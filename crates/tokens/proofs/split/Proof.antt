@@ -4,9 +4,10 @@ use lib.ListN.{length}
 use mathlib.Core.List.{List}
 use mathlib.Core.Path.{refl, sym, _∙_, subst}
 use native.Mathlib.Omega.{arith}
-use Prim.Native.Nat.{ℕ, _-_}
+use Prim.Native.Nat.{ℕ, _-_, _≤_, _<_}
 use Rattle.language.proofs.Text.OnePiece.{form-bounds}
 use Rattle.language.proofs.Text.OneSplit.{reached-inside}
+use Rattle.language.specs.Sizes.{SOURCE}
 use Rattle.language.specs.Text.Flaw.{strange-byte, open-comment, large-number, many-tokens}
 use Rattle.language.specs.Text.Wrong.{strange, opened, large, many}
 use Rattle.tokens.proofs.split.Statement.{statement}
@@ -14,25 +15,33 @@ use Rattle.tokens.proofs.split.Tie as tie
 use Rattle.tokens.proofs.Splitting.{Reached, reached-none, reached-length, reached-skip}
 use Rattle.tokens.proofs.Splitting.{reached-broken, reached-whole, reached-spans, reached-next}
 use Rattle.tokens.specs.Found.{IsPiece}
+use Rattle.tokens.specs.Shown.{shown}
 
 abbrev Inv-loop : tie.InvT-loop
-Inv-loop source table₀ at₀ count₀ table at count = Reached source table₀ table at count
+Inv-loop first second view table₀ size at₀ count₀ table at count = Reached (shown first second view) table₀ table at count
 
 abbrev μ-loop : tie.MeasureT-loop
-μ-loop source table₀ at₀ count₀ table at count = length source - at
+μ-loop first second view table₀ size at₀ count₀ table at count = size - at
 
 -- the text, from the loop's head
 abbrev text : tie.At-loop Inv-loop μ-loop → List ℕ
-text h = h .before .before .before .before .args .source .now
+text h = let a = h .before .before .before .before .before .before .args in shown (a .first .now) (a .second .now) (a .view)
+
+-- it is not too long
+short : (h : tie.At-loop Inv-loop μ-loop) → length (text h) ≤ SOURCE
+short h = subst (λ n. n ≤ SOURCE) (h .before .before .len .ensures) (h .before .if1 .left)
+
+len-requires : tie.Need-len-requires Inv-loop μ-loop
+len-requires c κs = search needs
 
 returns : tie.Need-returns Inv-loop μ-loop
-returns c = record { long = c .if1 .taken; kept = refl }
+returns c = record { long = subst (λ n. SOURCE < n) (c .before .len .ensures) (c .if1 .taken); kept = refl }
 
 loop-holds : tie.Need-loop-holds Inv-loop μ-loop
-loop-holds c = reached-none (c .before .before .before .args .source .now) (c .before .before .before .args .table .now)
+loop-holds c = let a = c .before .before .before .before .before .args in reached-none (shown (a .first .now) (a .second .now) (a .view)) (a .table .now)
 
 piece-at-requires : tie.Need-piece-at-requires Inv-loop μ-loop
-piece-at-requires c κs = search needs
+piece-at-requires c κs = subst (λ n. c .before .loop .at < n) (c .before .before .before .len .ensures) (c .loop-test .taken)
 
 enum-known-end : tie.Need-enum-known-end Inv-loop μ-loop
 enum-known-end c = search needs
@@ -44,7 +53,7 @@ loop-less c =
     let l = h .loop in
     let piece = c .before .before .before .piece-at .ensures in
     let x = subst (IsPiece t (l .at)) (c .before .end .given .1) piece in
-    omega (arith, form-bounds t (l .at) _ _ (x .form))
+    omega (arith, form-bounds t (l .at) _ _ (x .form) .0, c .before .before .before .before .loop-test .taken)
 
 loop-again : tie.Need-loop-again Inv-loop μ-loop
 loop-again c =
@@ -69,86 +78,79 @@ returns-2 c =
     let piece = c .before .before .before .before .piece-at .ensures in
     let x = subst (IsPiece t (l .at)) (c .before .before .kind .given .1) piece in
     let full = c .if2 .taken in
-    reached-broken (l .inv) many-tokens (c .before .before .before .before .before .before .before .if1 .left)
+    reached-broken (l .inv) many-tokens (short h)
     (λ ts e. many (x .0) (x .1) (sym e ∙ full))
 
 value-word-requires : tie.Need-value-word-requires Inv-loop μ-loop
 value-word-requires c κs =
-    let at-kind = c .before .before .before in
-    let at-piece-at = at-kind .before .before in
-    let here = at-piece-at .before .before in
-    let start = here .before .before .before .before in
-    let h = here in
+    let h = c .before .before .before .before .before .before .before in
     let t = text h in
     let l = h .loop in
-    let piece = at-piece-at .piece-at .ensures in
-    let x = subst (IsPiece t (l .at)) (at-kind .kind .given .1) piece in
-    let room = start .pre in
+    let piece = c .before .before .before .before .before .piece-at .ensures in
+    let x = subst (IsPiece t (l .at)) (c .before .before .before .kind .given .1) piece in
+    let room = c .before .before .before .before .before .before .before .before .before .before .before .before .before .pre in
     let b = form-bounds t (l .at) _ _ (x .0 .form) in
     let long = reached-length (l .inv) in
     record { room = omega arith; few = l .inv .few; order = omega (arith, b .0); inside = b .1; spans = reached-spans (l .inv) room }
 
 cast-put : tie.Need-cast-put Inv-loop μ-loop
 cast-put c =
-    let earlier = c .before .before .before .before .before .before .before in
-    let at-loop-test = earlier .before in
-    let at-if1 = at-loop-test .before .before in
-    omega (arith, at-loop-test .loop-test .taken, at-if1 .if1 .left)
+    omega (
+      arith,
+      c .before .before .before .before .before .before .before .before .loop-test .taken,
+      c .before .before .before .before .before .before .before .before .before .before .if1 .left,
+    )
 
 cast-put-2 : tie.Need-cast-put-2 Inv-loop μ-loop
 cast-put-2 c =
-    let at-kind = c .before .before .before .before .before in
-    let at-piece-at = at-kind .before .before in
-    let here = at-piece-at .before .before in
-    let at-if1 = here .before in
-    let h = here in
+    let h = c .before .before .before .before .before .before .before .before .before in
     let t = text h in
     let l = h .loop in
-    let piece = at-piece-at .piece-at .ensures in
-    let x = subst (IsPiece t (l .at)) (at-kind .kind .given .1) piece in
-    omega (arith, form-bounds t (l .at) _ _ (x .0 .form) .1, at-if1 .if1 .left)
+    let piece = c .before .before .before .before .before .before .before .piece-at .ensures in
+    let x = subst (IsPiece t (l .at)) (c .before .before .before .before .before .kind .given .1) piece in
+    omega (
+      arith,
+      form-bounds t (l .at) _ _ (x .0 .form) .1,
+      short h,
+    )
 
 put-requires : tie.Need-put-requires Inv-loop μ-loop
 put-requires c κs =
-    let at-if2 = c .before .before .before in
-    let at-loop = at-if2 .before .before .before .before .before .before in
-    let start = at-loop .before .before .before .before in
-    let l = at-loop .loop in omega (arith, reached-length (l .inv), start .pre, l .inv .few, at-if2 .if2 .left)
+    let l = c .before .before .before .before .before .before .before .before .before .loop in
+    omega (
+      arith,
+      reached-length (l .inv),
+      c .before .before .before .before .before .before .before .before .before .before .before .before .before .before .before .pre,
+      l .inv .few,
+      c .before .before .before .if2 .left,
+    )
 
 add-count : tie.Need-add-count Inv-loop μ-loop
 add-count c =
-    let earlier = c .before .before .before .before .before .before .before in
-    let at-loop = earlier .before .before .before .before .before in
-    omega (arith, at-loop .loop .inv .few)
+    omega (arith, c .before .before .before .before .before .before .before .before .before .before .before .before .loop .inv .few)
 
 loop-less-2 : tie.Need-loop-less-2 Inv-loop μ-loop
 loop-less-2 c =
-    let earlier = c .before .before .before .before .before .before .before in
-    let at-kind = earlier .before in
-    let at-piece-at = at-kind .before .before in
-    let here = at-piece-at .before .before in
-    let h = here in
+    let h = c .before .before .before .before .before .before .before .before .before .before .before .before in
     let t = text h in
     let l = h .loop in
-    let piece = at-piece-at .piece-at .ensures in
-    let x = subst (IsPiece t (l .at)) (at-kind .kind .given .1) piece in omega (arith, form-bounds t (l .at) _ _ (x .0 .form))
+    let piece = c .before .before .before .before .before .before .before .before .before .before .piece-at .ensures in
+    let x = subst (IsPiece t (l .at)) (c .before .before .before .before .before .before .before .before .kind .given .1) piece in
+    let test = c .before .before .before .before .before .before .before .before .before .before .before .loop-test .taken in
+    omega (arith, form-bounds t (l .at) _ _ (x .0 .form) .0, test)
 
 loop-again-2 : tie.Need-loop-again-2 Inv-loop μ-loop
 loop-again-2 c =
-    let at-value-word = c .before .before .before .before in
-    let at-if2 = at-value-word .before .before in
-    let at-kind = at-if2 .before .before in
-    let at-piece-at = at-kind .before .before in
-    let here = at-piece-at .before .before in
-    let start = here .before .before .before .before in
-    let h = here in
+    let h = c .before .before .before .before .before .before .before .before .before .before .before .before in
     let t = text h in
     let l = h .loop in
-    let piece = at-piece-at .piece-at .ensures in
-    let x = subst (IsPiece t (l .at)) (at-kind .kind .given .1) piece in
-    let room = start .pre in
-    let left = at-if2 .if2 .left in
-    let word = at-value-word .value-word .ensures in
+    let piece = c .before .before .before .before .before .before .before .before .before .before .piece-at .ensures in
+    let x = subst (IsPiece t (l .at)) (c .before .before .before .before .before .before .before .before .kind .given .1) piece in
+    let room =
+    c .before .before .before .before .before .before .before .before .before .before .before .before .before .before .before .before .before .before .pre
+    in
+    let left = c .before .before .before .before .before .before .if2 .left in
+    let word = c .before .before .before .before .value-word .ensures in
     reached-next (l .inv) room (omega (arith, l .inv .few, left)) (x .0) (x .1) word (c .before .before .put .ensures)
 
 enum-told : tie.Need-enum-told Inv-loop μ-loop
@@ -164,7 +166,7 @@ returns-3 c =
     let l = h .loop in
     let piece = c .before .before .piece-at .ensures in
     let x = subst (IsPiece t (l .at)) (c .enum-told .given .1) piece in
-    reached-broken (l .inv) open-comment (c .before .before .before .before .before .if1 .left) (λ ts e. opened (x .1))
+    reached-broken (l .inv) open-comment (short h) (λ ts e. opened (x .1))
 
 enum-told-2 : tie.Need-enum-told-2 Inv-loop μ-loop
 enum-told-2 c = search needs
@@ -179,7 +181,7 @@ returns-4 c =
     let l = h .loop in
     let piece = c .before .before .piece-at .ensures in
     let x = subst (IsPiece t (l .at)) (c .enum-told2 .given .1) piece in
-    reached-broken (l .inv) large-number (c .before .before .before .before .before .if1 .left) (λ ts e. large (x .3) (x .4))
+    reached-broken (l .inv) large-number (short h) (λ ts e. large (x .3) (x .4))
 
 enum-told-3 : tie.Need-enum-told-3 Inv-loop μ-loop
 enum-told-3 c = search needs
@@ -194,8 +196,8 @@ returns-5 c =
     let l = h .loop in
     let piece = c .before .before .piece-at .ensures in
     let x = subst (IsPiece t (l .at)) (c .enum-told3 .given .1) piece in
-    let inside = c .before .before .before .loop-test .taken in
-    reached-broken (l .inv) strange-byte (c .before .before .before .before .before .if1 .left) (λ ts e. strange inside x)
+    let inside = subst (λ n. l .at < n) (h .before .before .len .ensures) (c .before .before .before .loop-test .taken) in
+    reached-broken (l .inv) strange-byte (short h) (λ ts e. strange inside x)
 
 same-length-5 : tie.Need-same-length-5 Inv-loop μ-loop
 same-length-5 c = reached-length (c .before .loop .inv)
@@ -205,7 +207,7 @@ returns-6 c =
     let h = c .before in
     let t = text h in
     let l = h .loop in
-    reached-whole (l .inv) (c .before .before .if1 .left) (omega (arith, reached-inside (l .inv .reaches), c .loop-test .left))
+    reached-whole (l .inv) (short h) (omega (arith, reached-inside (l .inv .reaches), c .loop-test .left, h .before .before .len .ensures))
 
 pub split-spec : {M : Type 1} → statement M
 split-spec =
@@ -213,6 +215,7 @@ split-spec =
     (tie.spec
     Inv-loop
     μ-loop
+    len-requires
     returns
     loop-holds
     piece-at-requires

@@ -4,7 +4,7 @@ use Rattle.tokens.proofs.value_word.Statement.{statement}
 use Rattle.tokens.proofs.value_word.Tie as tie
 
 name-number-requires : tie.Need-name-number-requires
-name-number-requires c κs = c .before .before .before .pre
+name-number-requires c κs = c .before .before .before .before .pre
 
 returns : tie.Need-returns
 returns c = record { name = λ e. c .name-number .ensures; other = λ x. absurd (x (c .before .if1 .taken)) }

@@ -17,7 +17,7 @@ side-requires-2 : tie.Need-side-requires-2
 side-requires-2 c κs = search needs
 
 returns-2 : tie.Need-returns-2
-returns-2 c = rw (sym (c .before .before .is-long .ensures) ∙ c .before .if1 .left) (c .side2 .ensures)
+returns-2 c = rw (sym (c .before .before .before .is-long .ensures) ∙ c .before .before .if1 .left) (c .side2 .ensures)
 
 pub refused-spec : {M : Type 1} → statement M
 refused-spec = tie.close (tie.spec is-long-requires side-requires returns side-requires-2 returns-2)

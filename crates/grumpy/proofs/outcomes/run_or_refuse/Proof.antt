@@ -8,25 +8,28 @@ enum-known-seen c = search needs
 
 execute-requires : tie.Need-execute-requires
 execute-requires c κs =
-    let seen = c .before .before .before in
-    let start = seen .before .before .before .before .before .before in
-    runnable-sheet _ _ _ _ _ _ (start .pre) (seen .seen .given .1)
+    let at-seen = c .before .before .before in
+    let start = at-seen .before .before .before .before .before .before .before in
+    runnable-sheet _ _ _ _ _ _ (start .pre) (at-seen .seen .given .1)
+
+len-requires : tie.Need-len-requires
+len-requires c κs = search needs
 
 answer-requires : tie.Need-answer-requires
 answer-requires c κs =
-    let execute = c .before .before .before .before .before in
-    let seen = execute .before .before .before in
-    let start = seen .before .before .before .before .before .before in
-    runnable-long _ _ _ _ _ _ (start .pre) (seen .seen .given .1)
+    let earlier = c .before .before .before .before .before .before .before in
+    let at-seen = earlier .before .before in
+    let start = at-seen .before .before .before .before .before .before .before in
+    runnable-long _ _ _ _ _ _ (start .pre) (at-seen .seen .given .1)
 
 enum-known-seen-2 : tie.Need-enum-known-seen-2
 enum-known-seen-2 c = search needs
 
 refuse-requires : tie.Need-refuse-requires
 refuse-requires c κs =
-    let seen2 = c .before .before .before in
-    let start = seen2 .before .before .before .before .before .before in
-    runnable-refused _ _ _ _ _ _ (start .pre) (seen2 .seen2 .given .1)
+    let at-seen2 = c .before .before .before in
+    let start = at-seen2 .before .before .before .before .before .before .before in
+    runnable-refused _ _ _ _ _ _ (start .pre) (at-seen2 .seen2 .given .1)
 
 same-length : tie.Need-same-length
 same-length c = search needs
@@ -36,9 +39,9 @@ same-length-2 c = search needs
 
 returns : tie.Need-returns
 returns c =
-    let execute = c .before .before .before .before .before in
-    let seen = execute .before .before .before .before in
-    answered-sheet _ _ _ _ _ _ _ _ _ _ _ _ (execute .execute .ensures) (seen .seen .given .1) (c .answer .ensures)
+    let at-execute = c .before .before .before .before .before .before in
+    let at-seen = at-execute .before .before .before .before in
+    answered-sheet _ _ _ _ _ _ _ _ _ _ _ _ _ (at-execute .execute .ensures) (at-seen .seen .given .1) (c .before .len .ensures) (c .answer .ensures)
 
 same-length-3 : tie.Need-same-length-3
 same-length-3 c = search needs
@@ -48,9 +51,9 @@ same-length-4 c = search needs
 
 returns-2 : tie.Need-returns-2
 returns-2 c =
-    let refuse = c .before .before .before .before in
-    let seen2 = refuse .before .before .before .before in
-    answered-refused _ _ _ _ _ _ _ _ _ _ _ (refuse .refuse .ensures .0) (refuse .refuse .ensures .1 .0) (refuse .refuse .ensures .1 .1) (seen2 .seen2 .given .1)
+    let at-refuse = c .before .before .before .before in
+    let at-seen2 = at-refuse .before .before .before .before in
+    let x = at-refuse .refuse .ensures in answered-refused _ _ _ _ _ _ _ _ _ _ _ (x .0) (x .1 .0) (x .1 .1) (at-seen2 .seen2 .given .1)
 
 pub run-or-refuse-spec : {M : Type 1} → statement M
 run-or-refuse-spec =
@@ -58,6 +61,7 @@ run-or-refuse-spec =
     (tie.spec
     enum-known-seen
     execute-requires
+    len-requires
     answer-requires
     enum-known-seen-2
     refuse-requires

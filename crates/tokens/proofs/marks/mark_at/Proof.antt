@@ -1,32 +1,35 @@
 -- `mark_at` looks for a mark of two bytes, and where there is none for one of one.
 use borrow.Author.Needs.{needs}
-use mathlib.Core.List.{[], _∷_}
+use mathlib.Core.List.{List, [], _∷_}
 use mathlib.Core.Path.{_≡_, _∙_, ap, ap₂}
 use native.Mathlib.Omega.{arith}
+use Prim.Native.Nat.{ℕ}
 use Rattle.tokens.proofs.MarkBytes.{ahead, two-most, marked, unmarked, markless}
 use Rattle.tokens.proofs.marks.mark_at.Statement.{statement}
 use Rattle.tokens.proofs.marks.mark_at.Tie as tie
 use Rattle.tokens.specs.Found.{mark-kind}
+use Rattle.tokens.specs.Shown.{shown}
+
+-- the text
+abbrev text : tie.Start → List ℕ
+text s = shown (s .args .first .now) (s .args .second .now) (s .args .view)
 
 -- where it began
 abbrev start : tie.After-double → tie.Start
-start c = c .before .before .before .before
+start c = c .before .before .before .before .before
 
-two : (c : tie.After-double) → c .double .result ≡ mark-kind (ahead (start c .args .source .now) (start c .args .at) 2)
-two c = c .double .ensures ∙ ap₂ (λ a b. mark-kind (a ∷ b ∷ [])) (c .before .before .byte .ensures) (c .before .byte2 .ensures)
+two : (c : tie.After-double) → c .double .result ≡ mark-kind (ahead (text (start c)) (start c .args .at) 2)
+two c = c .double .ensures ∙ ap₂ (λ a b. mark-kind (a ∷ b ∷ [])) (c .before .before .byte .ensures) (c .before .ahead .ensures)
 
 one : (c : tie.After-single)
-    → c .single .result ≡ mark-kind (ahead (start (c .before .before) .args .source .now) (start (c .before .before) .args .at) 1)
+    → c .single .result ≡ mark-kind (ahead (text (start (c .before .before))) (start (c .before .before) .args .at) 1)
 one c = c .single .ensures ∙ ap (λ a. mark-kind (a ∷ [])) (c .before .before .before .before .byte .ensures)
 
 byte-requires : tie.Need-byte-requires
 byte-requires c κs = search needs
 
-add-byte : tie.Need-add-byte
-add-byte c = search needs
-
-byte-requires-2 : tie.Need-byte-requires-2
-byte-requires-2 c κs = search needs
+ahead-requires : tie.Need-ahead-requires
+ahead-requires c κs = omega (arith, c .before .before .before .pre .0)
 
 double-requires : tie.Need-double-requires
 double-requires c κs = search needs
@@ -58,8 +61,7 @@ mark-at-spec =
     tie.close
     (tie.spec
     byte-requires
-    add-byte
-    byte-requires-2
+    ahead-requires
     double-requires
     returns
     single-requires

@@ -7,12 +7,14 @@ use Prim.Native.Nat.{_-_}
 use Rattle.tokens.proofs.Compared.{Alike, alike-none, alike-within, alike-more, alike-less, alike-all, length-same}
 use Rattle.tokens.proofs.names.alike.Statement.{statement}
 use Rattle.tokens.proofs.names.alike.Tie as tie
+use Rattle.tokens.proofs.Views.{shown-long}
+use Rattle.tokens.specs.Shown.{shown}
 
 abbrev Inv-loop : tie.InvT-loop
-Inv-loop source a b p q i₀ i = Alike source a b p q i
+Inv-loop first second view a b p q i₀ i = Alike (shown first second view) a b p q i
 
 abbrev μ-loop : tie.MeasureT-loop
-μ-loop source a b p q i₀ i = b - a - i
+μ-loop first second view a b p q i₀ i = b - a - i
 
 sub-if1 : tie.Need-sub-if1 Inv-loop μ-loop
 sub-if1 c = search needs
@@ -22,32 +24,33 @@ sub-if1-2 c = search needs
 
 returns : tie.Need-returns Inv-loop μ-loop
 returns c =
-    let a = c .before .before .args in
-    let t = a .source .now in
-    let e = length-slice (a .a) (a .b) t (c .before .before .pre .1) in
-    length-same t (slice (a .a) (a .b) t) (a .p) (a .q) (c .before .before .pre .3) (λ x. c .if1 .taken (sym e ∙ x))
+    let a = c .before .before .before .args in
+    let t = shown (a .first .now) (a .second .now) (a .view) in
+    let e = length-slice (a .a) (a .b) t (c .before .before .before .pre .1) in
+    length-same t (slice (a .a) (a .b) t) (a .p) (a .q) (c .before .before .before .pre .3) (λ x. c .if1 .taken (sym e ∙ x))
 
 loop-holds : tie.Need-loop-holds Inv-loop μ-loop
-loop-holds c = alike-none (c .before .before .pre .1) (c .before .before .pre .2) (c .before .before .pre .3) (c .if1 .left)
+loop-holds c = alike-none (c .before .before .before .pre .1) (c .before .before .before .pre .2) (c .before .before .before .pre .3) (c .if1 .left)
 
 sub-loop : tie.Need-sub-loop Inv-loop μ-loop
 sub-loop c = search needs
 
 add-byte : tie.Need-add-byte Inv-loop μ-loop
-add-byte c = omega (arith, alike-within (c .before .loop .inv), c .before .before .before .before .pre, c .before .before .before .before .good)
+add-byte c =
+    let s = c .before .before .before .before .before in
+    let a = s .args in
+    let long = shown-long (a .first .now) (a .second .now) (a .view) in
+    omega (arith, alike-within (c .before .loop .inv), s .pre, long, s .good)
 
 byte-requires : tie.Need-byte-requires Inv-loop μ-loop
 byte-requires c κs = search needs
 
 add-byte-2 : tie.Need-add-byte-2 Inv-loop μ-loop
 add-byte-2 c =
-    omega (
-      arith,
-      alike-within (c .before .before .loop .inv),
-      c .before .before .loop .inv .many,
-      c .before .before .before .before .before .pre,
-      c .before .before .before .before .before .good,
-    )
+    let s = c .before .before .before .before .before .before in
+    let a = s .args in
+    let long = shown-long (a .first .now) (a .second .now) (a .view) in
+    omega (arith, alike-within (c .before .before .loop .inv), c .before .before .loop .inv .many, s .pre, long, s .good)
 
 byte-requires-2 : tie.Need-byte-requires-2 Inv-loop μ-loop
 byte-requires-2 c κs = search needs

@@ -6,19 +6,21 @@ use Prim.Native.Nat.{_-_}
 use Rattle.tokens.proofs.Compared.{Unlike, unlike-none, unlike-more, unlike-but, unlike-all}
 use Rattle.tokens.proofs.names.first_alike.Statement.{statement}
 use Rattle.tokens.proofs.names.first_alike.Tie as tie
+use Rattle.tokens.specs.Shown.{shown}
 
 abbrev Inv-loop : tie.InvT-loop
-Inv-loop source table count p q i₀ i = Unlike source table count (slice p q source) i
+Inv-loop first second view table count p q i₀ i =
+    Unlike (shown first second view) table count (slice p q (shown first second view)) i
 
 abbrev μ-loop : tie.MeasureT-loop
-μ-loop source table count p q i₀ i = count - i
+μ-loop first second view table count p q i₀ i = count - i
 
 loop-holds : tie.Need-loop-holds Inv-loop μ-loop
 loop-holds c = unlike-none
 
 place-requires : tie.Need-place-requires Inv-loop μ-loop
 place-requires c κs =
-    omega (arith, c .before .before .before .before .pre .room, c .before .before .before .before .pre .few, c .loop-test .taken)
+    omega (arith, c .before .before .before .before .before .pre .room, c .before .before .before .before .before .pre .few, c .loop-test .taken)
 
 cast-from : tie.Need-cast-from Inv-loop μ-loop
 cast-from c = search needs
@@ -27,8 +29,8 @@ end-requires : tie.Need-end-requires Inv-loop μ-loop
 end-requires c κs =
     omega (
       arith,
-      c .before .before .before .before .before .pre .room,
-      c .before .before .before .before .before .pre .few,
+      c .before .before .before .before .before .before .pre .room,
+      c .before .before .before .before .before .before .pre .few,
       c .before .loop-test .taken,
     )
 
@@ -37,7 +39,7 @@ cast-to c = search needs
 
 alike-requires : tie.Need-alike-requires Inv-loop μ-loop
 alike-requires c κs =
-    let given = c .before .before .before .before .before .before .pre in
+    let given = c .before .before .before .before .before .before .before .pre in
     let spans = given .spans (c .before .before .before .loop .i) (c .before .before .loop-test .taken) in
     let from = c .before .place .ensures in
     let to = c .end .ensures in

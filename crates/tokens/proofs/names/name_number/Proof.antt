@@ -8,29 +8,32 @@ use Rattle.language.specs.Trees.{PUTCHAR}
 use Rattle.tokens.proofs.Compared.{same-swap}
 use Rattle.tokens.proofs.names.name_number.Statement.{statement}
 use Rattle.tokens.proofs.names.name_number.Tie as tie
+use Rattle.tokens.specs.Shown.{shown}
 
 slice-aggregate-spells : tie.Need-slice-aggregate-spells
 slice-aggregate-spells c = search needs
 
 spells-requires : tie.Need-spells-requires
-spells-requires c κs = (c .before .before .before .pre .order, c .before .before .before .pre .inside)
+spells-requires c κs = (c .before .before .before .before .pre .order, c .before .before .before .before .pre .inside)
 
 returns : tie.Need-returns
 returns c =
-    let a = c .before .before .before .before .before .args in
-    let e = same-swap (slice (a .p) (a .q) (a .source .now)) PUTCHAR ∙ sym (c .before .spells .ensures) ∙ c .if1 .taken in
+    let a = c .before .before .before .before .before .before .args in
+    let t = shown (a .first .now) (a .second .now) (a .view) in
+    let e = same-swap (slice (a .p) (a .q) t) PUTCHAR ∙ sym (c .before .spells .ensures) ∙ c .if1 .taken in
     record { putchar = λ x. refl; first = λ x. absurd (clash e x) }
 
 first-alike-requires : tie.Need-first-alike-requires
-first-alike-requires c κs = c .before .before .before .before .before .pre
+first-alike-requires c κs = c .before .before .before .before .before .before .pre
 
 cast-result : tie.Need-cast-result
-cast-result c = omega (arith, c .first-alike .ensures .within, c .before .before .before .before .before .before .pre .few)
+cast-result c = omega (arith, c .first-alike .ensures .within, c .before .before .before .before .before .before .before .pre .few)
 
 returns-2 : tie.Need-returns-2
 returns-2 c =
-    let a = c .before .before .before .before .before .before .args in
-    let e = same-swap (slice (a .p) (a .q) (a .source .now)) PUTCHAR ∙ sym (c .before .before .spells .ensures) ∙ c .before .if1 .left in
+    let a = c .before .before .before .before .before .before .before .args in
+    let t = shown (a .first .now) (a .second .now) (a .view) in
+    let e = same-swap (slice (a .p) (a .q) t) PUTCHAR ∙ sym (c .before .before .spells .ensures) ∙ c .before .if1 .left in
     record { putchar = λ x. absurd (clash x e); first = λ x. c .first-alike .ensures }
 
 pub name-number-spec : {M : Type 1} → statement M

@@ -18,10 +18,12 @@ use Rattle.language.specs.Tokens.{EDITION-1, spell, NUMBER}
 use Rattle.tokens.proofs.pieces.piece_at.Statement.{statement}
 use Rattle.tokens.proofs.pieces.piece_at.Tie as tie
 use Rattle.tokens.specs.Found.{IsNumber, IsClose, IsMark}
+use Rattle.tokens.proofs.Views.{shown-long}
+use Rattle.tokens.specs.Shown.{shown}
 
 -- the text, the place and the byte there
 abbrev text : tie.Start → List ℕ
-text s = s .args .source .now
+text s = shown (s .args .first .now) (s .args .second .now) (s .args .view)
 
 abbrev place : tie.Start → ℕ
 place s = s .args .at
@@ -31,7 +33,7 @@ first-byte s = byte (text s) (place s)
 
 -- where it began, behind each test that failed
 abbrev start1 : tie.Else1 → tie.Start
-start1 c = c .before .before .before .before
+start1 c = c .before .before .before .before .before
 
 abbrev start2 : tie.Else2 → tie.Start
 start2 c = start1 (c .before .before)
@@ -80,16 +82,12 @@ opens c =
 -- none of these begins there
 other : (c : tie.Else5) → Begins (text (start5 c)) (place (start5 c)) others
 other c =
-    let here = c .before .before .before in
-    let here-2 = here .before .before .before in
-    let here-3 = here-2 .before .before in
-    let here-4 = here-3 .before .before in
-    let blank = no-blank (here-4) in
-    let letter = no-letter (here-3) in
-    let digit = no-digit (here-2) in
+    let blank = no-blank (c .before .before .before .before .before .before .before .before .before .before) in
+    let letter = no-letter (c .before .before .before .before .before .before .before .before) in
+    let digit = no-digit (c .before .before .before .before .before .before) in
     let seen = sym (c .before .stands-at2 .ensures) ∙ c .if5 .left in
     let no-open = stands-no (text (start5 c)) (place (start5 c)) (spell "/*") seen in
-    (record { blank = blank; letter = letter; digit = digit }, no-line (here), no-open)
+    (record { blank = blank; letter = letter; digit = digit }, no-line (c .before .before .before), no-open)
 
 byte-requires : tie.Need-byte-requires
 byte-requires c κs = search needs
@@ -97,12 +95,16 @@ byte-requires c κs = search needs
 is-blank-requires : tie.Need-is-blank-requires
 is-blank-requires c κs = search needs
 
-add-t13 : tie.Need-add-t13
-add-t13 c = search needs
+add-t15 : tie.Need-add-t15
+add-t15 c =
+    let s = c .before .before .before .before .before in
+    let a = s .args in
+    let long = shown-long (a .first .now) (a .second .now) (a .view) in
+    omega (arith, s .pre, long, s .good)
 
 returns : tie.Need-returns
 returns c =
-    let s = c .before .before .before .before in
+    let s = c .before .before .before .before .before in
     blank-piece laws-1 (text s) (place s) (s .pre)
     (known is-blank (c .before .before .byte .ensures) (c .before .is-blank .ensures) (c .if1 .taken))
 
@@ -132,9 +134,10 @@ is-digit-requires c κs = search needs
 
 number-requires : tie.Need-number-requires
 number-requires c κs =
-    let at-byte = c .before .before .before .before .before .before in
-    let start = at-byte .before .before in
-    let digit = known is-digit (at-byte .byte .ensures) (c .before .is-digit .ensures) (c .if3 .taken) in (start .pre, digit)
+    let digit =
+    known is-digit (c .before .before .before .before .before .before .byte .ensures) (c .before .is-digit .ensures) (c .if3 .taken)
+    in
+    (c .before .before .before .before .before .before .before .before .before .pre, digit)
 
 enum-known-end : tie.Need-enum-known-end
 enum-known-end c = search needs
@@ -164,7 +167,10 @@ stands-at-requires : tie.Need-stands-at-requires
 stands-at-requires c κs = search needs
 
 add-line-end : tie.Need-add-line-end
-add-line-end c = search needs
+add-line-end c =
+    let s = start3 (c .before .before .before) in
+    let a = s .args in
+    omega (arith, two-inside (text s) (place s) 47 47 (line c) (omega arith), shown-long (a .first .now) (a .second .now) (a .view), s .good)
 
 line-end-requires : tie.Need-line-end-requires
 line-end-requires c κs =
@@ -216,13 +222,14 @@ mark-at-requires c κs = (start5 c .pre, other c)
 enum-known-kind : tie.Need-enum-known-kind
 enum-known-kind c = search needs
 
-add-t31 : tie.Need-add-t31
-add-t31 c =
+add-t33 : tie.Need-add-t33
+add-t33 c =
     let s = start5 (c .before .before .before .before) in
     let t = text s in
     let p = place s in
     let m = subst (IsMark t p) (c .before .kind .given .1) (c .before .before .before .mark-at .ensures) in
-    omega (arith, form-bounds t p _ _ (m .form), s .good)
+    let a = s .args in
+    omega (arith, form-bounds t p _ _ (m .form), shown-long (a .first .now) (a .second .now) (a .view), s .good)
 
 enum-told-3 : tie.Need-enum-told-3
 enum-told-3 c = search needs
@@ -247,7 +254,7 @@ piece-at-spec =
     (tie.spec
     byte-requires
     is-blank-requires
-    add-t13
+    add-t15
     returns
     is-letter-requires
     name-end-requires
@@ -273,7 +280,7 @@ piece-at-spec =
     returns-7
     mark-at-requires
     enum-known-kind
-    add-t31
+    add-t33
     enum-told-3
     returns-8
     returns-9)

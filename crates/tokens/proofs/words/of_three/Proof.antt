@@ -3,12 +3,19 @@ use borrow.Author.Needs.{needs}
 use lib.Dec.{lit<}
 use mathlib.Core.Path.{refl, sym, _∙_}
 use Prim.Native.Char.{code}
+use mathlib.Core.List.{List}
+use Prim.Native.Nat.{ℕ}
 use Rattle.language.proofs.Text.Tables.{every}
 use Rattle.language.specs.Tokens.{spell}
 use Rattle.tokens.proofs.FirstBytes.{begins-so}
 use Rattle.tokens.proofs.WordRows.{fits, left, by-first, no-first}
 use Rattle.tokens.proofs.words.of_three.Statement.{statement}
 use Rattle.tokens.proofs.words.of_three.Tie as tie
+use Rattle.tokens.specs.Shown.{shown}
+
+-- the text
+abbrev text : tie.Start → List ℕ
+text s = shown (s .args .first .now) (s .args .second .now) (s .args .view)
 
 byte-requires : tie.Need-byte-requires
 byte-requires c κs = search needs
@@ -53,55 +60,55 @@ returns : tie.Need-returns
 unfolding left fits
 returns c =
     let m = c .before .before in
-    let s = m .before .before .before in
-    by-first (s .args .source .now) (s .args .p) 3 (code "d") (lit< tt) (s .pre)
+    let s = m .before .before .before .before in
+    by-first (text s) (s .args .p) 3 (code "d") (lit< tt) (s .pre)
     (sym (m .before .byte .ensures) ∙ m .match .keys1) (c .only .ensures)
 
 returns-2 : tie.Need-returns-2
 unfolding left fits
 returns-2 c =
     let m = c .before .before in
-    let s = m .before .before .before in
-    by-first (s .args .source .now) (s .args .p) 3 (code "e") (lit< tt) (s .pre)
+    let s = m .before .before .before .before in
+    by-first (text s) (s .args .p) 3 (code "e") (lit< tt) (s .pre)
     (sym (m .before .byte .ensures) ∙ m .match .keys2) (c .only2 .ensures)
 
 returns-3 : tie.Need-returns-3
 unfolding left fits
 returns-3 c =
     let m = c .before .before in
-    let s = m .before .before .before in
-    by-first (s .args .source .now) (s .args .p) 3 (code "i") (lit< tt) (s .pre)
+    let s = m .before .before .before .before in
+    by-first (text s) (s .args .p) 3 (code "i") (lit< tt) (s .pre)
     (sym (m .before .byte .ensures) ∙ m .match .keys3) (c .only3 .ensures)
 
 returns-4 : tie.Need-returns-4
 unfolding left fits
 returns-4 c =
     let m = c .before .before in
-    let s = m .before .before .before in
-    by-first (s .args .source .now) (s .args .p) 3 (code "l") (lit< tt) (s .pre)
+    let s = m .before .before .before .before in
+    by-first (text s) (s .args .p) 3 (code "l") (lit< tt) (s .pre)
     (sym (m .before .byte .ensures) ∙ m .match .keys4) (c .only4 .ensures)
 
 returns-5 : tie.Need-returns-5
 unfolding left fits
 returns-5 c =
     let m = c .before .before in
-    let s = m .before .before .before in
-    by-first (s .args .source .now) (s .args .p) 3 (code "n") (lit< tt) (s .pre)
+    let s = m .before .before .before .before in
+    by-first (text s) (s .args .p) 3 (code "n") (lit< tt) (s .pre)
     (sym (m .before .byte .ensures) ∙ m .match .keys5) (c .only5 .ensures)
 
 returns-6 : tie.Need-returns-6
 unfolding left fits
 returns-6 c =
     let m = c .before .before in
-    let s = m .before .before .before in
-    by-first (s .args .source .now) (s .args .p) 3 (code "r") (lit< tt) (s .pre)
+    let s = m .before .before .before .before in
+    by-first (text s) (s .args .p) 3 (code "r") (lit< tt) (s .pre)
     (sym (m .before .byte .ensures) ∙ m .match .keys6) (c .only6 .ensures)
 
 returns-7 : tie.Need-returns-7
 unfolding every begins-so
 returns-7 c =
-    let s = c .before .before .before in
-    no-first (s .args .source .now) (s .args .p) 2 _ (spell "rnlied") (s .pre) (c .before .byte .ensures) refl (c .match .rest)
+    let s = c .before .before .before .before in
+    no-first (text s) (s .args .p) 2 _ (spell "rnlied") (s .pre) (c .before .byte .ensures) refl (c .match .rest)
 
 pub of-three-spec : {M : Type 1} → statement M
 of-three-spec =

@@ -4,62 +4,68 @@ use mathlib.Core.List.{List, [], _∷_}
 use mathlib.Core.Path.{_≡_, sym, _∙_, ap, ap₂}
 use native.Mathlib.Omega.{arith}
 use Prim.Native.Nat.{ℕ, _+_}
-use Rattle.language.proofs.Text.Bases.{base-told, told-digits, untold-digits}
+use Rattle.language.proofs.Text.Bases.{base-told, Digits, told-digits, untold-digits}
 use Rattle.language.specs.Text.{byte, is-digit-of}
 use Rattle.tokens.proofs.worth.digits_at.Statement.{statement}
 use Rattle.tokens.proofs.worth.digits_at.Tie as tie
+use Rattle.tokens.proofs.Views.{shown-long}
+use Rattle.tokens.specs.Shown.{shown}
 
 -- the text, and the place
 abbrev text : tie.Start → List ℕ
-text s = s .args .source .now
+text s = shown (s .args .first .now) (s .args .second .now) (s .args .view)
 
 abbrev place : tie.Start → ℕ
 place s = s .args .at
 
 -- where it began
 abbrev start : tie.After-base-of → tie.Start
-start c = c .before .before .before .before
+start c = c .before .before .before .before .before
 
 -- the base that the two bytes tell
 base : (c : tie.After-base-of)
     → c .base-of .result ≡ base-told (byte (text (start c)) (place (start c)) ∷ byte (text (start c)) (place (start c) + 1) ∷ [])
 base c =
-    c .base-of .ensures ∙ ap₂ (λ a b. base-told (a ∷ b ∷ [])) (c .before .before .byte .ensures) (c .before .byte2 .ensures)
+    c .base-of .ensures ∙ ap₂ (λ a b. base-told (a ∷ b ∷ [])) (c .before .before .byte .ensures) (c .before .ahead .ensures)
 
 -- whether a digit of it stands behind them
 digit : (c : tie.After-is-digit-of)
     → c .is-digit-of .result
     ≡ is-digit-of (c .before .before .base-of .result) (byte (text (start (c .before .before))) (place (start (c .before .before)) + 2))
-digit c = c .is-digit-of .ensures ∙ ap (is-digit-of (c .before .before .base-of .result)) (c .before .byte3 .ensures)
+digit c = c .is-digit-of .ensures ∙ ap (is-digit-of (c .before .before .base-of .result)) (c .before .ahead2 .ensures)
 
 byte-requires : tie.Need-byte-requires
 byte-requires c κs = search needs
 
-add-byte : tie.Need-add-byte
-add-byte c = search needs
-
-byte-requires-2 : tie.Need-byte-requires-2
-byte-requires-2 c κs = search needs
+ahead-requires : tie.Need-ahead-requires
+ahead-requires c κs = omega (arith, c .before .before .before .pre .0)
 
 base-of-requires : tie.Need-base-of-requires
 base-of-requires c κs = search needs
 
-add-byte-2 : tie.Need-add-byte-2
-add-byte-2 c = omega (arith, start c .pre .0, start c .good)
-
-byte-requires-3 : tie.Need-byte-requires-3
-byte-requires-3 c κs = search needs
+ahead-requires-2 : tie.Need-ahead-requires-2
+ahead-requires-2 c κs = omega (arith, c .before .before .before .before .before .pre .0)
 
 is-digit-of-requires : tie.Need-is-digit-of-requires
 is-digit-of-requires c κs = search needs
 
-add-t8 : tie.Need-add-t8
-add-t8 c = let s = start (c .before .before .before) in omega (arith, s .pre .0, s .good)
-
-returns : tie.Need-returns
-returns c =
+-- a base is told
+found : (c : tie.Then1)
+    → Digits (text (start (c .before .before .before))) (place (start (c .before .before .before)))
+    (place (start (c .before .before .before)) + 2) (c .before .before .before .base-of .result)
+found c =
     let d = c .before .before .before in
     told-digits (text (start d)) (place (start d)) (d .base-of .result) (base d) (sym (digit (c .before)) ∙ c .if1 .taken)
+
+add-t9 : tie.Need-add-t9
+add-t9 c =
+    let s = c .before .before .before .before .before .before .before .before in
+    let a = s .args in
+    let long = shown-long (a .first .now) (a .second .now) (a .view) in
+    omega (arith, found c .within, long, s .good)
+
+returns : tie.Need-returns
+returns c = found c
 
 returns-2 : tie.Need-returns-2
 returns-2 c =
@@ -72,12 +78,10 @@ digits-at-spec =
     tie.close
     (tie.spec
     byte-requires
-    add-byte
-    byte-requires-2
+    ahead-requires
     base-of-requires
-    add-byte-2
-    byte-requires-3
+    ahead-requires-2
     is-digit-of-requires
-    add-t8
+    add-t9
     returns
     returns-2)

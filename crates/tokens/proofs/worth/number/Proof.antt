@@ -10,15 +10,17 @@ use Rattle.language.specs.Tokens.{EDITION-1, NUMBER}
 use Rattle.tokens.proofs.Digits.{Read, product, read-none, read-hex, read-worth, read-more, read-large, read-all}
 use Rattle.tokens.proofs.worth.number.Statement.{statement}
 use Rattle.tokens.proofs.worth.number.Tie as tie
+use Rattle.tokens.proofs.Views.{shown-long}
+use Rattle.tokens.specs.Shown.{shown}
 
 abbrev Inv-loop : tie.InvT-loop
-Inv-loop source at from base end value₀ i₀ value i = Read base source from end i value
+Inv-loop first second view at from base end value₀ i₀ value i = Read base (shown first second view) from end i value
 
 abbrev μ-loop : tie.MeasureT-loop
-μ-loop source at from base end value₀ i₀ value i = end - i
+μ-loop first second view at from base end value₀ i₀ value i = end - i
 
 digits-at-requires : tie.Need-digits-at-requires Inv-loop μ-loop
-digits-at-requires c κs = c .before .pre
+digits-at-requires c κs = c .before .before .pre
 
 digits-end-requires : tie.Need-digits-end-requires Inv-loop μ-loop
 digits-end-requires c κs = c .digits-at .ensures .within
@@ -49,7 +51,8 @@ add-value c =
 returns : tie.Need-returns Inv-loop μ-loop
 returns c =
     let h = c .before .before .before .before in
-    let t = h .before .before .before .before .args .source .now in
+    let a = h .before .before .before .before .before .args in
+    let t = shown (a .first .now) (a .second .now) (a .view) in
     let q = h .before .digits-end .result in
     let d = h .before .before .digits-at in
     let run = h .before .digits-end .ensures in
@@ -58,7 +61,11 @@ returns c =
     (q, number-from (d .result .base) 0 (slice (d .result .from) q t), d .ensures .piece q run, large)
 
 add-i : tie.Need-add-i Inv-loop μ-loop
-add-i c = omega (arith, c .before .before .before .loop-test .taken, c .before .before .before .before .before .digits-end .ensures .within)
+add-i c =
+    let s = c .before .before .before .before .before .before .before .before .before in
+    let a = s .args in
+    let long = shown-long (a .first .now) (a .second .now) (a .view) in
+    omega (arith, c .before .before .before .loop-test .taken, c .before .before .before .before .before .digits-end .ensures .within, long, s .good)
 
 loop-less : tie.Need-loop-less Inv-loop μ-loop
 loop-less c = search needs
@@ -69,13 +76,14 @@ loop-again c =
     let test = c .before .before .before .loop-test .taken in
     read-more (h .before .digits-end .ensures) (h .loop .inv) test (c .before .before .byte .ensures) (c .before .worth .ensures) (c .if1 .left)
 
-cast-t13 : tie.Need-cast-t13 Inv-loop μ-loop
-cast-t13 c = omega (arith, c .before .loop .inv .small)
+cast-t15 : tie.Need-cast-t15 Inv-loop μ-loop
+cast-t15 c = omega (arith, c .before .loop .inv .small)
 
 returns-2 : tie.Need-returns-2 Inv-loop μ-loop
 returns-2 c =
-    let p = c .before .before .before .before .before .args .at in
-    let t = c .before .before .before .before .before .args .source .now in
+    let p = c .before .before .before .before .before .before .args .at in
+    let a = c .before .before .before .before .before .before .args in
+    let t = shown (a .first .now) (a .second .now) (a .view) in
     let q = c .before .before .digits-end .result in
     let piece = c .before .before .before .digits-at .ensures .piece q (c .before .before .digits-end .ensures) in
     let value = read-all (c .before .before .digits-end .ensures) (c .before .loop .inv) (c .loop-test .left) in
@@ -98,5 +106,5 @@ number-spec =
     add-i
     loop-less
     loop-again
-    cast-t13
+    cast-t15
     returns-2)

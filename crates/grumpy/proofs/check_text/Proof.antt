@@ -1,7 +1,7 @@
 use borrow.Author.Needs.{needs}
 use Rattle.grumpy.proofs.Services.{check-is-short, check-is-passed, check-is-refused}
-use Rattle.grumpy.proofs.check.Statement.{statement}
-use Rattle.grumpy.proofs.check.Tie as tie
+use Rattle.grumpy.proofs.check_text.Statement.{statement}
+use Rattle.grumpy.proofs.check_text.Tie as tie
 
 returns : tie.Need-returns
 returns c = check-is-short _ _ (c .if1 .taken)
@@ -23,23 +23,23 @@ same-length c = search needs
 
 returns-2 : tie.Need-returns-2
 returns-2 c =
-    let clear = c .before .before .before .before .before in
-    let examine = clear .before .before .before .before in
-    let if1 = examine .before .before in
-    check-is-passed _ _ _ _ _ (examine .examine .ensures) (if1 .if1 .left) (clear .clear .ensures) _ _ (c .before .seen .given .1)
+    let at-clear = c .before .before .before .before .before in
+    let at-examine = at-clear .before .before .before .before in
+    let at-if1 = at-examine .before .before in
+    check-is-passed _ _ _ _ _ (at-examine .examine .ensures) (at-if1 .if1 .left) (at-clear .clear .ensures) _ _ (c .before .seen .given .1)
 
 same-length-2 : tie.Need-same-length-2
 same-length-2 c = search needs
 
 returns-3 : tie.Need-returns-3
 returns-3 c =
-    let clear = c .before .before .before .before .before in
-    let examine = clear .before .before .before .before in
-    let if1 = examine .before .before in
-    check-is-refused _ _ _ _ _ (examine .examine .ensures) (if1 .if1 .left) (clear .clear .ensures) _ _ (c .before .seen2 .given .1)
+    let at-clear = c .before .before .before .before .before in
+    let at-examine = at-clear .before .before .before .before in
+    let at-if1 = at-examine .before .before in
+    check-is-refused _ _ _ _ _ (at-examine .examine .ensures) (at-if1 .if1 .left) (at-clear .clear .ensures) _ _ (c .before .seen2 .given .1)
 
-pub check-spec : {M : Type 1} → statement M
-check-spec =
+pub check-text-spec : {M : Type 1} → statement M
+check-text-spec =
     tie.close
     (tie.spec
     returns

@@ -1,8 +1,8 @@
 use borrow.Author.Needs.{needs}
 use mathlib.Core.Logic.{inl, inr}
 use Rattle.grumpy.proofs.Services.{run-is-short, run-is-large, examined-runnable, run-is-answered}
-use Rattle.grumpy.proofs.run.Statement.{statement}
-use Rattle.grumpy.proofs.run.Tie as tie
+use Rattle.grumpy.proofs.run_text.Statement.{statement}
+use Rattle.grumpy.proofs.run_text.Tie as tie
 
 returns : tie.Need-returns
 returns c = run-is-short _ _ _ _ _ (inl (c .if1 .taken))
@@ -24,12 +24,12 @@ same-length-2 c = search needs
 
 returns-3 : tie.Need-returns-3
 returns-3 c =
-    let clear2 = c .before .before in
-    let clear = clear2 .before .before .before .before in
-    let if3 = clear .before .before in
-    let if2 = if3 .before in
-    let if1 = if2 .before in
-    run-is-large _ _ _ _ _ _ _ (if1 .if1 .left) (if2 .if2 .left) (if3 .if3 .taken) (clear .clear .ensures) (clear2 .clear2 .ensures)
+    let at-clear = c .before .before .before .before .before .before in
+    let at-if3 = at-clear .before .before in
+    let at-if2 = at-if3 .before in
+    let at-if1 = at-if2 .before in
+    run-is-large _ _ _ _ _ _ _ (at-if1 .if1 .left) (at-if2 .if2 .left) (at-if3 .if3 .taken) (at-clear .clear .ensures)
+    (c .before .before .clear2 .ensures)
 
 examine-requires : tie.Need-examine-requires
 examine-requires c κs = search needs
@@ -39,10 +39,10 @@ cast-run-or-refuse c = search needs
 
 run-or-refuse-requires : tie.Need-run-or-refuse-requires
 run-or-refuse-requires c κs =
-    let examine = c .before .before .before .before .before in
-    let if3 = examine .before .before in
-    let if2 = if3 .before in
-    examined-runnable _ _ _ _ _ _ (examine .examine .ensures) (if2 .if2 .left) (if3 .if3 .left)
+    let at-examine = c .before .before .before .before .before in
+    let at-if3 = at-examine .before .before in
+    let at-if2 = at-if3 .before in
+    examined-runnable _ _ _ _ _ _ (at-examine .examine .ensures) (at-if2 .if2 .left) (at-if3 .if3 .left)
 
 clear-requires-3 : tie.Need-clear-requires-3
 clear-requires-3 c κs = search needs
@@ -58,17 +58,18 @@ same-length-5 c = search needs
 
 returns-4 : tie.Need-returns-4
 returns-4 c =
-    let clear3 = c .before .before in
-    let run-or-refuse = clear3 .before .before .before .before .before .before in
-    let examine = run-or-refuse .before .before .before .before .before .before in
-    let if3 = examine .before .before in
-    let if2 = if3 .before in
-    let if1 = if2 .before in
-    let x = run-or-refuse .run-or-refuse .ensures in
-    run-is-answered _ _ _ _ _ _ _ _ _ _ _ (if1 .if1 .left) (if2 .if2 .left) (if3 .if3 .left) (examine .examine .ensures) x (clear3 .clear3 .ensures)
+    let earlier = c .before .before .before .before .before .before .before in
+    let at-run-or-refuse = earlier .before in
+    let at-examine = at-run-or-refuse .before .before .before .before .before .before in
+    let at-if3 = at-examine .before .before in
+    let at-if2 = at-if3 .before in
+    let at-if1 = at-if2 .before in
+    let x = at-run-or-refuse .run-or-refuse .ensures in
+    run-is-answered _ _ _ _ _ _ _ _ _ _ _ (at-if1 .if1 .left) (at-if2 .if2 .left) (at-if3 .if3 .left) (at-examine .examine .ensures) x
+    (c .before .before .clear3 .ensures)
 
-pub run-spec : {M : Type 1} → statement M
-run-spec =
+pub run-text-spec : {M : Type 1} → statement M
+run-text-spec =
     tie.close
     (tie.spec
     returns

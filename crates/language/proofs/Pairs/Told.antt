@@ -1,0 +1,74 @@
+-- Whatever check or run tell of two sheets, the part that is shown lies in the sheet that is named: it is a part of that sheet.
+use mathlib.Core.Bool.{Bool, true, false, cond}
+use mathlib.Core.List.{List, [], _∷_, _++_}
+use native.Mathlib.Omega.{arith}
+use Prim.Native.Nat.{ℕ, zero, suc, _≤_}
+use lib.Dec.{ltb}
+use lib.ListN.{length, getD}
+use Rattle.language.specs.Tokens.{Vocabulary, Token, past, place-at}
+use Rattle.language.specs.Text.{Reaches, start, skip, next, token-of}
+use Rattle.language.specs.Text.Content.{token}
+use Rattle.language.specs.Numbers.{Refusal}
+use Rattle.language.specs.Answers.{Spot, nowhere, at, place-in, from-text, unread, faulty, Refused, by-origin, by-tokens, CheckReport, Checked}
+use Rattle.language.specs.Answers.{check-short, check-refused, check-passed, RunReport, Lent, Ran, run-short, run-large, run-refused, run-ended}
+use Rattle.language.specs.Pairs.{joined, Place, place-of, front, too-long, flawed, from-pair}
+use Rattle.language.proofs.Text.OnePiece.{form-bounds}
+use Rattle.language.proofs.Text.OneSplit.{reached-inside}
+use Rattle.language.proofs.Pairs.Places.{Inside, place-inside, front-inside}
+
+-- ---- a token begins in its text
+
+placed : (n : ℕ) (ts : List Token) (u : Token) (i : ℕ) → ((i : ℕ) → getD ts i past .place ≤ n) → u .place ≤ n
+    → getD (ts ++ (u ∷ [])) i past .place ≤ n
+placed n [] u zero h k = k
+placed n [] u (suc i) h k = omega arith
+placed n (t ∷ ts) u zero h k = h zero
+placed n (t ∷ ts) u (suc i) h k = placed n ts u i (λ j. h (suc j)) k
+
+reached-places : {voc : Vocabulary} {t : List ℕ} {p : ℕ} {ts : List Token} → Reaches voc t p ts → (i : ℕ) → getD ts i past .place ≤ length t
+reached-places start zero = omega arith
+reached-places start (suc i) = omega arith
+reached-places (skip r s) i = reached-places r i
+reached-places {t = t} (next {p = p} {q = q} {k = k} {v = v} {ts = ts} r s h e) i =
+    let b = form-bounds t p q (token k v) (s .form) in
+    rw e (placed (length t) ts (token-of t p q k v) i (reached-places r) (omega (arith, b .0, b .1)))
+
+-- ---- what is shown
+
+either-way : (P : ℕ → Type 0) (b : Bool) {x y : ℕ} → P x → P y → P (cond b x y)
+either-way P true p q = p
+either-way P false p q = q
+
+module _ (first second : List ℕ) where
+  at-inside : {p : ℕ} {ts : List Token} {voc : Vocabulary} → Reaches voc (joined first second) p ts → (i : ℕ)
+      → Inside first second (from-pair first second .at ts i)
+  unfolding place-at
+  at-inside {ts = ts} r i =
+      either-way (λ (p : ℕ). Inside first second (place-of first second p)) (ltb i (length ts))
+      (place-inside first second (getD ts i past .place) (reached-places r i))
+      (place-inside first second (length (joined first second)) (omega arith))
+
+  refused-inside : {r : Refusal} {x : Place} → Refused (from-pair first second) r x → Inside first second x
+  refused-inside (by-origin (too-long h)) = front-inside first second
+  refused-inside (by-origin (flawed {p = p} h a)) = place-inside first second p (reached-inside (a .before))
+  refused-inside (by-tokens g (unread {i} w)) = at-inside (g .splits .whole) i
+  refused-inside (by-tokens g (faulty {i = i} a f)) = at-inside (g .splits .whole) i
+
+  -- by check
+  pub checked-inside : {table : ℕ} {r : CheckReport Place} → Checked (from-pair first second) table r → Inside first second (r .place)
+  checked-inside (check-short h) = front-inside first second
+  checked-inside (check-refused h x) = refused-inside x
+  checked-inside (check-passed h x) = front-inside first second
+
+  spot-inside : {ts : List Token} {p : ℕ} {voc : Vocabulary} → Reaches voc (joined first second) p ts → (s : Spot)
+      → Inside first second (place-in (from-pair first second) ts s)
+  spot-inside r nowhere = front-inside first second
+  spot-inside r (at i) = at-inside r i
+
+  -- and by run
+  pub ran-inside : {l : Lent} {r : RunReport Place} {printed : List ℕ} → Ran (from-pair first second) l r printed
+      → Inside first second (r .place)
+  ran-inside (run-short h) = front-inside first second
+  ran-inside (run-large h a) = front-inside first second
+  ran-inside (run-refused h a x) = refused-inside x
+  ran-inside (run-ended {e = e} h a x z) = spot-inside (x .given .splits .whole) (e .spot)
