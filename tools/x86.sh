@@ -2,6 +2,7 @@
 # compiler and run under an emulator, both Debian's, installed here where they are missing.
 #
 #   x86_gcc WORDS...        the C compiler for x86-64
+#   x86_objdump WORDS...    shows what such an object holds
 #   $EMULATOR PROGRAM ...   runs such a program; empty on x86-64
 need() { # COMMAND PACKAGE...
   command -v "$1" >/dev/null && return
@@ -12,6 +13,10 @@ need() { # COMMAND PACKAGE...
 
 x86_gcc() {
   need x86_64-linux-gnu-gcc gcc-x86-64-linux-gnu libc6-dev-amd64-cross && x86_64-linux-gnu-gcc "$@"
+}
+
+x86_objdump() {
+  need x86_64-linux-gnu-objdump binutils-x86-64-linux-gnu && x86_64-linux-gnu-objdump "$@"
 }
 
 EMULATOR=

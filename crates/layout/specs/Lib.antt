@@ -6,3 +6,4 @@ pub mod Rows
 pub mod Decode
 pub mod Values
 pub mod Slots
+pub mod Frames

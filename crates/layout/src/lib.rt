@@ -1,11 +1,13 @@
-// Where tokens, rows, functions and variables lie in table memory, and bindings and cells in work
+// Where tokens, rows, functions and variables lie in table memory, and slots, frames and cells in work
 // memory, with a function for each way to read or write one. `specs/` says the same for contracts.
 //
 // Table memory: a token has four words (kind, place, end, and a number's value or a name's number), a
 // row of the reading five (kind, own token, three more), a function one (its row), a variable of the
-// checker two (its name's number, its type's number). Work memory: a slot, for a binding or a cell, has
-// four words (key, tag, value, and one kept for the high half of a longer value).
+// checker two (its name's number, its type's number). Work memory: a slot has three words (a key and a
+// tag in one, the value, and one kept for the high half of a longer value), a frame four (a node's row,
+// its phase, the first slot that it sees, and how many with a mark in one word); cells are slots, too.
 
+pub mod frames;
 pub mod functions;
 pub mod memory;
 pub mod rows;
@@ -36,11 +38,22 @@ pub const VARIABLES_AT: usize = 10 * TOKENS;
 
 pub const TABLE_END: usize = 12 * TOKENS;
 
-// How many bindings a run can hold at once: four for each active node, and a body's parameters.
-pub const BINDINGS: usize = 4 * ACTIVE + PARAMETERS;
+// How many slots can be in use at once. A call that works out its last argument holds those before it,
+// and a body's Block sees all of them.
+pub const SLOTS: usize = (PARAMETERS - 1) * ACTIVE + PARAMETERS;
 
-// Where the cells begin in work memory.
-pub const CELLS_AT: usize = 4 * BINDINGS;
+// How many frames: one for each active node, and one below them.
+pub const FRAMES: usize = ACTIVE + 1;
+
+// Where each region of work memory begins.
+pub const SLOTS_AT: usize = 0;
+
+pub const FRAMES_AT: usize = 3 * SLOTS;
+
+pub const CELLS_AT: usize = FRAMES_AT + 4 * FRAMES;
 
 // The number of the name `putchar`, which is no token's ordinal.
 pub const PUTCHAR: u32 = TOKENS as u32;
+
+// In the place of a name's number: a slot in which no name is bound, but an operand or an argument waits.
+pub const HELD: u32 = TOKENS as u32 + 1;

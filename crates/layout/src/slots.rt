@@ -1,39 +1,61 @@
-// Slots of work memory: a key and a value. Bindings have a name's number for their key, cells a birth
-// number.
+// Slots of work memory: a key and a value. A binding has its name's number for a key, a cell its birth number.
 ghost use mathlib.Core.Path.{_≡_};
 ghost use Prim.Native.Nat.{ℕ, _+_, _*_, _≤_, _<_};
 ghost use lib.ListN.{length};
 ghost use Rattle.language.specs.Sizes.{WORK};
-ghost use Rattle.layout.specs.Slots.{key-at, value-at, put-slot};
+ghost use Rattle.layout.specs.Slots.{TAGS, KEYS, key-at, value-at, put-slot, name-slot};
 ghost use Rattle.layout.specs.Values.{meant, Survives};
 use crate::values;
 use crate::values::Value;
 
+// A key and a tag share a word.
+const TAGS: u32 = 8;
+
+fn pack(key: u32, tag: u32) -> u32
+    requires { ⌜ (key ≤ KEYS) × (tag < TAGS) ⌝ }
+    ensures { λ r. ⌜ r ≡ TAGS * key + tag ⌝ }
+{
+    TAGS * key + tag
+}
+
 pub fn key(work: &[u32], base: usize, i: usize) -> u32
-    requires { ⌜ (base ≤ WORK) × (i ≤ WORK) × (base + 4 * i + 4 ≤ length (now work)) ⌝ }
+    requires { ⌜ (base ≤ WORK) × (i ≤ WORK) × (base + 3 * i + 3 ≤ length (now work)) ⌝ }
     ensures { λ r. ⌜ r ≡ key-at (now (work .entry)) base i ⌝ }
 {
-    work[base + 4 * i]
+    let at = base + 3 * i;
+    let head = work[at];
+    head / TAGS
 }
 
 pub fn value(work: &[u32], base: usize, i: usize) -> Value
-    requires { ⌜ (base ≤ WORK) × (i ≤ WORK) × (base + 4 * i + 4 ≤ length (now work)) ⌝ }
+    requires { ⌜ (base ≤ WORK) × (i ≤ WORK) × (base + 3 * i + 3 ≤ length (now work)) ⌝ }
     ensures { λ r. ⌜ meant r ≡ value-at (now (work .entry)) base i ⌝ }
 {
-    let at = base + 4 * i;
-    let tag = work[at + 1];
-    let word = work[at + 2];
-    values::from_words(tag, word)
+    let at = base + 3 * i;
+    let head = work[at];
+    let word = work[at + 1];
+    values::from_words(head % TAGS, word)
 }
 
 pub fn put(work: &mut [u32], base: usize, i: usize, key: u32, v: Value)
-    requires { ⌜ (base ≤ WORK) × (i ≤ WORK) × (base + 4 * i + 4 ≤ length (now work)) ⌝ }
+    requires { ⌜ (base ≤ WORK) × (i ≤ WORK) × (base + 3 * i + 3 ≤ length (now work)) × (key ≤ KEYS) ⌝ }
     ensures { λ _. ⌜ (now (work .exit) ≡ put-slot (now (work .entry)) base i key v) × Survives v ⌝ }
 {
-    let at = base + 4 * i;
+    let at = base + 3 * i;
     let tag = values::tag(v);
     let word = values::word(v);
-    work[at] = key;
-    work[at + 1] = tag;
-    work[at + 2] = word;
+    let head = pack(key, tag);
+    work[at] = head;
+    work[at + 1] = word;
+}
+
+// A slot gets a key, and holds what it held.
+pub fn name(work: &mut [u32], base: usize, i: usize, key: u32)
+    requires { ⌜ (base ≤ WORK) × (i ≤ WORK) × (base + 3 * i + 3 ≤ length (now work)) × (key ≤ KEYS) ⌝ }
+    ensures { λ _. ⌜ now (work .exit) ≡ name-slot (now (work .entry)) base i key ⌝ }
+{
+    let at = base + 3 * i;
+    let tag = work[at] % TAGS;
+    let head = pack(key, tag);
+    work[at] = head;
 }

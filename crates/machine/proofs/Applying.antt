@@ -1,6 +1,6 @@
 -- Operators: by the kind of its row each does what the meaning does with its operands.
-use mathlib.Core.Path.{_≡_, refl, sym, ap, subst}
-use mathlib.Core.Bool.{Bool, false, not}
+use mathlib.Core.Path.{_≡_, refl, sym, ap, subst, _∙_}
+use mathlib.Core.Bool.{Bool, true, false, not, cond}
 use mathlib.Core.List.{List}
 use mathlib.Core.Option.{none, some}
 use Prim.Native.Nat.{ℕ, _+_}
@@ -10,101 +10,96 @@ use borrow.Author.Tests.{ne-eqb}
 use Rattle.language.specs.Tokens.{PLUS, MINUS, STAR, SLASH, AND, OR, LESS, BECOMES, NOT, BANG}
 use Rattle.language.specs.Trees.{Unary, minus, fetch, new, Binary, assign}
 use Rattle.language.specs.State as M
-use Rattle.language.specs.State.{flag, cell, value, as-int, as-bool, as-cell, has, when-some}
+use Rattle.language.specs.State.{cell, as-int, as-bool, as-cell, has, when-some}
 use Rattle.language.specs.Meaning.{apply-unary, settles}
 use Rattle.language.proofs.Meaning.CellTypes.{cond-all}
 use Rattle.layout.specs.Rows.{PREFIX}
 use Rattle.layout.specs.declared.values.Value.{Value}
 use Rattle.layout.specs.declared.values.Value.the-variants.{Flag}
 use Rattle.machine.specs.Rows.{unary-of, binary-of}
-use Rattle.machine.specs.Outcomes.{Tells, tells, memory, outcome, tally, Room, Fitted, Answered, Applied}
+use Rattle.machine.specs.Outcomes.{tells, memory, Fitted, Answered}
 use Rattle.machine.specs.declared.state.Tally.{Tally}
 use Rattle.machine.specs.declared.state.Outcome.{Outcome}
 use Rattle.machine.specs.declared.state.Outcome.the-variants.{Gives}
 use Rattle.machine.proofs.Telling.{tells-same, want-some, want-none}
-use Rattle.machine.proofs.CellLaws.{applied-still}
 
 -- ---- one operand
 
-module _ (op i : ℕ) (v : M.Value) {w : List ℕ} {s : Tally} (room : Room w s) where
-  by-unary : {u : Unary} → unary-of op ≡ u → {w1 : List ℕ} {r : Outcome} → Applied 1 (apply-unary i u v) w w1 s r
-      → Applied 1 (apply-unary i (unary-of op) v) w w1 s r
-  by-unary e {w1} {r} h = subst (λ (x : Unary). Applied 1 (apply-unary i x v) w w1 s r) (sym e) h
+module _ (op : ℕ) (v : M.Value) (w : List ℕ) (s : Tally) where
+  abbrev Applies : Outcome → Type 0
+  Applies r = Answered (λ i σ. apply-unary i (unary-of op) v σ) w s r
+
+  by-unary : {u : Unary} → unary-of op ≡ u → (r : Outcome) → Answered (λ i σ. apply-unary i u v σ) w s r → Applies r
+  by-unary e r h = subst (λ (x : Unary). Answered (λ i σ. apply-unary i x v σ) w s r) (sym e) h
 
   is-minus : op ≡ PREFIX + MINUS → unary-of op ≡ minus
   unfolding unary-of
   is-minus e = rw e refl
 
-  minus-right : {x : ℤ} (r : Outcome) → some x ≡ as-int v → Fitted (negℤ x) i s r → (o : List ℕ)
-      → Tells (outcome w o r) (apply-unary i minus v (memory w o s))
+  minus-right : {x : ℤ} (r : Outcome) → some x ≡ as-int v → Fitted (negℤ x) r → Answered (λ i σ. apply-unary i minus v σ) w s r
   unfolding apply-unary
-  minus-right r e h o = want-some _ _ e (tells-same (h .1 w o))
+  minus-right r e h i o = want-some (as-int v) _ e (tells-same (h i (memory w o s)))
 
   -- - of a number
-  pub applies-minus : op ≡ PREFIX + MINUS → {x : ℤ} (r : Outcome) → some x ≡ as-int v → Fitted (negℤ x) i s r
-      → Applied 1 (apply-unary i (unary-of op) v) w w s r
-  applies-minus d r e h = by-unary (is-minus d) (applied-still 1 (apply-unary i minus v) r room (h .0) (minus-right r e h))
+  pub applies-minus : op ≡ PREFIX + MINUS → {x : ℤ} (r : Outcome) → some x ≡ as-int v → Fitted (negℤ x) r → Applies r
+  applies-minus d r e h = by-unary (is-minus d) r (minus-right r e h)
 
-  minus-none : none ≡ as-int v → (q : M.Outcome) (σ : M.State) → Tells q (apply-unary i minus v σ)
+  minus-none : none ≡ as-int v → (r : Outcome) → Answered (λ i σ. apply-unary i minus v σ) w s r
   unfolding apply-unary
-  minus-none e q σ = want-none _ _ e
+  minus-none e r i o = want-none (as-int v) _ e
 
   -- - of something else
-  pub stuck-minus : op ≡ PREFIX + MINUS → (r : Outcome) → tally r ≡ s → none ≡ as-int v → Applied 1 (apply-unary i (unary-of op) v) w w s r
-  stuck-minus d r h e = by-unary (is-minus d) (applied-still 1 (apply-unary i minus v) r room h (λ o. minus-none e _ _))
+  pub stuck-minus : op ≡ PREFIX + MINUS → (r : Outcome) → none ≡ as-int v → Applies r
+  stuck-minus d r e = by-unary (is-minus d) r (minus-none e r)
 
   is-not : op ≡ PREFIX + NOT → unary-of op ≡ Unary.not
   unfolding unary-of
   is-not e = rw e refl
 
-  not-right : (b : Bool) → some b ≡ as-bool v → (σ : M.State) → Tells (value (flag (not b)) σ) (apply-unary i Unary.not v σ)
+  not-right : (b : Bool) → some b ≡ as-bool v → Answered (λ i σ. apply-unary i Unary.not v σ) w s (Gives (Flag (not b)))
   unfolding apply-unary
-  not-right b e σ = want-some _ _ e tells
+  not-right b e i o = want-some (as-bool v) _ e tells
 
   -- not of a truth
-  pub applies-not : op ≡ PREFIX + NOT → (b : Bool) → some b ≡ as-bool v → Applied 1 (apply-unary i (unary-of op) v) w w s (Gives (Flag (not b)) s)
-  applies-not d b e =
-      by-unary (is-not d) (applied-still 1 (apply-unary i Unary.not v) (Gives (Flag (not b)) s) room refl (λ o. not-right b e (memory w o s)))
+  pub applies-not : op ≡ PREFIX + NOT → (b : Bool) → some b ≡ as-bool v → Applies (Gives (Flag (not b)))
+  applies-not d b e = by-unary (is-not d) (Gives (Flag (not b))) (not-right b e)
 
-  not-none : none ≡ as-bool v → (q : M.Outcome) (σ : M.State) → Tells q (apply-unary i Unary.not v σ)
+  not-none : none ≡ as-bool v → (r : Outcome) → Answered (λ i σ. apply-unary i Unary.not v σ) w s r
   unfolding apply-unary
-  not-none e q σ = want-none _ _ e
+  not-none e r i o = want-none (as-bool v) _ e
 
   -- not of something else
-  pub stuck-not : op ≡ PREFIX + NOT → (r : Outcome) → tally r ≡ s → none ≡ as-bool v → Applied 1 (apply-unary i (unary-of op) v) w w s r
-  stuck-not d r h e = by-unary (is-not d) (applied-still 1 (apply-unary i Unary.not v) r room h (λ o. not-none e _ _))
+  pub stuck-not : op ≡ PREFIX + NOT → (r : Outcome) → none ≡ as-bool v → Applies r
+  stuck-not d r e = by-unary (is-not d) r (not-none e r)
 
-  is-fetch : op ≡ PREFIX + BANG → unary-of op ≡ fetch
+  last-unary : (b : Bool) → (cond b fetch new ≡ new → ⊥) → cond b fetch new ≡ fetch
+  last-unary true h = refl
+  last-unary false h = absurd (h refl)
+
+  -- none of these, and not `ref`
+  is-fetch : (op ≡ PREFIX + MINUS → ⊥) → (op ≡ PREFIX + NOT → ⊥) → (unary-of op ≡ new → ⊥) → unary-of op ≡ fetch
   unfolding unary-of
-  is-fetch e = rw e refl
+  is-fetch a b c =
+      let e : unary-of op ≡ cond (eqb op (PREFIX + BANG)) fetch new = rw (ne-eqb op (PREFIX + MINUS) a, ne-eqb op (PREFIX + NOT) b) refl in
+      e ∙ last-unary (eqb op (PREFIX + BANG)) (λ q. c (e ∙ q))
 
-  fetch-right : {n : ℕ} (r : Outcome) → some n ≡ as-cell v → (o : List ℕ) → outcome w o r ≡ apply-unary i fetch (cell n) (memory w o s)
-      → Tells (outcome w o r) (apply-unary i fetch v (memory w o s))
+  fetch-right : {n : ℕ} (r : Outcome) → some n ≡ as-cell v → Answered (λ i σ. apply-unary i fetch (cell n) σ) w s r
+      → Answered (λ i σ. apply-unary i fetch v σ) w s r
   unfolding apply-unary when-some
-  fetch-right r e o h = want-some _ _ e (tells-same h)
+  fetch-right r e h i o = want-some (as-cell v) _ e (h i o)
 
-  -- ! of a cell
-  pub applies-fetch : op ≡ PREFIX + BANG → {n : ℕ} (r : Outcome) → some n ≡ as-cell v → Answered (apply-unary i fetch (cell n)) w s r
-      → Applied 1 (apply-unary i (unary-of op) v) w w s r
-  applies-fetch d r e h =
-      by-unary (is-fetch d) (applied-still 1 (apply-unary i fetch v) r room (h .0) (λ o. fetch-right r e o (h .1 o)))
+  module _ (a : op ≡ PREFIX + MINUS → ⊥) (b : op ≡ PREFIX + NOT → ⊥) (c : unary-of op ≡ new → ⊥) where
+    -- ! of a cell
+    pub applies-fetch : {n : ℕ} (r : Outcome) → some n ≡ as-cell v → Answered (λ i σ. apply-unary i fetch (cell n) σ) w s r → Applies r
+    applies-fetch r e h = by-unary (is-fetch a b c) r (fetch-right r e h)
 
-  fetch-none : none ≡ as-cell v → (q : M.Outcome) (σ : M.State) → Tells q (apply-unary i fetch v σ)
-  unfolding apply-unary
-  fetch-none e q σ = want-none _ _ e
+    fetch-none : none ≡ as-cell v → (r : Outcome) → Answered (λ i σ. apply-unary i fetch v σ) w s r
+    unfolding apply-unary
+    fetch-none e r i o = want-none (as-cell v) _ e
 
-  -- ! of something else
-  pub stuck-fetch : op ≡ PREFIX + BANG → (r : Outcome) → tally r ≡ s → none ≡ as-cell v → Applied 1 (apply-unary i (unary-of op) v) w w s r
-  stuck-fetch d r h e = by-unary (is-fetch d) (applied-still 1 (apply-unary i fetch v) r room h (λ o. fetch-none e _ _))
-
-  is-new : (op ≡ PREFIX + MINUS → ⊥) → (op ≡ PREFIX + NOT → ⊥) → (op ≡ PREFIX + BANG → ⊥) → unary-of op ≡ new
-  unfolding unary-of
-  is-new a b c = rw (ne-eqb op (PREFIX + MINUS) a, ne-eqb op (PREFIX + NOT) b, ne-eqb op (PREFIX + BANG) c) refl
-
-  -- ref
-  pub applies-new : (op ≡ PREFIX + MINUS → ⊥) → (op ≡ PREFIX + NOT → ⊥) → (op ≡ PREFIX + BANG → ⊥) → {w1 : List ℕ} {r : Outcome}
-      → Applied 1 (apply-unary i new v) w w1 s r → Applied 1 (apply-unary i (unary-of op) v) w w1 s r
-  applies-new a b c h = by-unary (is-new a b c) h
+    -- ! of something else
+    pub stuck-fetch : (r : Outcome) → none ≡ as-cell v → Applies r
+    stuck-fetch r e = by-unary (is-fetch a b c) r (fetch-none e r)
 
 -- ---- whether the left side settles it
 

@@ -17,21 +17,18 @@ use Rattle.language.specs.State as M
 use Rattle.language.specs.State.{number, value, stop, not-a-byte, output-full, as-int, choose, want, with-byte}
 use Rattle.language.specs.Meaning.{emit, put}
 use Rattle.layout.specs.declared.values.Value.the-variants.{Int}
-use Rattle.machine.specs.Outcomes.{Tells, bytes, memory, outcome, tally, Means, Printed}
+use Rattle.machine.specs.Outcomes.{Tells, bytes, memory, byte-more, Printed}
+use Rattle.numbers.specs.Meanings.{stop-meant}
 use Rattle.numbers.specs.declared.Stop.{Stop}
 use Rattle.machine.specs.declared.state.Tally.{Tally}
 use Rattle.machine.specs.declared.state.Outcome.{Outcome}
 use Rattle.machine.specs.declared.state.Outcome.the-variants.{Gives, Halts}
 use Rattle.machine.proofs.Telling.{tells-same, want-some, want-none}
-use Rattle.machine.proofs.CellLaws.{ended-still}
 
--- what is printed of a value
-abbrev prints : ℕ → M.Value → Means
-prints i v m = want (as-int v) λ z. put i z m
-
-printed-still : (m : Means) {o : List ℕ} {s : Tally} (r : Outcome) → s .printed ≤ length o → tally r ≡ s
-    → ((w : List ℕ) → Tells (outcome w o r) (m (memory w o s))) → Printed m o o s r
-printed-still m {o} {s} r p e h = (refl, λ w room. ended-still 0 m r room p e (h w))
+-- nothing is printed
+printed-still : (v : M.Value) {o : List ℕ} {s : Tally} (y : Stop) → s .printed ≤ length o
+    → ((i : ℕ) (w : List ℕ) → Tells (stop (stop-meant y) i (memory w o s)) (want (as-int v) λ z. put i z (memory w o s))) → Printed v o o s (Halts y)
+printed-still v y p h = record { wide = refl; rest = λ k l. refl; fits = p; right = h }
 
 -- ---- no byte
 
@@ -47,16 +44,15 @@ unfolding put choose
 put-high (pos n) e i σ = let l = ltb-true BYTE n e in rw (lt-leb n BYTE l) refl
 put-high (negsuc n) e i σ = absurd (subst T (sym e) tt)
 
-module _ (i : ℕ) (v : M.Value) {o : List ℕ} {s : Tally} (p : s .printed ≤ length o) where
+module _ (v : M.Value) {o : List ℕ} {s : Tally} (p : s .printed ≤ length o) where
   -- either of these
-  pub put-out : (z : ℤ) → some z ≡ as-int v → ((σ : M.State) → put i z σ ≡ stop not-a-byte i σ)
-      → Printed (prints i v) o o s (Halts Stop.NotAByte i s)
-  put-out z e h =
-      printed-still (prints i v) (Halts Stop.NotAByte i s) p refl (λ w. want-some _ _ e (tells-same (sym (h (memory w o s)))))
+  pub put-out : (z : ℤ) → some z ≡ as-int v → ((i : ℕ) (σ : M.State) → put i z σ ≡ stop not-a-byte i σ) → Printed v o o s (Halts Stop.NotAByte)
+  put-out z e h = printed-still v Stop.NotAByte p (λ i w. want-some (as-int v) _ e (tells-same (sym (h i (memory w o s)))))
 
   -- no number
-  pub put-other-kind : none ≡ as-int v → (r : Outcome) → tally r ≡ s → Printed (prints i v) o o s r
-  put-other-kind e r h = printed-still (prints i v) r p h (λ w. want-none _ _ e)
+  pub put-other-kind : none ≡ as-int v → (y : Stop) {r : Outcome} → r ≡ Halts y → Printed v o o s r
+  put-other-kind e y f =
+      subst (λ (x : Outcome). Printed v o o s x) (sym f) (printed-still v y p (λ i w. want-none (as-int v) _ e))
 
 -- ---- a byte
 
@@ -75,7 +71,7 @@ unfolding bytes
 bytes-same o p zero h = refl
 bytes-same o p (suc n) h = rw (h n (omega arith), bytes-same o p n (λ k l. h k (omega arith))) refl
 
-module _ (i : ℕ) (z : ℤ) (lo : ltZ z (pos 0) ≡ false) (hi : ltZ (pos BYTE) z ≡ false) where
+module _ (z : ℤ) (lo : ltZ z (pos 0) ≡ false) (hi : ltZ (pos BYTE) z ≡ false) where
   -- it fits a byte
   pub byte-fits : T (nonNeg z) × (natAbs z < 256)
   byte-fits = by z lo hi
@@ -91,26 +87,22 @@ module _ (i : ℕ) (z : ℤ) (lo : ltZ z (pos 0) ≡ false) (hi : ltZ (pos BYTE)
       by (pos n) a = refl
       by (negsuc n) a = absurd (subst T a tt)
 
-  put-is : (σ : M.State) → put i z σ ≡ emit (σ .room) i (natAbs z) σ
+  put-is : (i : ℕ) (σ : M.State) → put i z σ ≡ emit (σ .room) i (natAbs z) σ
   unfolding put choose
-  put-is σ =
+  put-is i σ =
       let l = byte-fits .1 in
       ap (λ (y : ℤ). put i y σ) is-positive ∙ rw (le-leb (natAbs z) BYTE (omega arith)) refl
 
   module _ (o : List ℕ) (s : Tally) where
     -- no room
-    pub put-full : (v : M.Value) → some z ≡ as-int v → s .printed ≤ length o → length o ≤ s .printed
-        → Printed (prints i v) o o s (Halts Stop.OutputFull i s)
+    pub put-full : (v : M.Value) → some z ≡ as-int v → s .printed ≤ length o → length o ≤ s .printed → Printed v o o s (Halts Stop.OutputFull)
     put-full v e p h =
-        printed-still (prints i v) (Halts Stop.OutputFull i s) p refl
-        (λ w.
-        want-some _ _ e
-        (tells-same (sym (put-is (memory w o s) ∙ emit-none (length o - s .printed) i (natAbs z) (memory w o s) (omega arith)))))
+        printed-still v Stop.OutputFull p
+        (λ i w.
+        want-some (as-int v) _ e
+        (tells-same (sym (put-is i (memory w o s) ∙ emit-none (length o - s .printed) i (natAbs z) (memory w o s) (omega arith)))))
 
     module _ (h : s .printed < length o) (o1 : List ℕ) (eo : o1 ≡ set o (s .printed) (natAbs z)) where
-      abbrev after : Tally
-      after = record { units = s .units; births = s .births; cells = s .cells; printed = s .printed + 1 }
-
       others : (k : ℕ) → (k ≡ s .printed → ⊥) → getD o1 k 0 ≡ getD o k 0
       others k d = ap (λ (x : List ℕ). getD x k 0) eo ∙ getD-set-other o (s .printed) k (natAbs z) 0 d
 
@@ -124,36 +116,19 @@ module _ (i : ℕ) (z : ℤ) (lo : ltZ z (pos 0) ≡ false) (hi : ltZ (pos BYTE)
       unfolding bytes
       bytes-are = rw (add-one (s .printed), newest, bytes-same o o1 (s .printed) (λ k l. others k (λ q. omega arith))) refl
 
-      printed-right : (v : M.Value) → some z ≡ as-int v → (w : List ℕ) → Tells (value (number z) (memory w o1 after)) (prints i v (memory w o s))
-      printed-right v e w =
+      printed-right : (v : M.Value) → some z ≡ as-int v → (i : ℕ) (w : List ℕ)
+          → Tells (value (number z) (memory w o1 (byte-more s))) (want (as-int v) λ z. put i z (memory w o s))
+      printed-right v e i w =
           let r : length o - s .printed - 1 ≡ length o1 - (s .printed + 1) = omega (arith, long) in
-          want-some _ _ e
-          (tells-same (sym (put-is (memory w o s) ∙ emit-some (length o - s .printed) i (natAbs z) (memory w o s) (omega arith)
+          want-some (as-int v) _ e
+          (tells-same (sym (put-is i (memory w o s) ∙ emit-some (length o - s .printed) i (natAbs z) (memory w o s) (omega arith)
           ∙ rw (r, ← bytes-are, ← is-positive) refl)))
 
       -- it is printed
-      pub put-done : (v : M.Value) → some z ≡ as-int v → Printed (prints i v) o o1 s (Gives (Int z) after)
-      put-done v e = (
-        long,
-        λ w room.
-            record {
-              kept = record {
-                env = λ k l u. refl;
-                beyond = λ k u. refl;
-                long = refl;
-                wide = long;
-                rest = λ k u. others k (λ q. omega arith);
-                used = omega arith;
-                above = omega arith;
-                few = room .few;
-                births = omega arith;
-                older = omega arith;
-                keys = λ k u. refl;
-                newer = λ k a b. absurd (omega arith);
-                rising = λ r. r;
-                onward = omega arith;
-                printed = omega arith;
-              };
-              right = printed-right v e w;
-            },
-      )
+      pub put-done : (v : M.Value) → some z ≡ as-int v → Printed v o o1 s (Gives (Int z))
+      put-done v e = record {
+        wide = long;
+        rest = λ k u. others k (λ q. omega arith);
+        fits = omega arith;
+        right = printed-right v e;
+      }

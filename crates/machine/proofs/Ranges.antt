@@ -14,10 +14,9 @@ use mir.Facts.{toZ-ofZ, sfits-widen}
 use Rattle.language.specs.Sizes.{LARGEST}
 use Rattle.language.specs.State.{choose}
 use Rattle.language.specs.Meaning.{in-range, fit}
-use Rattle.machine.specs.Outcomes.{outcome, tally, Fitted}
+use Rattle.machine.specs.Outcomes.{told, Fitted}
 use Rattle.layout.specs.declared.values.Value.the-variants.{Int}
 use Rattle.numbers.specs.declared.Stop.{Stop}
-use Rattle.machine.specs.declared.state.Tally.{Tally}
 use Rattle.machine.specs.declared.state.Outcome.{Outcome}
 use Rattle.machine.specs.declared.state.Outcome.the-variants.{Gives, Halts}
 
@@ -138,17 +137,16 @@ module _ (op : ℤ → ℤ → ℤ) (a b : ℤ) (fa : SFits w32 a) (fb : SFits w
       op-32 h = rw (toZ-ofZ {w = w32} fa, toZ-ofZ {w = w32} fb) (fits-32 (op a b) (sym plain ∙ h))
 
       -- in range, and the answer
-      pub op-is : t ≡ true → (i : ℕ) (s : Tally)
-          → Fitted (op a b) i s (Gives (Int (toZ w32 (ofZ w32 (op (toZ w32 (ofZ w32 a)) (toZ w32 (ofZ w32 b)))))) s)
+      pub op-is : t ≡ true → Fitted (op a b) (Gives (Int (toZ w32 (ofZ w32 (op (toZ w32 (ofZ w32 a)) (toZ w32 (ofZ w32 b)))))))
       unfolding fit choose
-      op-is h i s =
+      op-is h i σ =
           let j : in-range (op a b) ≡ true = sym plain ∙ h in
-          (refl, λ w o. rw (toZ-ofZ {w = w32} fa, toZ-ofZ {w = w32} fb, toZ-ofZ {w = w32} (fits-32 (op a b) j), j) refl)
+          rw (toZ-ofZ {w = w32} fa, toZ-ofZ {w = w32} fb, toZ-ofZ {w = w32} (fits-32 (op a b) j), j) refl
 
       -- out of range, and the stop
-      pub op-over : t ≡ false → (i : ℕ) (s : Tally) (r : Outcome) → r ≡ Halts Stop.OutOfRange i s → Fitted (op a b) i s r
+      pub op-over : t ≡ false → (r : Outcome) → r ≡ Halts Stop.OutOfRange → Fitted (op a b) r
       unfolding fit choose
-      op-over h i s r d = let j : in-range (op a b) ≡ false = sym plain ∙ h in (ap tally d, λ w o. ap (outcome w o) d ∙ rw j refl)
+      op-over h r d i σ = let j : in-range (op a b) ≡ false = sym plain ∙ h in ap (told i σ) d ∙ rw j refl
 
 -- 0, from which a negated number is subtracted
 pub zero-fits : SFits w32 (pos 0)

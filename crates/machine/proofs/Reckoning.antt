@@ -21,7 +21,7 @@ use Rattle.layout.specs.Values.{meant}
 use Rattle.layout.specs.declared.values.Value.{Value}
 use Rattle.layout.specs.declared.values.Value.the-variants.{Flag}
 use Rattle.machine.specs.Rows.{binary-of, OnNumbers}
-use Rattle.machine.specs.Outcomes.{Tells, tells, anything, memory, outcome, tally, Room, Reckoned, Fitted, Applied}
+use Rattle.machine.specs.Outcomes.{Tells, tells, anything, memory, told, Room, Means, Reckoned, Fitted, Applied}
 use Rattle.numbers.specs.declared.Stop.{Stop}
 use Rattle.machine.specs.declared.state.Tally.{Tally}
 use Rattle.machine.specs.declared.state.Outcome.{Outcome}
@@ -31,29 +31,29 @@ use Rattle.machine.proofs.CellLaws.{applied-still}
 
 -- ---- two numbers
 
-module _ (op i : ℕ) (x y : ℤ) (s : Tally) (r : Outcome) where
+module _ (op : ℕ) (x y : ℤ) (r : Outcome) where
   abbrev Reckons : Type 0
-  Reckons = Reckoned (apply-binary i (binary-of op) (number x) (number y)) s r
+  Reckons = Reckoned (λ i σ. apply-binary i (binary-of op) (number x) (number y) σ) r
 
   -- +
-  pub reckons-add : op ≡ PLUS → Fitted (x +ℤ y) i s r → Reckons
+  pub reckons-add : op ≡ PLUS → Fitted (x +ℤ y) r → Reckons
   unfolding apply-binary when-some binary-of
-  reckons-add e h = (h .0, λ w o. h .1 w o ∙ rw e refl)
+  reckons-add e h = λ i σ. h i σ ∙ rw e refl
 
   -- -
-  pub reckons-sub : op ≡ MINUS → Fitted (x -ℤ y) i s r → Reckons
+  pub reckons-sub : op ≡ MINUS → Fitted (x -ℤ y) r → Reckons
   unfolding apply-binary when-some binary-of
-  reckons-sub e h = (h .0, λ w o. h .1 w o ∙ rw e refl)
+  reckons-sub e h = λ i σ. h i σ ∙ rw e refl
 
   -- *
-  pub reckons-mul : op ≡ STAR → Fitted (x *ℤ y) i s r → Reckons
+  pub reckons-mul : op ≡ STAR → Fitted (x *ℤ y) r → Reckons
   unfolding apply-binary when-some binary-of
-  reckons-mul e h = (h .0, λ w o. h .1 w o ∙ rw e refl)
+  reckons-mul e h = λ i σ. h i σ ∙ rw e refl
 
   -- / by 0
-  pub reckons-zero : op ≡ SLASH → y ≡ pos 0 → r ≡ Halts Stop.ZeroDivisor i s → Reckons
+  pub reckons-zero : op ≡ SLASH → y ≡ pos 0 → r ≡ Halts Stop.ZeroDivisor → Reckons
   unfolding apply-binary when-some choose is-zero binary-of
-  reckons-zero e z h = (ap tally h, λ w o. ap (outcome w o) h ∙ rw (e, z) refl)
+  reckons-zero e z h = λ i σ. ap (told i σ) h ∙ rw (e, z) refl
 
   not-zero : (z : ℤ) → (z ≡ pos 0 → ⊥) → is-zero z ≡ false
   unfolding is-zero
@@ -61,34 +61,31 @@ module _ (op i : ℕ) (x y : ℤ) (s : Tally) (r : Outcome) where
   not-zero (negsuc n) h = refl
 
   -- /
-  pub reckons-div : op ≡ SLASH → (y ≡ pos 0 → ⊥) → Fitted (quotZ x y) i s r → Reckons
+  pub reckons-div : op ≡ SLASH → (y ≡ pos 0 → ⊥) → Fitted (quotZ x y) r → Reckons
   unfolding apply-binary when-some choose binary-of
-  reckons-div e z h = (h .0, λ w o. h .1 w o ∙ rw (e, not-zero y z) refl)
+  reckons-div e z h = λ i σ. h i σ ∙ rw (e, not-zero y z) refl
 
   -- <
-  pub reckons-less : op ≡ LESS → r ≡ Gives (Flag (ltZ x y)) s → Reckons
+  pub reckons-less : op ≡ LESS → r ≡ Gives (Flag (ltZ x y)) → Reckons
   unfolding apply-binary when-some binary-of
-  reckons-less e h = (ap tally h, λ w o. ap (outcome w o) h ∙ rw e refl)
+  reckons-less e h = λ i σ. ap (told i σ) h ∙ rw e refl
 
   -- none of these: ==
   pub reckons-equal : OnNumbers op → (op ≡ PLUS → ⊥) → (op ≡ MINUS → ⊥) → (op ≡ STAR → ⊥) → (op ≡ SLASH → ⊥) → (op ≡ LESS → ⊥)
-      → r ≡ Gives (Flag (same-int x y)) s → Reckons
+      → r ≡ Gives (Flag (same-int x y)) → Reckons
   unfolding apply-binary when-some binary-of
-  reckons-equal n a b c d e h = (
-    ap tally h,
-    λ w o.
-        ap (outcome w o) h
-        ∙ rw (
-          ne-eqb op BECOMES (n .0),
-          ne-eqb op AND (n .1),
-          ne-eqb op OR (n .2),
-          ne-eqb op PLUS a,
-          ne-eqb op MINUS b,
-          ne-eqb op STAR c,
-          ne-eqb op SLASH d,
-          ne-eqb op LESS e,
-        ) refl,
-  )
+  reckons-equal n a b c d e h = λ i σ.
+      ap (told i σ) h
+      ∙ rw (
+        ne-eqb op BECOMES (n .0),
+        ne-eqb op AND (n .1),
+        ne-eqb op OR (n .2),
+        ne-eqb op PLUS a,
+        ne-eqb op MINUS b,
+        ne-eqb op STAR c,
+        ne-eqb op SLASH d,
+        ne-eqb op LESS e,
+      ) refl
 
 -- ---- numbers by their bits
 
@@ -140,39 +137,42 @@ on-numbers P op n p m t d l e =
     cond-all P (eqb op SLASH) (λ _. d) λ _.
     cond-all P (eqb op LESS) (λ _. l) λ _. e)
 
-module _ (op i : ℕ) (a b : M.Value) {w : List ℕ} {s : Tally} (room : Room w s) where
-  abbrev doing : M.State → M.Outcome
-  doing σ = apply-binary i (binary-of op) a b σ
+module _ (op : ℕ) (a b : M.Value) {w : List ℕ} {s : Tally} (room : Room w s) where
+  abbrev doing : Means
+  doing i σ = apply-binary i (binary-of op) a b σ
 
   -- two numbers
   pub applies-numbers : {x y : ℤ} (r : Outcome) → some x ≡ as-int a → some y ≡ as-int b
-      → Reckoned (apply-binary i (binary-of op) (number x) (number y)) s r → Applied 0 doing w w s r
+      → Reckoned (λ i σ. apply-binary i (binary-of op) (number x) (number y) σ) r → Applied doing w w s r
   applies-numbers {x} {y} r d e h =
-      applied-still 0 doing r room (h .0)
-      (λ o.
-      tells-same (h .1 w o
+      applied-still doing r room
+      (λ i o.
+      tells-same (h i (memory w o s)
       ∙ ap (λ (z : M.Value). apply-binary i (binary-of op) z (number y) (memory w o s)) (int-is a d)
       ∙ ap (λ (z : M.Value). apply-binary i (binary-of op) a z (memory w o s)) (int-is b e)))
 
-  left-none : OnNumbers op → none ≡ as-int a → (q : M.Outcome) (σ : M.State) → Tells q (doing σ)
+  left-none : OnNumbers op → none ≡ as-int a → (q : M.Outcome) (i : ℕ) (σ : M.State) → Tells q (doing i σ)
   unfolding apply-binary
-  left-none n e q σ =
-      on-numbers (λ x. Tells q (apply-binary i x a b σ)) op n (want-none _ _ e) (want-none _ _ e) (want-none _ _ e) (want-none _ _ e)
-      (want-none _ _ e) (want-none _ _ e)
+  left-none n e q i σ =
+      on-numbers (λ x. Tells q (apply-binary i x a b σ)) op n (want-none (as-int a) _ e) (want-none (as-int a) _ e) (want-none (as-int a) _ e)
+      (want-none (as-int a) _ e)
+      (want-none (as-int a) _ e) (want-none (as-int a) _ e)
 
   -- no number on the left
-  pub stuck-left : OnNumbers op → (r : Outcome) → tally r ≡ s → none ≡ as-int a → Applied 0 doing w w s r
-  stuck-left n r h e = applied-still 0 doing r room h (λ o. left-none n e _ _)
+  pub stuck-left : OnNumbers op → (r : Outcome) → none ≡ as-int a → Applied doing w w s r
+  stuck-left n r e = applied-still doing r room (λ i o. left-none n e _ i _)
 
-  right-none : OnNumbers op → {x : ℤ} → some x ≡ as-int a → none ≡ as-int b → (q : M.Outcome) (σ : M.State) → Tells q (doing σ)
+  right-none : OnNumbers op → {x : ℤ} → some x ≡ as-int a → none ≡ as-int b → (q : M.Outcome) (i : ℕ) (σ : M.State) → Tells q (doing i σ)
   unfolding apply-binary
-  right-none n d e q σ =
-      on-numbers (λ x. Tells q (apply-binary i x a b σ)) op n (want-some _ _ d (want-none _ _ e)) (want-some _ _ d (want-none _ _ e))
-      (want-some _ _ d (want-none _ _ e)) (want-some _ _ d (want-none _ _ e)) (want-some _ _ d (want-none _ _ e)) (want-some _ _ d (want-none _ _ e))
+  right-none n d e q i σ =
+      on-numbers (λ x. Tells q (apply-binary i x a b σ)) op n (want-some (as-int a) _ d (want-none (as-int b) _ e))
+      (want-some (as-int a) _ d (want-none (as-int b) _ e))
+      (want-some (as-int a) _ d (want-none (as-int b) _ e)) (want-some (as-int a) _ d (want-none (as-int b) _ e))
+      (want-some (as-int a) _ d (want-none (as-int b) _ e)) (want-some (as-int a) _ d (want-none (as-int b) _ e))
 
   -- none on the right
-  pub stuck-right : OnNumbers op → (r : Outcome) → tally r ≡ s → {x : ℤ} → some x ≡ as-int a → none ≡ as-int b → Applied 0 doing w w s r
-  stuck-right n r h d e = applied-still 0 doing r room h (λ o. right-none n d e _ _)
+  pub stuck-right : OnNumbers op → (r : Outcome) → {x : ℤ} → some x ≡ as-int a → none ≡ as-int b → Applied doing w w s r
+  stuck-right n r d e = applied-still doing r room (λ i o. right-none n d e _ i _)
 
   is-assign : op ≡ BECOMES → binary-of op ≡ assign
   unfolding binary-of
@@ -180,20 +180,20 @@ module _ (op i : ℕ) (a b : M.Value) {w : List ℕ} {s : Tally} (room : Room w 
 
   -- := on a cell
   pub applies-assign : op ≡ BECOMES → {n : ℕ} → some n ≡ as-cell a → {w1 : List ℕ} {r : Outcome}
-      → Applied 0 (apply-binary i assign (cell n) b) w w1 s r → Applied 0 doing w w1 s r
+      → Applied (λ i σ. apply-binary i assign (cell n) b σ) w w1 s r → Applied doing w w1 s r
   applies-assign l {n} e {w1} {r} h =
-      subst (λ (u : Binary). Applied 0 (apply-binary i u a b) w w1 s r) (sym (is-assign l))
-      (subst (λ (z : M.Value). Applied 0 (apply-binary i assign z b) w w1 s r) (cell-is a e) h)
+      subst (λ (u : Binary). Applied (λ i σ. apply-binary i u a b σ) w w1 s r) (sym (is-assign l))
+      (subst (λ (z : M.Value). Applied (λ i σ. apply-binary i assign z b σ) w w1 s r) (cell-is a e) h)
 
-  assign-none : none ≡ as-cell a → (q : M.Outcome) (σ : M.State) → Tells q (apply-binary i assign a b σ)
+  assign-none : none ≡ as-cell a → (q : M.Outcome) (i : ℕ) (σ : M.State) → Tells q (apply-binary i assign a b σ)
   unfolding apply-binary
-  assign-none e q σ = want-none _ _ e
+  assign-none e q i σ = want-none (as-cell a) _ e
 
   -- := on something else
-  pub stuck-assign : op ≡ BECOMES → (r : Outcome) → tally r ≡ s → none ≡ as-cell a → Applied 0 doing w w s r
-  stuck-assign l r h e =
-      subst (λ (u : Binary). Applied 0 (apply-binary i u a b) w w s r) (sym (is-assign l))
-      (applied-still 0 (apply-binary i assign a b) r room h (λ o. assign-none e _ _))
+  pub stuck-assign : op ≡ BECOMES → (r : Outcome) → none ≡ as-cell a → Applied doing w w s r
+  stuck-assign l r e =
+      subst (λ (u : Binary). Applied (λ i σ. apply-binary i u a b σ) w w s r) (sym (is-assign l))
+      (applied-still (λ i σ. apply-binary i assign a b σ) r room (λ i o. assign-none e _ i _))
 
 -- ---- && and ||
 
@@ -207,19 +207,22 @@ itself (cell n) σ = anything
 logic : (a b : M.Value) (σ : M.State) → Tells (value b σ) (want (as-bool a) λ x. want (as-bool b) λ y. value (flag y) σ)
 logic a b σ = want-any _ _ λ x. itself b σ
 
-module _ (op i : ℕ) (a : M.Value) (v : Value) {w : List ℕ} {s : Tally} (room : Room w s) where
-  and-right : op ≡ AND → (σ : M.State) → Tells (value (meant v) σ) (apply-binary i (binary-of op) a (meant v) σ)
-  unfolding apply-binary binary-of
-  and-right e σ = rw e (logic a (meant v) σ)
+module _ (op : ℕ) (a : M.Value) (v : Value) {w : List ℕ} {s : Tally} (room : Room w s) where
+  abbrev logical : Means
+  logical i σ = apply-binary i (binary-of op) a (meant v) σ
 
-  or-right : op ≡ OR → (σ : M.State) → Tells (value (meant v) σ) (apply-binary i (binary-of op) a (meant v) σ)
+  and-right : op ≡ AND → (i : ℕ) (σ : M.State) → Tells (value (meant v) σ) (logical i σ)
   unfolding apply-binary binary-of
-  or-right e σ = rw e (logic a (meant v) σ)
+  and-right e i σ = rw e (logic a (meant v) σ)
+
+  or-right : op ≡ OR → (i : ℕ) (σ : M.State) → Tells (value (meant v) σ) (logical i σ)
+  unfolding apply-binary binary-of
+  or-right e i σ = rw e (logic a (meant v) σ)
 
   -- && that its left side did not settle
-  pub applies-and : op ≡ AND → Applied 0 (apply-binary i (binary-of op) a (meant v)) w w s (Gives v s)
-  applies-and e = applied-still 0 (apply-binary i (binary-of op) a (meant v)) (Gives v s) room refl (λ o. and-right e (memory w o s))
+  pub applies-and : op ≡ AND → Applied logical w w s (Gives v)
+  applies-and e = applied-still logical (Gives v) room (λ i o. and-right e i (memory w o s))
 
   -- || that its left side did not settle
-  pub applies-or : op ≡ OR → Applied 0 (apply-binary i (binary-of op) a (meant v)) w w s (Gives v s)
-  applies-or e = applied-still 0 (apply-binary i (binary-of op) a (meant v)) (Gives v s) room refl (λ o. or-right e (memory w o s))
+  pub applies-or : op ≡ OR → Applied logical w w s (Gives v)
+  applies-or e = applied-still logical (Gives v) room (λ i o. or-right e i (memory w o s))

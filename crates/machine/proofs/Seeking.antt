@@ -7,7 +7,8 @@ use Prim.Native.Nat.{ℕ, zero, suc, _+_, _<_, _≤_}
 use native.Mathlib.Omega.{arith}
 use lib.Dec.{ltb, eqb}
 use borrow.Author.Tests.{ltb-true, ltb-false, eqb-true, eqb-false}
-use Rattle.layout.specs.Slots.{CELLS-AT, key-at, value-at}
+use Rattle.layout.specs.Slots.{key-at, value-at}
+use Rattle.layout.specs.Frames.{CELLS-AT}
 use Rattle.machine.specs.Slots.{slots, find, Rising, Sought}
 use Rattle.machine.proofs.Slotted.{find-here, find-past, find-none}
 use Rattle.machine.proofs.Storing.{Passed-by}

@@ -3,19 +3,37 @@ use mathlib.Core.Path.{_≡_, refl, sym, ap, subst, _∙_}
 use mathlib.Core.Bool.{cond}
 use mathlib.Core.List.{List, [], _∷_}
 use mathlib.Core.Option.{Option, none, some}
-use Prim.Native.Nat.{ℕ, zero, suc, _+_, _-_, _*_, _<_, _≤_}
+use Prim.Native.Nat.{ℕ, zero, suc, _+_, _-_, _*_, _/_, _%_, _<_, _≤_}
 use native.Mathlib.Omega.{arith}
+use native.Mathlib.Nat.{mod-lt}
 use lib.ListN.{length, getD, set, length-set}
 use lib.Seq.{getD-set-same, getD-set-other}
 use lib.Dec.{eqb}
 use borrow.Author.Tests.{eq-eqb, ne-eqb, le-leb, lt-leb}
 use Rattle.language.specs.State.{Value, live, count, held, keep}
-use Rattle.layout.specs.Slots.{key-at, value-at, put-slot}
+use Rattle.layout.specs.Slots.{TAGS, key-at, value-at, put-slot, name-slot}
 use Rattle.layout.specs.Values.{meant, tag-of, word-of, Survives}
 use Rattle.layout.specs.declared.values.Value as Code
-use Rattle.machine.specs.Slots.{Slot, slots, values-from, find, cells-of, Same}
+use Rattle.layout.proofs.Packed.{tag-small, packed-key, packed-tag}
+use Rattle.machine.specs.Slots.{Slot, slots, values-from, bound-in, find, cells-of, Same}
 
 -- ---- looked through, from the newest on
+
+module _ (w : List ℕ) (base i j key : ℕ) (e : i ≡ suc j) where
+  -- the newest has the key
+  pub bound-here : key-at w 0 (base + j) ≡ key → bound-in w base i key ≡ some (value-at w 0 (base + j))
+  unfolding bound-in
+  bound-here h = rw e (rw (eq-eqb key (key-at w 0 (base + j)) (sym h)) refl)
+
+  -- it has another
+  pub bound-past : (key-at w 0 (base + j) ≡ key → ⊥) → bound-in w base i key ≡ bound-in w base j key
+  unfolding bound-in
+  bound-past h = rw e (rw (ne-eqb key (key-at w 0 (base + j)) (λ q. h (sym q))) refl)
+
+-- there is none
+pub bound-none : (w : List ℕ) (base i key : ℕ) → i ≡ 0 → bound-in w base i key ≡ none
+unfolding bound-in
+bound-none w base i key e = rw e refl
 
 module _ (w : List ℕ) (at i j key : ℕ) (e : i ≡ suc j) where
   -- the newest has the key
@@ -36,26 +54,31 @@ find-none w at i key e = rw e refl
 -- ---- words that are the same stand for the same
 
 -- slots
-pub slots-same : (v w : List ℕ) (at n : ℕ) → Same v w at (at + 4 * n) → slots v at n ≡ slots w at n
+pub slots-same : (v w : List ℕ) (at n : ℕ) → Same v w at (at + 3 * n) → slots v at n ≡ slots w at n
 unfolding slots
 slots-same v w at zero h = refl
 slots-same v w at (suc n) h =
-    let e0 : getD v (at + 4 * n) 0 ≡ getD w (at + 4 * n) 0 = h (at + 4 * n) (omega arith) (omega arith) in
-    let e1 : getD v (at + 4 * n + 1) 0 ≡ getD w (at + 4 * n + 1) 0 = h (at + 4 * n + 1) (omega arith) (omega arith) in
-    let e2 : getD v (at + 4 * n + 2) 0 ≡ getD w (at + 4 * n + 2) 0 = h (at + 4 * n + 2) (omega arith) (omega arith) in
+    let e0 : getD v (at + 3 * n) 0 ≡ getD w (at + 3 * n) 0 = h (at + 3 * n) (omega arith) (omega arith) in
+    let e1 : getD v (at + 3 * n + 1) 0 ≡ getD w (at + 3 * n + 1) 0 = h (at + 3 * n + 1) (omega arith) (omega arith) in
     let r : slots v at n ≡ slots w at n = slots-same v w at n (λ k l u. h k l (omega arith)) in
-    rw (e0, e1, e2, r) refl
+    rw (e0, e1, r) refl
+
+-- one of them
+pub value-same : (v w : List ℕ) (at i : ℕ) → Same v w (at + 3 * i) (at + 3 * i + 3) → value-at v at i ≡ value-at w at i
+value-same v w at i h =
+    let e0 : getD v (at + 3 * i) 0 ≡ getD w (at + 3 * i) 0 = h (at + 3 * i) (omega arith) (omega arith) in
+    let e1 : getD v (at + 3 * i + 1) 0 ≡ getD w (at + 3 * i + 1) 0 = h (at + 3 * i + 1) (omega arith) (omega arith) in
+    rw (e0, e1) refl
 
 -- what they hold
-pub values-same : (v w : List ℕ) (at k n : ℕ) → Same v w (at + 4 * k) (at + 4 * (k + n)) → values-from v at k n ≡ values-from w at k n
+pub values-same : (v w : List ℕ) (at k n : ℕ) → Same v w (at + 3 * k) (at + 3 * (k + n)) → values-from v at k n ≡ values-from w at k n
 unfolding values-from
 values-same v w at k zero h = refl
 values-same v w at k (suc n) h =
-    let e1 : getD v (at + 4 * k + 1) 0 ≡ getD w (at + 4 * k + 1) 0 = h (at + 4 * k + 1) (omega arith) (omega arith) in
-    let e2 : getD v (at + 4 * k + 2) 0 ≡ getD w (at + 4 * k + 2) 0 = h (at + 4 * k + 2) (omega arith) (omega arith) in
+    let e : value-at v at k ≡ value-at w at k = value-same v w at k (λ j l u. h j l (omega arith)) in
     let r : values-from v at (k + 1) n ≡ values-from w at (k + 1) n =
     values-same v w at (k + 1) n (λ j l u. h j (omega arith) (omega arith)) in
-    rw (e1, e2, r) refl
+    rw (e, r) refl
 
 -- ---- a slot that is written
 
@@ -65,44 +88,68 @@ unfolding put-slot
 put-length w at i key v = simp length-set refl
 
 -- the words of other slots stay
-pub put-other : (w : List ℕ) (at i key : ℕ) (v : Code.Value) (k : ℕ) → (at + 4 * i ≤ k → k < at + 4 * i + 4 → ⊥)
+pub put-other : (w : List ℕ) (at i key : ℕ) (v : Code.Value) (k : ℕ) → (at + 3 * i ≤ k → k < at + 3 * i + 3 → ⊥)
     → getD (put-slot w at i key v) k 0 ≡ getD w k 0
 unfolding put-slot
 put-other w at i key v k h =
-    getD-set-other (set (set w (at + 4 * i) key) (at + 4 * i + 1) (tag-of v)) (at + 4 * i + 2) k (word-of v) 0
-    (λ e. h (omega arith) (omega arith))
-    ∙ getD-set-other (set w (at + 4 * i) key) (at + 4 * i + 1) k (tag-of v) 0 (λ e. h (omega arith) (omega arith))
-    ∙ getD-set-other w (at + 4 * i) k key 0 (λ e. h (omega arith) (omega arith))
+    getD-set-other (set w (at + 3 * i) (TAGS * key + tag-of v)) (at + 3 * i + 1) k (word-of v) 0 (λ e. h (omega arith) (omega arith))
+    ∙ getD-set-other w (at + 3 * i) k (TAGS * key + tag-of v) 0 (λ e. h (omega arith) (omega arith))
 
-module _ (w : List ℕ) (at i key : ℕ) (v : Code.Value) (room : at + 4 * i + 4 ≤ length w) where
-  -- its key
-  pub put-key : key-at (put-slot w at i key v) at i ≡ key
+module _ (w : List ℕ) (at i key : ℕ) (v : Code.Value) (room : at + 3 * i + 3 ≤ length w) where
+  put-head : getD (put-slot w at i key v) (at + 3 * i) 0 ≡ TAGS * key + tag-of v
   unfolding put-slot
-  put-key =
-      getD-set-other (set (set w (at + 4 * i) key) (at + 4 * i + 1) (tag-of v)) (at + 4 * i + 2) (at + 4 * i) (word-of v) 0
-      (λ e. omega arith)
-      ∙ getD-set-other (set w (at + 4 * i) key) (at + 4 * i + 1) (at + 4 * i) (tag-of v) 0 (λ e. omega arith)
-      ∙ getD-set-same w (at + 4 * i) key 0 (omega arith)
+  put-head =
+      getD-set-other (set w (at + 3 * i) (TAGS * key + tag-of v)) (at + 3 * i + 1) (at + 3 * i) (word-of v) 0 (λ e. omega arith)
+      ∙ getD-set-same w (at + 3 * i) (TAGS * key + tag-of v) 0 (omega arith)
 
-  put-tag : getD (put-slot w at i key v) (at + 4 * i + 1) 0 ≡ tag-of v
-  unfolding put-slot
-  put-tag =
-      getD-set-other (set (set w (at + 4 * i) key) (at + 4 * i + 1) (tag-of v)) (at + 4 * i + 2) (at + 4 * i + 1) (word-of v) 0
-      (λ e. omega arith)
-      ∙ getD-set-same (set w (at + 4 * i) key) (at + 4 * i + 1) (tag-of v) 0 (simp length-set (omega arith))
-
-  put-word : getD (put-slot w at i key v) (at + 4 * i + 2) 0 ≡ word-of v
+  put-word : getD (put-slot w at i key v) (at + 3 * i + 1) 0 ≡ word-of v
   unfolding put-slot
   put-word =
-      getD-set-same (set (set w (at + 4 * i) key) (at + 4 * i + 1) (tag-of v)) (at + 4 * i + 2) (word-of v) 0
-      (simp length-set (omega arith))
+      getD-set-same (set w (at + 3 * i) (TAGS * key + tag-of v)) (at + 3 * i + 1) (word-of v) 0 (simp length-set (omega arith))
+
+  -- its key
+  pub put-key : key-at (put-slot w at i key v) at i ≡ key
+  put-key = ap (λ (n : ℕ). n / TAGS) put-head ∙ packed-key key (tag-of v) (tag-small v)
+
+  put-tag : getD (put-slot w at i key v) (at + 3 * i) 0 % TAGS ≡ tag-of v
+  put-tag = ap (λ (n : ℕ). n % TAGS) put-head ∙ packed-tag key (tag-of v) (tag-small v)
 
   -- what it holds
   pub put-value : Survives v → value-at (put-slot w at i key v) at i ≡ meant v
   put-value h = rw (put-tag, put-word) h
 
+-- ---- a slot that gets a key
+
+pub name-length : (w : List ℕ) (at i key : ℕ) → length (name-slot w at i key) ≡ length w
+unfolding name-slot
+name-length w at i key = simp length-set refl
+
+-- all words but one stay
+pub name-other : (w : List ℕ) (at i key k : ℕ) → (k ≡ at + 3 * i → ⊥) → getD (name-slot w at i key) k 0 ≡ getD w k 0
+unfolding name-slot
+name-other w at i key k h = getD-set-other w (at + 3 * i) k (TAGS * key + getD w (at + 3 * i) 0 % TAGS) 0 h
+
+module _ (w : List ℕ) (at i key : ℕ) (room : at + 3 * i + 3 ≤ length w) where
+  name-head : getD (name-slot w at i key) (at + 3 * i) 0 ≡ TAGS * key + getD w (at + 3 * i) 0 % TAGS
+  unfolding name-slot
+  name-head = getD-set-same w (at + 3 * i) (TAGS * key + getD w (at + 3 * i) 0 % TAGS) 0 (omega arith)
+
+  tag-less : getD w (at + 3 * i) 0 % TAGS < TAGS
+  tag-less = mod-lt (getD w (at + 3 * i) 0) (omega arith)
+
+  pub name-key : key-at (name-slot w at i key) at i ≡ key
+  name-key = ap (λ (n : ℕ). n / TAGS) name-head ∙ packed-key key (getD w (at + 3 * i) 0 % TAGS) tag-less
+
+  pub name-value : value-at (name-slot w at i key) at i ≡ value-at w at i
+  name-value =
+      let a : getD (name-slot w at i key) (at + 3 * i) 0 % TAGS ≡ getD w (at + 3 * i) 0 % TAGS =
+      ap (λ (n : ℕ). n % TAGS) name-head ∙ packed-tag key (getD w (at + 3 * i) 0 % TAGS) tag-less in
+      let b : getD (name-slot w at i key) (at + 3 * i + 1) 0 ≡ getD w (at + 3 * i + 1) 0 =
+      name-other w at i key (at + 3 * i + 1) (λ e. omega arith) in
+      rw (a, b) refl
+
 -- one slot more
-pub slots-put : (w : List ℕ) (at n key : ℕ) (v : Code.Value) → at + 4 * n + 4 ≤ length w → Survives v
+pub slots-put : (w : List ℕ) (at n key : ℕ) (v : Code.Value) → at + 3 * n + 3 ≤ length w → Survives v
     → slots (put-slot w at n key v) at (suc n) ≡ record { key = key; holds = meant v } ∷ slots w at n
 unfolding slots
 slots-put w at n key v room h =

@@ -3,13 +3,13 @@ use mathlib.Core.Path.{_≡_, refl, sym, ap, subst, _∙_}
 use mathlib.Core.Bool.{Bool, true, false}
 use mathlib.Core.List.{List}
 use mathlib.Core.Option.{Option, none, some}
-use Prim.Native.Nat.{ℕ, zero, suc, _+_, _*_, _<_, _≤_}
+use Prim.Native.Nat.{ℕ, zero, suc, _+_, _*_, _/_, _<_, _≤_}
 use native.Mathlib.Omega.{arith}
 use lib.ListN.{length, getD}
 use lib.Dec.{eqb, ltb}
 use borrow.Author.Tests.{eq-eqb, ne-eqb, ltb-true, ltb-false, eqb-true, eqb-false}
 use Rattle.language.specs.State.{Cells, live, held, store}
-use Rattle.layout.specs.Slots.{key-at, value-at, put-slot}
+use Rattle.layout.specs.Slots.{TAGS, key-at, value-at, put-slot}
 use Rattle.layout.specs.Values.{meant, Survives}
 use Rattle.layout.specs.declared.values.Value.{Value}
 use Rattle.machine.specs.Slots.{slots, cells-of}
@@ -21,7 +21,7 @@ hit (some a) = true
 
 -- v is written into the newest slot of that key, if there is one
 pub record Stored (w w′ : List ℕ) (at n key : ℕ) (v : Value) (r : Bool) : Type 0 where
-  pub other : (i : ℕ) → (at ≤ i → i < at + 4 * n → ⊥) → getD w′ i 0 ≡ getD w i 0
+  pub other : (i : ℕ) → (at ≤ i → i < at + 3 * n → ⊥) → getD w′ i 0 ≡ getD w i 0
   pub keys : (i : ℕ) → i < n → key-at w′ at i ≡ key-at w at i
   pub hit : r ≡ hit (held key (cells-of (slots w at n)))
   pub now : cells-of (slots w′ at n) ≡ store key (meant v) (cells-of (slots w at n))
@@ -56,7 +56,7 @@ module _ (w : List ℕ) (at key : ℕ) (v : Value) where
         (cells-of (slots (put-slot w at j key v) at n) ≡ store key (meant v) (cells-of (slots w at n)))
         × (hit (held key (cells-of (slots w at n))) ≡ true)
 
-    last-hit : (n : ℕ) → j ≡ n → at + 4 * n + 4 ≤ length w → Hit (suc n)
+    last-hit : (n : ℕ) → j ≡ n → at + 3 * n + 3 ≤ length w → Hit (suc n)
     unfolding slots cells-of store held
     last-hit n d room =
         let q : key ≡ key-at w at n = sym (subst (λ (m : ℕ). key-at w at m ≡ key) d e) in (
@@ -68,13 +68,12 @@ module _ (w : List ℕ) (at key : ℕ) (v : Value) where
     above : (n : ℕ) → j < n → Hit n → (key-at w at n ≡ key → ⊥) → Hit (suc n)
     unfolding slots cells-of store held
     above n m r d =
-        let e0 = put-other w at j key v (at + 4 * n) (λ p q. omega arith) in
-        let e1 = put-other w at j key v (at + 4 * n + 1) (λ p q. omega arith) in
-        let e2 = put-other w at j key v (at + 4 * n + 2) (λ p q. omega arith) in
+        let e0 = put-other w at j key v (at + 3 * n) (λ p q. omega arith) in
+        let e1 = put-other w at j key v (at + 3 * n + 1) (λ p q. omega arith) in
         let t = ne-eqb key (key-at w at n) (λ q. d (sym q)) in
-        (rw (e0, e1, e2, t) (ap (λ (l : Cells). live (key-at w at n) (value-at w at n) l) (r .0)), rw t (r .1))
+        (rw (e0, e1, t) (ap (λ (l : Cells). live (key-at w at n) (value-at w at n) l) (r .0)), rw t (r .1))
 
-    hits : (n : ℕ) → j < n → at + 4 * n ≤ length w → Passed-by w at key (j + 1) n → Hit n
+    hits : (n : ℕ) → j < n → at + 3 * n ≤ length w → Passed-by w at key (j + 1) n → Hit n
     hits zero l room h = absurd (omega arith)
     hits (suc n) l room h = by (ltb j n) refl (λ m. hits n m (omega arith) (λ i a c. h i a (omega arith)))
       where
@@ -83,7 +82,7 @@ module _ (w : List ℕ) (at key : ℕ) (v : Value) where
         by false d ih = let m = ltb-false j n d in last-hit n (omega arith) (omega arith)
 
     -- slot j has it, and none above
-    pub store-hit : (n : ℕ) → j < n → at + 4 * n ≤ length w → Passed-by w at key (j + 1) n → (w1 : List ℕ) → w1 ≡ put-slot w at j key v
+    pub store-hit : (n : ℕ) → j < n → at + 3 * n ≤ length w → Passed-by w at key (j + 1) n → (w1 : List ℕ) → w1 ≡ put-slot w at j key v
         → Stored w w1 at n key v true
     store-hit n l room h w1 d =
         let r = hits n l room h in
@@ -104,4 +103,4 @@ module _ (w : List ℕ) (at key : ℕ) (v : Value) where
                 ∙ subst (λ (m : ℕ). key-at (put-slot w at j key v) at m ≡ key-at w at m) (sym a) (put-key w at j key v (omega arith) ∙ sym e)
             by false q =
                 let a = eqb-false i j q in
-                ap (λ (z : List ℕ). key-at z at i) d ∙ put-other w at j key v (at + 4 * i) (λ p r. a (omega arith))
+                ap (λ (z : List ℕ). key-at z at i) d ∙ ap (λ (k : ℕ). k / TAGS) (put-other w at j key v (at + 3 * i) (λ p r. a (omega arith)))

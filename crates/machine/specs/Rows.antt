@@ -1,4 +1,4 @@
--- What a row of the table says of its operator, its literal, and the token that it carries.
+-- What a row of the table says of its operator and its literal.
 use mathlib.Core.Bool.{true, false, cond}
 use mathlib.Core.List.{List}
 use mathlib.Core.Path.{_≡_}
@@ -11,15 +11,9 @@ use Rattle.language.specs.Trees.{Literal, whole, truth, trivial, Unary, minus, 
 use Rattle.layout.specs.Table.{KIND, OWN, token-value, row-word}
 use Rattle.layout.specs.Rows.{PREFIX}
 
--- what the token so many behind a row's own carries
-abbrev pub carried : List ℕ → ℕ → ℕ → ℕ
-carried w row behind = token-value w (row-word w row OWN + behind)
-
--- a row whose own token carries something
-pub record Named (w : List ℕ) (row : ℕ) : Type 0 where
-  pub long : TABLE ≤ length w
-  pub inside : row < NODES
-  pub token : row-word w row OWN + 0 < TOKENS
+-- what a row's own token carries
+abbrev pub carried : List ℕ → ℕ → ℕ
+carried w row = token-value w (row-word w row OWN)
 
 -- ---- operators, by the kind of their row
 
@@ -38,11 +32,11 @@ OnNumbers k = (k ≡ BECOMES → ⊥) × (k ≡ AND → ⊥) × (k ≡ OR → �
 
 unfoldable pub literal-of : List ℕ → ℕ → Literal
 literal-of w row =
-    cond (eqb (row-word w row KIND) NUMBER) (whole (carried w row 0))
+    cond (eqb (row-word w row KIND) NUMBER) (whole (carried w row))
     (cond (eqb (row-word w row KIND) TRUE) (truth true) (cond (eqb (row-word w row KIND) FALSE) (truth false) trivial))
 
 pub record LiteralRow (w : List ℕ) (row : ℕ) : Type 0 where
   pub long : TABLE ≤ length w
   pub inside : row < NODES
-  pub token : row-word w row KIND ≡ NUMBER → row-word w row OWN + 0 < TOKENS
-  pub small : row-word w row KIND ≡ NUMBER → carried w row 0 ≤ LARGEST
+  pub token : row-word w row KIND ≡ NUMBER → row-word w row OWN < TOKENS
+  pub small : row-word w row KIND ≡ NUMBER → carried w row ≤ LARGEST

@@ -1,4 +1,4 @@
--- Slots of work memory as lists: bindings have a name's number for their key, cells a birth number; the newest first.
+-- Slots of work memory as lists, the newest first: what they hold, and the cells that they are.
 use mathlib.Core.Bool.{cond}
 use mathlib.Core.List.{List, [], _∷_}
 use mathlib.Core.Option.{Option, none, some}
@@ -8,9 +8,8 @@ use lib.Dec.{eqb}
 use lib.ListN.{getD}
 use Rattle.language.specs.State as State
 use Rattle.language.specs.State.{Cells, no-cell, live}
-use Rattle.layout.specs.Slots.{CELLS-AT, key-at, value-at}
-use Rattle.layout.specs.Values.{meant}
-use Rattle.machine.specs.declared.bindings.Found.{Found}
+use Rattle.layout.specs.Slots.{key-at, value-at}
+use Rattle.layout.specs.Frames.{CELLS-AT}
 
 pub record Slot : Type 0 where
   pub key : ℕ
@@ -29,13 +28,18 @@ unfoldable pub values-from : List ℕ → ℕ → ℕ → ℕ → List State.Val
 values-from w at k zero = []
 values-from w at k (suc n) = value-at w at k ∷ values-from w at (k + 1) n
 
+-- what the newest of n slots that has the key holds, the first of them slot `base`
+unfoldable pub bound-in : List ℕ → ℕ → ℕ → ℕ → Option State.Value
+bound-in w base zero key = none
+bound-in w base (suc n) key = cond (eqb key (key-at w 0 (base + n))) (some (value-at w 0 (base + n))) (bound-in w base n key)
+
+-- v is that, if any has it
+abbrev pub Bound : List ℕ → ℕ → ℕ → ℕ → State.Value → Type 0
+Bound w base n key v = (u : State.Value) → bound-in w base n key ≡ some u → v ≡ u
+
 unfoldable pub find : ℕ → List Slot → Option State.Value
 find k [] = none
 find k (s ∷ ss) = cond (eqb k (s .key)) (some (s .holds)) (find k ss)
-
-abbrev pub found : Found → Option State.Value
-found (Found.Is v) = some (meant v)
-found Found.No = none
 
 unfoldable pub cells-of : List Slot → Cells
 cells-of [] = no-cell

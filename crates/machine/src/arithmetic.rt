@@ -6,7 +6,6 @@ ghost use lib.Signed.{quotZ};
 ghost use Rattle.language.specs.Meaning.{in-range};
 ghost use Rattle.machine.specs.Outcomes.{Fitted};
 use crate::state::Outcome;
-use crate::state::Tally;
 use layout::values::Value;
 use numbers::Stop;
 
@@ -27,60 +26,60 @@ fn fits(x: i64) -> bool
     true
 }
 
-fn out_of_range(place: u32, s: Tally) -> Outcome
-    ensures { λ r. ⌜ r ≡ Outcome.Halts Stop.OutOfRange place s ⌝ }
+fn out_of_range() -> Outcome
+    ensures { λ r. ⌜ r ≡ Outcome.Halts Stop.OutOfRange ⌝ }
 {
-    Outcome::Halts(Stop::OutOfRange, place, s)
+    Outcome::Halts(Stop::OutOfRange)
 }
 
-pub fn add(place: u32, a: i32, b: i32, s: Tally) -> Outcome
-    ensures { λ r. ⌜ Fitted (a +ℤ b) place s r ⌝ }
+pub fn add(a: i32, b: i32) -> Outcome
+    ensures { λ r. ⌜ Fitted (a +ℤ b) r ⌝ }
 {
     if fits((a as i64) + (b as i64)) {
-        Outcome::Gives(Value::Int(a + b), s)
+        Outcome::Gives(Value::Int(a + b))
     } else {
-        out_of_range(place, s)
+        out_of_range()
     }
 }
 
-pub fn subtract(place: u32, a: i32, b: i32, s: Tally) -> Outcome
-    ensures { λ r. ⌜ Fitted (a -ℤ b) place s r ⌝ }
+pub fn subtract(a: i32, b: i32) -> Outcome
+    ensures { λ r. ⌜ Fitted (a -ℤ b) r ⌝ }
 {
     if fits((a as i64) - (b as i64)) {
-        Outcome::Gives(Value::Int(a - b), s)
+        Outcome::Gives(Value::Int(a - b))
     } else {
-        out_of_range(place, s)
+        out_of_range()
     }
 }
 
-pub fn multiply(place: u32, a: i32, b: i32, s: Tally) -> Outcome
-    ensures { λ r. ⌜ Fitted (a *ℤ b) place s r ⌝ }
+pub fn multiply(a: i32, b: i32) -> Outcome
+    ensures { λ r. ⌜ Fitted (a *ℤ b) r ⌝ }
 {
     if fits((a as i64) * (b as i64)) {
-        Outcome::Gives(Value::Int(a * b), s)
+        Outcome::Gives(Value::Int(a * b))
     } else {
-        out_of_range(place, s)
+        out_of_range()
     }
 }
 
 // The lowest int divided by -1 is out of range.
-pub fn divide(place: u32, a: i32, b: i32, s: Tally) -> Outcome
+pub fn divide(a: i32, b: i32) -> Outcome
     requires { ⌜ (b ≡ pos 0 → ⊥) ⌝ }
-    ensures { λ r. ⌜ Fitted (quotZ a b) place s r ⌝ }
+    ensures { λ r. ⌜ Fitted (quotZ a b) r ⌝ }
 {
     if fits((a as i64) / (b as i64)) {
-        Outcome::Gives(Value::Int(a / b), s)
+        Outcome::Gives(Value::Int(a / b))
     } else {
-        out_of_range(place, s)
+        out_of_range()
     }
 }
 
-pub fn negate(place: u32, a: i32, s: Tally) -> Outcome
-    ensures { λ r. ⌜ Fitted (negℤ a) place s r ⌝ }
+pub fn negate(a: i32) -> Outcome
+    ensures { λ r. ⌜ Fitted (negℤ a) r ⌝ }
 {
     if fits(-(a as i64)) {
-        Outcome::Gives(Value::Int(-a), s)
+        Outcome::Gives(Value::Int(-a))
     } else {
-        out_of_range(place, s)
+        out_of_range()
     }
 }

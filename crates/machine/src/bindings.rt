@@ -1,52 +1,28 @@
 // The nearest of the bindings that have a name.
-ghost use mathlib.Core.Path.{_≡_};
-ghost use Prim.Native.Nat.{ℕ, _+_, _*_, _≤_, _<_};
+ghost use Prim.Native.Nat.{_+_, _≤_};
 ghost use lib.ListN.{length};
 ghost use Rattle.language.specs.Sizes.{WORK};
-ghost use Rattle.machine.specs.Slots.{find, found, slots};
-ghost use Rattle.machine.specs.Rows.{carried, Named};
-ghost use Rattle.machine.specs.Outcomes.{Looked};
-use crate::leaves;
-use crate::state;
-use crate::state::Frame;
-use crate::state::Outcome;
-use crate::state::SLOT;
-use crate::state::Tally;
-use layout::rows;
+ghost use Rattle.layout.specs.Slots.{SLOTS};
+ghost use Rattle.layout.specs.Values.{meant};
+ghost use Rattle.machine.specs.Slots.{Bound};
+use layout::SLOTS_AT;
 use layout::slots;
 use layout::values::Value;
 
-pub enum Found {
-    Is(Value),
-    No,
-}
-
-// The value of the newest of n slots, from word `at` on, that has this key.
-pub fn find(work: &[u32], at: usize, n: usize, key: u32) -> Found
-    requires { ⌜ (at ≤ WORK) × (n ≤ WORK) × (at + 4 * n ≤ length (now work)) ⌝ }
-    ensures { λ r. ⌜ found r ≡ find key (slots (now (work .entry)) at n) ⌝ }
+// What the newest of `size` slots, from slot `base` on, that has this key holds. A sheet that has a type
+// asks for no name that is not bound, so any answer will do where there is none.
+pub fn nearest(work: &[u32], base: usize, size: usize, key: u32) -> Value
+    requires { ⌜ (base + size ≤ SLOTS) × (WORK ≤ length (now work)) ⌝ }
+    ensures { λ r. ⌜ Bound (now (work .entry)) base size key (meant r) ⌝ }
 {
-    let mut i = n;
+    let mut i = size;
     while 0 < i {
         i = i - 1;
-        if slots::key(work, at, i) == key {
-            return Found::Is(slots::value(work, at, i));
+        let at = base + i;
+        let found = slots::key(work, SLOTS_AT, at);
+        if found == key {
+            return slots::value(work, SLOTS_AT, at);
         }
     }
-    Found::No
-}
-
-// The value to which the name at a node is bound nearest.
-pub fn look(table: &[u32], work: &[u32], node: usize, frame: Frame, s: Tally) -> Outcome
-    requires { ⌜ Named (now table) node × (4 * frame .base + 4 * frame .size ≤ WORK) × (WORK ≤ length (now work)) ⌝ }
-    ensures { λ r. ⌜ Looked (now (work .entry)) (carried (now (table .entry)) node 0) (frame .base) (frame .size) s r ⌝ }
-{
-    let place = rows::word(table, node, rows::OWN);
-    let key = leaves::carried(table, node, leaves::HERE);
-    let at = SLOT * frame.base;
-    let found = find(work, at, frame.size, key);
-    match found {
-        Found::Is(v) => Outcome::Gives(v, s),
-        Found::No => state::stuck(place, s),
-    }
+    Value::Nothing
 }

@@ -2,13 +2,13 @@
 ghost use mathlib.Core.Path.{_≡_};
 ghost use Prim.Native.Nat.{ℕ, _≤_, _<_};
 ghost use lib.ListN.{length};
-ghost use Rattle.language.specs.Sizes.{CELLS, WORK};
-ghost use Rattle.language.specs.Trees.{assign, fetch, new};
+ghost use Rattle.language.specs.Sizes.{ALLOWANCE, CELLS, WORK};
+ghost use Rattle.language.specs.Trees.{assign, fetch};
 ghost use Rattle.language.specs.State.{cell};
 ghost use Rattle.language.specs.Meaning.{apply-unary, apply-binary};
 ghost use Rattle.layout.specs.Values.{meant};
 ghost use Rattle.machine.specs.Slots.{Rising, Sought};
-ghost use Rattle.machine.specs.Outcomes.{Room, Applied, Answered};
+ghost use Rattle.machine.specs.Outcomes.{Room, Applied, Answered, Created, born};
 use crate::state::Outcome;
 use crate::state::Tally;
 use language::CELLS;
@@ -49,51 +49,59 @@ fn seek(work: &[u32], n: usize, birth: u32) -> usize
 }
 
 // What the cell that was born as n holds.
-pub fn fetch(place: u32, work: &[u32], n: u32, s: Tally) -> Outcome
+pub fn fetch(work: &[u32], n: u32, s: Tally) -> Outcome
     requires { ⌜ Room (now work) s ⌝ }
-    ensures { λ r. ⌜ Answered (apply-unary place fetch (cell n)) (now (work .entry)) s r ⌝ }
+    ensures { λ r. ⌜ Answered (λ i σ. apply-unary i fetch (cell n) σ) (now (work .entry)) s r ⌝ }
 {
     let cells = s.cells;
     let i = seek(work, cells, n);
     if i < cells {
         let v = slots::value(work, CELLS_AT, i);
-        return Outcome::Gives(v, s);
+        return Outcome::Gives(v);
     }
-    Outcome::Halts(Stop::CellFreed, place, s)
+    Outcome::Halts(Stop::CellFreed)
 }
 
-// A new cell, with the next birth number.
-pub fn create(place: u32, work: &mut [u32], v: Value, s: Tally) -> Outcome
-    requires { ⌜ Room (now work) s ⌝ }
-    ensures { λ r. ⌜ Applied 1 (apply-unary place new (meant v)) (now (work .entry)) (now (work .exit)) s r ⌝ }
+// A new cell, with the next birth number, if there is room. Where it is born, `born` counts it.
+pub fn create(work: &mut [u32], v: Value, s: Tally) -> Outcome
+    requires { ⌜ Room (now work) s × (s .births ≤ ALLOWANCE) ⌝ }
+    ensures { λ r. ⌜ Created (meant v) (now (work .entry)) (now (work .exit)) s r ⌝ }
 {
     let births = s.births;
     let cells = s.cells;
     if cells < CELLS {
-        slots::put(work, CELLS_AT, cells, births + 1, v);
-        let t = Tally {
-            units: s.units,
-            births: births + 1,
-            cells: cells + 1,
-            printed: s.printed,
-        };
-        return Outcome::Gives(Value::Cell(births + 1), t);
+        let birth = (births + 1) as u32;
+        slots::put(work, CELLS_AT, cells, birth, v);
+        return Outcome::Gives(Value::Cell(birth));
     }
-    Outcome::Halts(Stop::CellsFull, place, s)
+    Outcome::Halts(Stop::CellsFull)
+}
+
+// A cell more.
+pub fn born(s: Tally) -> Tally
+    requires { ⌜ (s .births ≤ ALLOWANCE) × (s .cells ≤ CELLS) ⌝ }
+    ensures { λ r. ⌜ r ≡ born s ⌝ }
+{
+    Tally {
+        units: s.units,
+        births: s.births + 1,
+        cells: s.cells + 1,
+        printed: s.printed,
+    }
 }
 
 // The cell that was born as n holds v from now on.
-pub fn assign(place: u32, work: &mut [u32], n: u32, v: Value, s: Tally) -> Outcome
-    requires { ⌜ Room (now work) s ⌝ }
-    ensures { λ r. ⌜ Applied 0 (apply-binary place assign (cell n) (meant v)) (now (work .entry)) (now (work .exit)) s r ⌝ }
+pub fn assign(work: &mut [u32], n: u32, v: Value, s: Tally) -> Outcome
+    requires { ⌜ Room (now work) s × (s .births ≤ ALLOWANCE) ⌝ }
+    ensures { λ r. ⌜ Applied (λ i σ. apply-binary i assign (cell n) (meant v) σ) (now (work .entry)) (now (work .exit)) s r ⌝ }
 {
     let cells = s.cells;
     let i = seek(work, cells, n);
     if i < cells {
         slots::put(work, CELLS_AT, i, n, v);
-        return Outcome::Gives(Value::Nothing, s);
+        return Outcome::Gives(Value::Nothing);
     }
-    Outcome::Halts(Stop::CellFreed, place, s)
+    Outcome::Halts(Stop::CellFreed)
 }
 
 // The cells born since `live` were live are freed: they are the ones above, and their room is free again.

@@ -1,5 +1,5 @@
-// What a run works on, and every step of it that begins no further node: numbers, operands, operators,
-// bindings, cells, and the bytes that are printed.
+// What a run works on, and all that is done with values: numbers, operands, operators, bindings, cells,
+// and the bytes that are printed.
 
 pub mod arithmetic;
 pub mod bindings;

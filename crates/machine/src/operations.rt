@@ -1,11 +1,13 @@
 // What an operator does with operands that are worked out.
 ghost use mathlib.Core.Path.{_≡_};
-ghost use Prim.Native.Nat.{ℕ, _+_};
+ghost use Prim.Native.Nat.{ℕ, _≤_};
+ghost use Rattle.language.specs.Sizes.{ALLOWANCE};
+ghost use Rattle.language.specs.Trees.{new};
 ghost use Rattle.language.specs.State.{number};
 ghost use Rattle.language.specs.Meaning.{apply-unary, apply-binary, settles};
 ghost use Rattle.layout.specs.Values.{meant};
 ghost use Rattle.machine.specs.Rows.{unary-of, binary-of, OnNumbers};
-ghost use Rattle.machine.specs.Outcomes.{Room, Applied, Reckoned};
+ghost use Rattle.machine.specs.Outcomes.{Room, Answered, Applied, Reckoned};
 use crate::arithmetic;
 use crate::cells;
 use crate::operands;
@@ -24,34 +26,30 @@ const NEGATE: u32 = PREFIX + kinds::MINUS;
 
 const NOT: u32 = PREFIX + kinds::NOT;
 
-const FETCH: u32 = PREFIX + kinds::BANG;
-
-pub fn apply_unary(op: u32, place: u32, work: &mut [u32], v: Value, s: Tally) -> Outcome
-    requires { ⌜ Room (now work) s ⌝ }
-    ensures { λ r. ⌜ Applied 1 (apply-unary place (unary-of op) (meant v)) (now (work .entry)) (now (work .exit)) s r ⌝ }
+// Every operator of one operand but `ref`, which changes work memory.
+pub fn apply_unary(op: u32, work: &[u32], v: Value, s: Tally) -> Outcome
+    requires { ⌜ Room (now work) s × (unary-of op ≡ new → ⊥) ⌝ }
+    ensures { λ r. ⌜ Answered (λ i σ. apply-unary i (unary-of op) (meant v) σ) (now (work .entry)) s r ⌝ }
 {
     if op == NEGATE {
         let n = operands::int_of(v);
         return match n {
-            Number::Is(a) => arithmetic::negate(place, a, s),
-            Number::Other => state::stuck(place, s),
+            Number::Is(a) => arithmetic::negate(a),
+            Number::Other => state::stuck(),
         };
     }
     if op == NOT {
         let t = operands::flag_of(v);
         return match t {
-            Truth::Is(b) => Outcome::Gives(Value::Flag(!b), s),
-            Truth::Other => state::stuck(place, s),
+            Truth::Is(b) => Outcome::Gives(Value::Flag(!b)),
+            Truth::Other => state::stuck(),
         };
     }
-    if op == FETCH {
-        let c = operands::cell_of(v);
-        return match c {
-            Cell::Is(n) => cells::fetch(place, work, n, s),
-            Cell::Other => state::stuck(place, s),
-        };
+    let c = operands::cell_of(v);
+    match c {
+        Cell::Is(n) => cells::fetch(work, n, s),
+        Cell::Other => state::stuck(),
     }
-    cells::create(place, work, v, s)
 }
 
 // Whether the left side alone settles it, so that the right side is not begun.
@@ -73,62 +71,62 @@ pub fn settles(op: u32, v: Value) -> bool
     }
 }
 
-fn zero_divisor(place: u32, s: Tally) -> Outcome
-    ensures { λ r. ⌜ r ≡ Outcome.Halts Stop.ZeroDivisor place s ⌝ }
+fn zero_divisor() -> Outcome
+    ensures { λ r. ⌜ r ≡ Outcome.Halts Stop.ZeroDivisor ⌝ }
 {
-    Outcome::Halts(Stop::ZeroDivisor, place, s)
+    Outcome::Halts(Stop::ZeroDivisor)
 }
 
 // An operator of two numbers.
-fn reckon(op: u32, place: u32, a: i32, b: i32, s: Tally) -> Outcome
+fn reckon(op: u32, a: i32, b: i32) -> Outcome
     requires { ⌜ OnNumbers op ⌝ }
-    ensures { λ r. ⌜ Reckoned (apply-binary place (binary-of op) (number a) (number b)) s r ⌝ }
+    ensures { λ r. ⌜ Reckoned (λ i σ. apply-binary i (binary-of op) (number a) (number b) σ) r ⌝ }
 {
     if op == kinds::PLUS {
-        return arithmetic::add(place, a, b, s);
+        return arithmetic::add(a, b);
     }
     if op == kinds::MINUS {
-        return arithmetic::subtract(place, a, b, s);
+        return arithmetic::subtract(a, b);
     }
     if op == kinds::STAR {
-        return arithmetic::multiply(place, a, b, s);
+        return arithmetic::multiply(a, b);
     }
     if op == kinds::SLASH {
         if b == 0 {
-            return zero_divisor(place, s);
+            return zero_divisor();
         }
-        return arithmetic::divide(place, a, b, s);
+        return arithmetic::divide(a, b);
     }
     if op == kinds::LESS {
-        return Outcome::Gives(Value::Flag(a < b), s);
+        return Outcome::Gives(Value::Flag(a < b));
     }
-    Outcome::Gives(Value::Flag(a == b), s)
+    Outcome::Gives(Value::Flag(a == b))
 }
 
-pub fn apply_binary(op: u32, place: u32, work: &mut [u32], a: Value, b: Value, s: Tally) -> Outcome
-    requires { ⌜ Room (now work) s ⌝ }
-    ensures { λ r. ⌜ Applied 0 (apply-binary place (binary-of op) (meant a) (meant b)) (now (work .entry)) (now (work .exit)) s r ⌝ }
+pub fn apply_binary(op: u32, work: &mut [u32], a: Value, b: Value, s: Tally) -> Outcome
+    requires { ⌜ Room (now work) s × (s .births ≤ ALLOWANCE) ⌝ }
+    ensures { λ r. ⌜ Applied (λ i σ. apply-binary i (binary-of op) (meant a) (meant b) σ) (now (work .entry)) (now (work .exit)) s r ⌝ }
 {
     if op == kinds::BECOMES {
         let c = operands::cell_of(a);
         return match c {
-            Cell::Is(n) => cells::assign(place, work, n, b, s),
-            Cell::Other => state::stuck(place, s),
+            Cell::Is(n) => cells::assign(work, n, b, s),
+            Cell::Other => state::stuck(),
         };
     }
     if op == kinds::AND {
-        return Outcome::Gives(b, s);
+        return Outcome::Gives(b);
     }
     if op == kinds::OR {
-        return Outcome::Gives(b, s);
+        return Outcome::Gives(b);
     }
     let x = operands::int_of(a);
     let y = operands::int_of(b);
     match x {
         Number::Is(m) => match y {
-            Number::Is(n) => reckon(op, place, m, n, s),
-            Number::Other => state::stuck(place, s),
+            Number::Is(n) => reckon(op, m, n),
+            Number::Other => state::stuck(),
         },
-        Number::Other => state::stuck(place, s),
+        Number::Other => state::stuck(),
     }
 }

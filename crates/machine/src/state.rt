@@ -1,40 +1,29 @@
-// How far a run has come, where its bindings lie, and how a node ends.
+// How far a run has come, and how a node ends.
 ghost use mathlib.Core.Path.{_≡_};
 ghost use lib.Dec.{eqb};
-ghost use Rattle.machine.specs.Outcomes.{tally};
 use layout::values::Value;
 use numbers::Stop;
-
-// How many words of work memory a slot has.
-pub const SLOT: usize = 4;
 
 // A run in numbers: units left, cells born so far and live now, bytes printed. The cells and the bytes
 // themselves lie in lent memory.
 pub struct Tally {
-    pub units: u32,
-    pub births: u32,
+    pub units: usize,
+    pub births: usize,
     pub cells: usize,
     pub printed: usize,
 }
 
-// What a node sees: the functions of the sheet, and the bindings from slot `base` on.
-pub struct Frame {
-    pub defs: usize,
-    pub base: usize,
-    pub size: usize,
-}
-
+// A value, or why the run stops at the node.
 pub enum Outcome {
-    Gives(Value, Tally),
-    Halts(Stop, u32, Tally),
+    Gives(Value),
+    Halts(Stop),
 }
 
-// An operand of the wrong kind, a name that is not bound, a wrong number of arguments: no sheet that has
-// a type comes here, so any answer will do.
-pub fn stuck(place: u32, s: Tally) -> Outcome
-    ensures { λ r. ⌜ tally r ≡ s ⌝ }
+// An operand of the wrong kind: no sheet that has a type comes here, so any answer will do.
+pub fn stuck() -> Outcome
+    ensures { λ r. ⌜ r ≡ Outcome.Halts Stop.NoUnit ⌝ }
 {
-    Outcome::Halts(Stop::NoUnit, place, s)
+    Outcome::Halts(Stop::NoUnit)
 }
 
 // Is no unit left?

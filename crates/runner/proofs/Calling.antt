@@ -1,272 +1,259 @@
--- Calls: the arguments, then `putchar` or a function's body.
+-- Calls: who is called, the first argument begins, or the body of a function without parameters.
 use mathlib.Core.Path.{_≡_, refl, sym, ap, subst, _∙_}
-use mathlib.Core.Bool.{Bool, true, false, cond}
 use mathlib.Core.List.{List, [], _∷_}
 use mathlib.Core.Option.{Option, none, some}
 use Prim.Native.Nat.{ℕ, suc, _+_, _*_, _≤_, _<_}
 use native.Mathlib.Omega.{arith}
 use lib.ListN.{length}
-use Rattle.language.specs.Sizes.{TOKENS}
-use Rattle.language.specs.Tokens.{Token, At, NAME, same, spelling-at}
-use Rattle.language.specs.Trees.{Exp, Def, Scope, empty, push, nearest, PUTCHAR}
+use Rattle.language.specs.Sizes.{NODES, ACTIVE, PARAMETERS}
+use Rattle.language.specs.Trees.{Name, Exp, call, Exps, last, more, nearest}
 use Rattle.language.specs.State as M
-use Rattle.language.specs.State.{as-int, when-some, want, only}
-use Rattle.language.specs.Meaning.{Fun, putchar, defined, Env, put, enter, arguments, invoke, step}
-use Rattle.layout.specs.Table.{row-word}
-use Rattle.layout.specs.Rows.{CALL}
-use Rattle.layout.specs.Decode.{build, tree-at, args-at, Right}
-use Rattle.layout.specs.Slots.{BINDINGS, value-at}
-use Rattle.layout.specs.Names.{Named}
-use Rattle.layout.proofs.NameLaws.{name-inside, named-at}
-use Rattle.machine.specs.Slots.{values-from}
-use Rattle.machine.specs.Rows.{carried}
+use Rattle.language.specs.State.{value, stop, stuck, then}
+use Rattle.language.specs.Meaning.{Env, arguments, step, eval}
+use Rattle.layout.specs.Table.{KIND, FIRST, EXPRESSION, NEXT, ARITY, row-word, token-value}
 use Rattle.layout.specs.Functions.{find-function}
-use Rattle.runner.specs.Rows.{callee, takes, parameter}
-use Rattle.machine.specs.Outcomes.{Tells, anything, memory, outcome, tally, Room, Printed}
-use Rattle.runner.specs.Contract.{Binds, binds-none, Stands, Lined, top, Sem, Ran, Worked, Passing}
-use Rattle.numbers.specs.declared.Stop.{Stop}
-use Rattle.runner.specs.declared.callees.Callee.{Callee}
-use Rattle.runner.specs.declared.callees.Callee.the-variants.{Putchar, Defined}
-use Rattle.runner.specs.declared.calls.Passed.{Passed}
-use Rattle.machine.specs.declared.state.Frame.{Frame}
+use Rattle.layout.specs.Rows.{CALL}
+use Rattle.layout.specs.Slots.{TAGS, WAITING, SLOTS}
+use Rattle.layout.specs.Frames.{put-frame}
+use Rattle.layout.specs.declared.values.Value.{Value}
+use Rattle.layout.proofs.Shapes.{unary-high, binary-between}
+use Rattle.machine.specs.Slots.{values-from}
+use Rattle.machine.specs.Outcomes.{memory}
 use Rattle.machine.specs.declared.state.Tally.{Tally}
-use Rattle.machine.specs.declared.state.Outcome.{Outcome}
-use Rattle.machine.specs.declared.state.Outcome.the-variants.{Halts}
-use Rattle.machine.proofs.Telling.{tells-by, when-is}
-use Rattle.machine.proofs.Keeping.{kept-then, kept-more, kept-low, kept-as, room-after}
-use Rattle.runner.proofs.Shapes.{tree-is, known-call}
-use Rattle.runner.proofs.Standing.{carried-own}
-use Rattle.runner.proofs.Steps.{stepped, every}
-use Rattle.runner.proofs.Finding.{Finds, finds-none, finds-some}
-use Rattle.runner.proofs.Queues.{passing-is}
-use Rattle.runner.proofs.Entering.{enter-wrong, one-wrong, Entered, entered}
+use Rattle.runner.specs.Phases.{LAST, ARGUMENT}
+use Rattle.runner.specs.Trees.{Head, NameAt, count, helds, At, at-name, at-literal, at-unary, at-binary, at-follow, at-group, at-block, at-call, at-bind, at-branch, at-loop, Args, args-last, args-more, slack, Scene}
+use Rattle.runner.specs.Waiting.{Run, Then, FrameAt, which, called, Waits}
+use Rattle.runner.specs.Standing.{Begins, Starts, Good, Heads, callee, Callable, Enters}
+use Rattle.runner.specs.declared.state.Spot.{Spot}
+use Rattle.runner.specs.declared.state.Next.{Next}
+use Rattle.runner.proofs.Memory.{Stored, stored-frame, stored-keyed, stored-then, frame-pushed, frame-kept}
+use Rattle.runner.proofs.Stacks.{binds-kept}
+use Rattle.runner.proofs.Finding.{Calls, calls-of, heads-of}
+use Rattle.runner.proofs.Functions.{parameters-length, callable, Called, call-enters, call-empty, Body, body-of}
+use Rattle.runner.proofs.RowKinds.{literal-range, clash}
+use Rattle.runner.proofs.Entering.{spot}
+use Rattle.runner.proofs.Waiting.{part-begins-at, first-begins}
 
--- what a body sees: the arguments, bound above the caller's bindings
-abbrev pub inner : Frame → ℕ → Frame
-inner f n = record { defs = f .defs; base = top f; size = n }
+-- what is done with the values, by another name
+module _ (q : Run) (d : ℕ) (env : Env) where
+  abbrev All : Exps → M.State → (List M.Value → M.State → M.Outcome) → M.Outcome
+  All es s f = arguments (q .fs) (eval (q .fs) d) es env s f
 
--- ---- the row of a call
+  then-same : (o : M.Outcome) (f g : Then) → ((v : M.Value) (s : M.State) → f v s ≡ g v s) → then o f ≡ then o g
+  unfolding then
+  then-same (value v s) f g h = h v s
+  then-same (stop y i s) f g h = refl
+  then-same stuck f g h = refl
 
-module _ (table : List ℕ) (node : ℕ) (tag : row-word table node 0 ≡ CALL) where
-  call-token : (h : ℕ) (ts : List Token) → Right (suc h) ts table node → At ts (row-word table node 1) NAME
-  unfolding Right
-  call-token h ts r = r .called tag
+  pub arguments-same : (es : Exps) (s : M.State) (f g : List M.Value → M.State → M.Outcome) → ((vs : List M.Value) (s : M.State) → f vs s ≡ g vs s)
+      → All es s f ≡ All es s g
+  unfolding arguments
+  arguments-same last s f g h = h [] s
+  arguments-same (more e es) s f g h =
+      then-same (eval (q .fs) d e env s) (λ v s. All es s λ vs s. f (v ∷ vs) s) (λ v s. All es s λ vs s. g (v ∷ vs) s)
+      (λ v s. arguments-same es s (λ vs s. f (v ∷ vs) s) (λ vs s. g (v ∷ vs) s) (λ vs s. h (v ∷ vs) s))
 
-  module _ {d h : ℕ} {ts : List Token} {w : List ℕ} {f : Frame} {fs : Scope Fun} {env : Env} (st : Stands d (suc h) ts table w node f fs env) where
-    -- its arguments
-    pub call-lined : Lined d h ts table w (row-word table node 2) f fs env
-    unfolding Right
-    call-lined = record { scene = st .scene; args = st .tree .args tag .1 }
+-- ---- a call begins
 
-    -- which do not lie behind it
-    pub call-before : row-word table node 2 ≤ node
-    unfolding Right
-    call-before = st .tree .args tag .0
+-- the row of a call
+record Call (q : Run) (t : List ℕ) (node : ℕ) (e : Exp) : Type 0 where
+  i : ℕ
+  x : Name
+  es : Exps
+  is : e ≡ call i x es
+  head : Head t node CALL i
+  named : NameAt (q .ts) t i x
+  few : count es ≤ PARAMETERS
+  args : Args (q .ts) t (row-word t node FIRST) es
 
-    -- its name is a token's
-    pub call-inside : row-word table node 1 + 0 < TOKENS
-    call-inside =
-        let l = name-inside ts _ (call-token h ts (st .tree)) in
-        omega (arith, st .scene .stand .few)
+module _ (q : Run) {t : List ℕ} where
+  call-at : {node : ℕ} {e : Exp} → At (q .ts) t node e → row-word t node KIND ≡ CALL → Call q t node e
+  call-at (at-call {i = i} {x = x} {es = es} h n f a) k =
+      record { i = i; x = x; es = es; is = refl; head = h; named = n; few = f; args = a }
+  call-at (at-name h x) k = clash (h .kind-is) k (λ z. omega arith)
+  call-at (at-literal {l = l} h x y) k = clash (h .kind-is) k (λ z. omega (arith, literal-range l))
+  call-at (at-unary {o = o} h x) k = clash (h .kind-is) k (λ z. omega (arith, unary-high o))
+  call-at (at-binary {o = o} h x y) k = clash (h .kind-is) k (λ z. omega (arith, binary-between o))
+  call-at (at-follow h x y) k = clash (h .kind-is) k (λ z. omega arith)
+  call-at (at-group h x) k = clash (h .kind-is) k (λ z. omega arith)
+  call-at (at-block h x) k = clash (h .kind-is) k (λ z. omega arith)
+  call-at (at-bind h x y z) k = clash (h .kind-is) k (λ z. omega arith)
+  call-at (at-branch h x y z) k = clash (h .kind-is) k (λ z. omega arith)
+  call-at (at-loop h x y) k = clash (h .kind-is) k (λ z. omega arith)
 
-    -- and has its number
-    pub call-named : {name : ℕ} → name ≡ carried table node 0 → Named ts name (spelling-at ts (row-word table node 1))
-    call-named {name} e =
-        let n = named-at (st .scene .stand) _ (call-token h ts (st .tree)) in
-        subst (λ (x : ℕ). Named ts x (spelling-at ts (row-word table node 1))) (sym (e ∙ carried-own table node)) n
+  -- no argument
+  pub none-left : {r : ℕ} {es : Exps} → Args (q .ts) t r es → r ≡ 0 → es ≡ last
+  none-left (args-last e) z = refl
+  none-left (args-more n l a m) z = absurd (n z)
 
-module _ (rec : Sem) (table : List ℕ) (node : ℕ) (tag : row-word table node 0 ≡ CALL) (w o : List ℕ) (f : Frame) (s : Tally) where
-  -- what is done with the arguments' values
-  abbrev after : List Token → Scope Fun → List M.Value → M.State → M.Outcome
-  after ts fs vs τ = want (nearest (spelling-at ts (row-word table node 1)) fs) λ g. invoke fs (rec fs) (row-word table node 1) g vs τ
+-- an argument, and those behind it
+pub record Argued (q : Run) (t : List ℕ) (r : ℕ) (es : Exps) : Type 0 where
+  pub e : Exp
+  pub rest : Exps
+  pub is : es ≡ more e rest
+  pub inside : r < NODES
+  pub at : At (q .ts) t (row-word t r EXPRESSION) e
+  pub args : Args (q .ts) t (row-word t r NEXT) rest
 
-  call-shape : (ts : List Token) (h : ℕ) (fs : Scope Fun) (env : Env) (σ : M.State)
-      → step fs (rec fs) (tree-at (suc h) ts table node) env σ
-      ≡ arguments fs (rec fs) (args-at h ts table (row-word table node 2)) env σ (after ts fs)
-  unfolding step build
-  call-shape ts h fs env σ = ap (λ (x : Exp). step fs (rec fs) x env σ) (tree-is ts table node h (known-call tag))
+pub some-left : (q : Run) {t : List ℕ} {r : ℕ} {es : Exps} → Args (q .ts) t r es → (r ≡ 0 → ⊥) → Argued q t r es
+some-left q (args-last e) n = absurd (n e)
+some-left q (args-more {e = e} {es = es} n l a m) z = record { e = e; rest = es; is = refl; inside = l; at = a; args = m }
 
-  module _ (c : Callee) {w1 o1 : List ℕ} {r : Passed} (passed : Passing rec table w o w1 o1 (row-word table node 2) 0 c f s r) where
-    -- an argument stops
-    pub call-stops : (y : Stop) (p : ℕ) (t : Tally) → r ≡ Passed.Halts y p t → Ran (stepped rec) 1 table w o w1 o1 node f s (Halts y p t)
-    call-stops y p t e =
-        record {
-          kept = kept-more (passing-is e passed .kept);
-          right = every (stepped rec) table w o w1 o1 node f s (Halts y p t)
-              (λ d h ts fs env st.
-              tells-by (call-shape ts h fs env (memory w o s))
-              (passing-is e passed .right d h ts fs env (call-lined table node tag st) (after ts fs)));
-        }
+-- ---- who is called
 
-    module _ {name : ℕ} (en : name ≡ carried table node 0) (found : callee c ≡ find-function table name (f .defs)) {n : ℕ} {t : Tally}
-        (e : r ≡ Passed.All n t) where
-      abbrev Standing : ℕ → ℕ → List Token → Scope Fun → Env → Type 0
-      Standing d h ts fs env = Stands d (suc h) ts table w node f fs env
+module _ (q : Run) {t : List ℕ} {defs node i : ℕ} {x : Name} (few : q .defs ≡ defs) (scene : Scene (q .ts) t (q .defs) (q .fs))
+    (head : Head t node CALL i) (named : NameAt (q .ts) t i x) where
+  -- the names can be read
+  pub heads-at : Heads t defs node
+  heads-at = record {
+    long = scene .long;
+    inside = head .inside;
+    token = omega (arith, head .own-is, named .inside);
+    heads = λ k l. heads-of (scene .functions) k (omega (arith, few));
+  }
 
-      worked : {d h : ℕ} {ts : List Token} {fs : Scope Fun} {env : Env} → Standing d h ts fs env
-          → Worked rec d h ts table w o w1 o1 (row-word table node 2) 0 n c f fs env s t
-      worked st = passing-is e passed .right .1 _ _ _ _ _ (call-lined table node tag st)
+  pub callee-of : (found : Option ℕ) → found ≡ callee t defs node → Calls (q .ts) t found (nearest x (q .fs))
+  callee-of found e =
+      let is : found ≡ find-function t (token-value t i) (q .defs) =
+      e ∙ ap (λ (j : ℕ). find-function t (token-value t j) defs) (head .own-is) ∙ ap (λ (n : ℕ). find-function t (token-value t i) n) (sym few) in
+      subst (λ (f : Option ℕ). Calls (q .ts) t f (nearest x (q .fs))) (sym is) (calls-of (scene .stand .few) (named .named) (scene .functions))
 
-      -- what is told of the arguments' values is told of the call
-      call-right : (w2 o2 : List ℕ) (q : Outcome)
-          → ((d h : ℕ) (ts : List Token) (fs : Scope Fun) (env : Env) (st : Standing d h ts fs env)
-          → Tells (outcome w2 o2 q) (after ts fs (worked st .values) (memory w1 o1 t)))
-          → (d h : ℕ) (ts : List Token) (fs : Scope Fun) (env : Env) → Stands d h ts table w node f fs env
-          → Tells (outcome w2 o2 q) (step fs (rec fs) (tree-at h ts table node) env (memory w o s))
-      call-right w2 o2 q g =
-          every (stepped rec) table w o w2 o2 node f s q
-          (λ d h ts fs env st.
-          tells-by (call-shape ts h fs env (memory w o s)) (worked st .right (after ts fs) (outcome w2 o2 q) (g d h ts fs env st)))
+module _ {q : Run} {t w o : List ℕ} {node : ℕ} {p : Spot} {s : Tally} (b : Starts q t w o node p s) (tag : row-word t node KIND ≡ CALL) where
+  abbrev σ : M.State
+  σ = memory w o s
 
-      -- the name is that of the function at a row
-      pub finds : {row : ℕ} → c ≡ Defined row → {d h : ℕ} {ts : List Token} {fs : Scope Fun} {env : Env} → Standing d h ts fs env
-          → Finds d ts table fs (spelling-at ts (row-word table node 1)) row
-      finds ec st = finds-some (st .scene .stand) (call-named table node tag st en) (st .scene .functions) (sym (ap callee ec) ∙ found)
+  calling : Call q t node (b .e)
+  calling = call-at q (b .at) tag
 
-      -- or no function's
-      finds-putchar : c ≡ Putchar → {d h : ℕ} {ts : List Token} {fs : Scope Fun} {env : Env} → Standing d h ts fs env
-          → nearest (spelling-at ts (row-word table node 1)) fs ≡ nearest (spelling-at ts (row-word table node 1)) (push PUTCHAR putchar empty)
-      finds-putchar ec st = finds-none (st .scene .stand) (call-named table node tag st en) (st .scene .functions) (sym (ap callee ec) ∙ found)
+  pub call-inside : node < NODES
+  call-inside = calling .head .inside
 
-      -- what is told of `putchar` is told of a name that is no function's
-      only-putchar : (fs : Scope Fun) (q : M.Outcome) (vs : List M.Value) (τ : M.State) (b : Bool)
-          → Tells q (invoke fs (rec fs) (row-word table node 1) putchar vs τ)
-          → Tells q (want (cond b (some putchar) none) λ g. invoke fs (rec fs) (row-word table node 1) g vs τ)
-      unfolding when-some
-      only-putchar fs q vs τ true g = g
-      only-putchar fs q vs τ false g = anything
+  pub call-heads : {defs : ℕ} → q .defs ≡ defs → Heads t defs node
+  call-heads few = heads-at q few (b .scene) (calling .head) (calling .named)
 
-      by-putchar : c ≡ Putchar → {d h : ℕ} {ts : List Token} {fs : Scope Fun} {env : Env} → Standing d h ts fs env
-          → (q : M.Outcome) (vs : List M.Value) (τ : M.State) → Tells q (invoke fs (rec fs) (row-word table node 1) putchar vs τ)
-          → Tells q (after ts fs vs τ)
-      unfolding nearest
-      by-putchar ec {ts = ts} {fs = fs} st q vs τ g =
-          tells-by (ap (λ (x : Option Fun). want x λ g. invoke fs (rec fs) (row-word table node 1) g vs τ) (finds-putchar ec st))
-          (only-putchar fs q vs τ (same (spelling-at ts (row-word table node 1)) PUTCHAR) g)
+  call-means : then (step (q .fs) (eval (q .fs) (b .d)) (call (calling .i) (calling .x) (calling .es)) (b .env) σ) (b .κ) ≡ q .whole
+  call-means = ap (λ (e : Exp). then (step (q .fs) (eval (q .fs) (b .d)) e (b .env) σ) (b .κ)) (sym (calling .is)) ∙ b .means
 
-      -- ---- a wrong number of arguments
+  call-room : p .base + length (b .L) + WAITING * suc (b .d) ≤ WAITING * ACTIVE
+  unfolding slack
+  call-room =
+      let r : p .base + length (b .L) + WAITING * suc (b .d) ≤ WAITING * ACTIVE + slack (call (calling .i) (calling .x) (calling .es)) =
+      subst (λ (e : Exp). p .base + length (b .L) + WAITING * suc (b .d) ≤ WAITING * ACTIVE + slack e) (calling .is) (b .room) in
+      omega arith
 
-      wrong-putchar : (fs : Scope Fun) (q : M.Outcome) (vs : List M.Value) (τ : M.State) → (length vs ≡ 1 → ⊥)
-          → Tells q (invoke fs (rec fs) (row-word table node 1) putchar vs τ)
-      unfolding invoke
-      wrong-putchar fs q vs τ h = tells-by (one-wrong vs _ h) anything
+  -- ---- without arguments
 
-      wrong-defined : (fs : Scope Fun) (q : M.Outcome) (vs : List M.Value) (τ : M.State) (def : Def) → (length vs ≡ length (def .params) → ⊥)
-          → Tells q (invoke fs (rec fs) (row-word table node 1) (defined (def .params) (def .body)) vs τ)
-      unfolding invoke
-      wrong-defined fs q vs τ def h = tells-by (enter-wrong (def .params) vs empty _ h) anything
+  module _ (empty : row-word t node FIRST ≡ 0) {defs : ℕ} (few : q .defs ≡ defs) where
+    empty-means : then (called (q .fs) (b .d) (calling .i) (calling .x) [] σ) (b .κ) ≡ q .whole
+    unfolding step arguments
+    empty-means =
+        ap (λ (es : Exps). then (step (q .fs) (eval (q .fs) (b .d)) (call (calling .i) (calling .x) es) (b .env) σ) (b .κ))
+        (sym (none-left q (calling .args) empty)) ∙ call-means
 
-      wrong-right : (x : Callee) → c ≡ x → (n ≡ takes table x → ⊥) → (q : M.Outcome) {d h : ℕ} {ts : List Token} {fs : Scope Fun} {env : Env}
-          → (st : Standing d h ts fs env) → Tells q (after ts fs (worked st .values) (memory w1 o1 t))
-      wrong-right Putchar ec no-match q {fs = fs} st =
-          by-putchar ec st q _ _ (wrong-putchar fs q (worked st .values) _ (λ l. no-match (omega (arith, worked st .count))))
-      wrong-right (Defined row) ec no-match q {fs = fs} st =
-          let g = finds ec st in
-          when-is _ _ (defined (g .def .params) (g .def .body)) (g .found)
-          (wrong-defined fs q (worked st .values) _ (g .def) (λ l. no-match (omega (arith, worked st .count, g .at .count))))
+    -- it is not `putchar`
+    pub start-nobody : {A : Type 0} → none ≡ callee t defs node → A
+    start-nobody e =
+        call-empty q (b .κ) (b .d) (calling .i) (calling .x) σ (callee-of q few (b .scene) (calling .head) (calling .named) none e) refl empty-means
 
-      -- the meaning is stuck
-      pub call-wrong : (n ≡ takes table c → ⊥) → (q : Outcome) → tally q ≡ t → Ran (stepped rec) 1 table w o w1 o1 node f s q
-      call-wrong h q eq =
-          record {
-            kept = kept-as (sym eq) (kept-more (passing-is e passed .kept));
-            right = call-right w1 o1 q (λ d g ts fs env st. wrong-right c refl h (outcome w1 o1 q) st);
-          }
+    module _ {row : ℕ} (who : some row ≡ callee t defs node) where
+      one : Called q t row (b .d) [] σ (b .κ)
+      one = call-enters q (b .κ) (b .d) (calling .i) (calling .x) σ (callee-of q few (b .scene) (calling .head) (calling .named) (some row) who) refl []
+          empty-means
 
-      -- ---- `putchar`
+      pub start-callable : Callable t row (row-word t row ARITY)
+      start-callable = callable (b .scene .long) (b .scene .stand) (one .function)
 
-      one-value : {d h : ℕ} {ts : List Token} {fs : Scope Fun} {env : Env} → c ≡ Putchar → n ≡ takes table c → (st : Standing d h ts fs env)
-          → worked st .values ≡ value-at w1 (4 * top f) 0 ∷ []
-      unfolding values-from
-      one-value ec en1 st =
-          let x = worked st in
-          let l : length (x .values) ≡ 1 = omega (arith, x .count, en1 ∙ ap (takes table) ec) in
-          x .bound (omega arith) ∙ ap (λ (m : ℕ). values-from w1 (4 * top f) 0 m) l
+      no-params : row-word t row ARITY ≡ 0
+      no-params = omega (arith, one .function .arity, one .count)
 
-      put-right : (fs : Scope Fun) (q : M.Outcome) (v : M.Value) (τ : M.State)
-          → Tells q (want (as-int v) λ z. put (row-word table node 1) z τ) → Tells q (invoke fs (rec fs) (row-word table node 1) putchar (v ∷ []) τ)
-      unfolding invoke when-some only
-      put-right fs q v τ g = g
+      pub start-fits : p .base + p .size + row-word t row ARITY ≤ SLOTS
+      start-fits = omega (arith, no-params, b .sized, call-room)
 
-      -- it prints
-      pub call-prints : c ≡ Putchar → n ≡ takes table c → Room w s → top f ≤ BINDINGS → {place : ℕ} → place ≡ row-word table node 1
-          → {o2 : List ℕ} {q : Outcome} → Printed (λ m. want (as-int (value-at w1 (4 * top f) 0)) λ z. put place z m) o1 o2 t q
-          → Ran (stepped rec) 1 table w o w1 o2 node f s q
-      call-prints ec en1 room low {place} ep {o2} {q} prints =
-          let k = passing-is e passed .kept in
-          let ended = prints .1 w1 (room-after room k) in
-          record {
-            kept = kept-more (kept-then k (kept-low (top f) low (ended .kept)));
-            right = call-right w1 o2 q
-                (λ d h ts fs env st.
-                by-putchar ec st _ _ _
-                (subst (λ (vs : List M.Value). Tells (outcome w1 o2 q) (invoke fs (rec fs) (row-word table node 1) putchar vs (memory w1 o1 t)))
-                (sym (one-value ec en1 st))
-                (put-right fs _ _ _
-                (subst (λ (i : ℕ). Tells (outcome w1 o2 q) (want (as-int (value-at w1 (4 * top f) 0)) λ z. put i z (memory w1 o1 t))) ep (ended .right)))));
-          }
+      module _ {w1 : List ℕ} {v : Value} {z : Next} (x : Enters t w w1 node row v p s z) where
+        stored-all : Stored w w1 (p .base + length (b .L)) (p .height)
+        stored-all =
+            stored-then
+            (stored-frame w (p .height) node LAST (p .base) (p .size) 0 (p .base + length (b .L)) (omega (arith, b .deep)) (omega (arith, call-room)))
+            (stored-keyed (x .keyed) (p .base + length (b .L)) (p .height) (omega (arith, b .sized)) start-fits)
 
-      -- ---- a function's body
+        frame-is : FrameAt w1 (p .height) node LAST (p .base) (length (b .L)) 0
+        frame-is =
+            subst (λ (n : ℕ). FrameAt w1 (p .height) node LAST (p .base) n 0) (b .sized)
+            (frame-kept (stored-keyed (x .keyed) 0 (suc (p .height)) (omega arith) start-fits .frames) (omega arith)
+            (frame-pushed w (p .height) node LAST (p .base) (p .size) 0 (omega (arith, b .deep, b .fair .room .long)) (omega (arith, b .sized, call-room))))
 
-      module _ {row : ℕ} (ec : c ≡ Defined row) (en1 : n ≡ takes table c) where
-        takes-is : n ≡ row-word table row 2
-        takes-is = en1 ∙ ap (takes table) ec
+        body : Body q t w1 row (b .d) (p .base + p .size) (one .f) σ (b .κ)
+        unfolding values-from
+        body = body-of (b .scene .stand) one refl (λ i l. x .keyed .keys i (omega (arith, one .function .arity)))
 
-        -- it is entered with the arguments
-        pub enters : {d h : ℕ} {ts : List Token} {fs : Scope Fun} {env : Env} (st : Standing d h ts fs env)
-            → Entered ts w1 (4 * top f) 0 (finds ec st .def .params) empty
-        enters st =
-            let g = finds ec st in
-            entered (st .scene .stand) w1 (4 * top f) row 0 (g .at .params) (omega arith)
-            (λ i l u.
-            passing-is e passed .right .0 i (omega arith) (omega (arith, takes-is, g .at .count)) (omega (arith, en1, takes-is, g .at .count))
-            ∙ ap (λ (x : Callee). parameter table x i) ec)
-            binds-none
+        -- the body begins
+        pub start-enters : Good q t w1 o z
+        unfolding Waits which
+        start-enters =
+            let m = parameters-length t row (length (one .f .params)) in
+            subst (λ (n : Next). Good q t w1 o n) (sym (x .is))
+            (part-begins-at (b .d) (p .height) node LAST (p .base) 0 (b .L) (b .env) s (b .κ) (b .scene) (b .fair) (b .deep) (b .binds) (b .stack)
+            stored-all frame-is (b .κ) (omega (arith, one .function .arity)) (omega (arith, b .sized)) (one .function .at) (body .binds)
+            (omega (arith, call-room, one .function .block, one .count, b .sized)) (record { deep = omega (arith, call-room); goes = λ x s. refl })
+            (body .means))
 
-        -- it stands, with the arguments bound
-        pub body-stands : {d h : ℕ} {ts : List Token} {fs : Scope Fun} {env : Env} (st : Standing d h ts fs env)
-            → Stands d d ts table w1 (row-word table row 4) (inner f n) fs (enters st .inner)
-        body-stands {ts = ts} st =
-            let g = finds ec st in
-            let sc = st .scene in
-            let z : 0 + length (g .def .params) ≡ n = omega (arith, takes-is, g .at .count) in
-            record {
-              scene = record {
-                long = sc .long;
-                stand = sc .stand;
-                few = sc .few;
-                functions = sc .functions;
-                bindings = subst (λ (m : ℕ). Binds ts w1 (4 * top f) m (enters st .inner)) z (enters st .binds);
-              };
-              tree = g .at .right;
-            }
+  -- ---- the first argument
 
-        enter-right : (fs : Scope Fun) (q : M.Outcome) (def : Def) (vs : List M.Value) (τ : M.State) (env : Env)
-            → ((k : Env → M.Outcome) → enter (def .params) vs empty k ≡ k env) → Tells q (rec fs (def .body) env τ)
-            → Tells q (invoke fs (rec fs) (row-word table node 1) (defined (def .params) (def .body)) vs τ)
-        unfolding invoke
-        enter-right fs q def vs τ env is g = tells-by (is _) g
+  module _ (row : ℕ) (is : row ≡ row-word t node FIRST) (some-there : row ≡ 0 → ⊥) where
+    argued : Argued q t row (calling .es)
+    argued = some-left q (subst (λ (r : ℕ). Args (q .ts) t r (calling .es)) (sym is) (calling .args)) some-there
 
-        values-are : {d h : ℕ} {ts : List Token} {fs : Scope Fun} {env : Env} (st : Standing d h ts fs env)
-            → worked st .values ≡ values-from w1 (4 * top f) 0 (length (finds ec st .def .params))
-        values-are st =
-            let x = worked st in
-            let g = finds ec st in
-            let l : length (x .values) ≡ length (g .def .params) = omega (arith, x .count, takes-is, g .at .count) in
-            x .bound (omega (arith, en1)) ∙ ap (λ (m : ℕ). values-from w1 (4 * top f) 0 m) l
+    pub argument-inside : row < NODES
+    argument-inside = argued .inside
 
-        -- and is worked out
-        pub call-goes : {w2 o2 : List ℕ} {q : Outcome} → Ran rec 0 table w1 o1 w2 o2 (row-word table row 4) (inner f n) t q
-            → Ran (stepped rec) 1 table w o w2 o2 node f s q
-        call-goes {w2} {o2} {q} second =
-            record {
-              kept = kept-more (kept-then (passing-is e passed .kept) (kept-low (top f) (omega arith) (second .kept)));
-              right = call-right w2 o2 q
-                  (λ d h ts fs env st.
-                  let g = finds ec st in
-                  when-is _ _ (defined (g .def .params) (g .def .body)) (g .found)
-                  (enter-right fs _ (g .def) _ _ (enters st .inner)
-                  (λ k. ap (λ (vs : List M.Value). enter (g .def .params) vs empty k) (values-are st) ∙ enters st .is k)
-                  (subst (λ (x : Exp). Tells (outcome w2 o2 q) (rec fs x (enters st .inner) (memory w1 o1 t))) (g .at .body)
-                  (second .right d d ts fs (enters st .inner) (body-stands st)))));
-            }
+    argued-few : suc (count (argued .rest)) ≤ PARAMETERS
+    unfolding count
+    argued-few = subst (λ (es : Exps). count es ≤ PARAMETERS) (argued .is) (calling .few)
+
+    first-means : then (then (eval (q .fs) (b .d) (argued .e) (b .env) σ)
+        λ v s. arguments (q .fs) (eval (q .fs) (b .d)) (argued .rest) (b .env) s λ ws s. called (q .fs) (b .d) (calling .i) (calling .x) (v ∷ ws) s) (b .κ)
+        ≡ q .whole
+    unfolding step arguments
+    first-means =
+        ap (λ (es : Exps). then (step (q .fs) (eval (q .fs) (b .d)) (call (calling .i) (calling .x) es) (b .env) σ) (b .κ)) (sym (argued .is)) ∙ call-means
+
+    passes-at : (size : ℕ) → size ≡ length (b .L)
+        → Begins q t (put-frame w (p .height) node ARGUMENT (p .base) (length (b .L)) (TAGS * row + 0)) o (row-word t row EXPRESSION)
+        (spot (p .base) size (p .height + 1)) s
+    unfolding Waits which values-from helds
+    passes-at size sized =
+        first-begins (b .d) (p .height) node ARGUMENT (p .base) (TAGS * row + 0) (b .L) (b .env) s (b .κ) (b .scene) (b .fair) (b .deep) (b .binds)
+        (omega (arith, call-room)) (b .stack)
+        (λ v s. arguments (q .fs) (eval (q .fs) (b .d)) (argued .rest) (b .env) s λ ws s. called (q .fs) (b .d) (calling .i) (calling .x) (v ∷ ws) s)
+        size sized (argued .at)
+        (record {
+          i = calling .i;
+          x = calling .x;
+          arg = row;
+          k = 0;
+          vs = [];
+          es = argued .rest;
+          head = calling .head;
+          named = calling .named;
+          marked = refl;
+          inside = argued .inside;
+          room = call-room;
+          few = omega (arith, argued-few);
+          used = refl;
+          long = refl;
+          held = refl;
+          sees = binds-kept
+              (stored-frame w (p .height) node ARGUMENT (p .base) (length (b .L)) (TAGS * row + 0) (p .base + length (b .L)) (omega (arith, b .deep))
+              (omega (arith, call-room)) .slots)
+              (omega arith) (b .binds);
+          rest = argued .args;
+          goes = λ v s. refl;
+        })
+        first-means
+
+    -- it begins
+    pub start-pass : Begins q t (put-frame w (p .height) node ARGUMENT (p .base) (p .size) (TAGS * row + 0)) o (row-word t row EXPRESSION)
+        (spot (p .base) (p .size + 0) (p .height + 1)) s
+    start-pass =
+        subst (λ (n : ℕ). Begins q t (put-frame w (p .height) node ARGUMENT (p .base) n (TAGS * row + 0)) o (row-word t row EXPRESSION)
+        (spot (p .base) (p .size + 0) (p .height + 1)) s) (sym (b .sized)) (passes-at (p .size + 0) (omega (arith, b .sized)))

@@ -1,5 +1,5 @@
 -- The end of a run: what is reported of it, what the output is, and that cleared memory is the same whatever lay in it.
-use mathlib.Core.Path.{_≡_, refl, sym, ap, subst, _∙_}
+use mathlib.Core.Path.{_≡_, refl, sym, ap, _∙_}
 use mathlib.Core.Bool.{Bool, true, false}
 use mathlib.Core.List.{List, [], _∷_, _++_, reverse, reverse-cons}
 use Prim.Native.Nat.{ℕ, zero, suc, _+_, _-_, _≤_, _<_}
@@ -12,21 +12,22 @@ use Rattle.language.specs.Sizes.{WORK}
 use Rattle.language.specs.State as M
 use Rattle.layout.specs.Table.{zeros}
 use Rattle.layout.proofs.Clearing.{zeros-same}
-use Rattle.machine.specs.Outcomes.{bytes, memory, outcome, tally, Kept}
-use Rattle.runner.specs.Contract.{reported, EndsAs}
-use Rattle.machine.specs.declared.state.Tally.{Tally}
-use Rattle.machine.specs.declared.state.Outcome.{Outcome}
-use Rattle.machine.specs.declared.state.Outcome.the-variants.{Gives, Halts}
+use Rattle.machine.specs.Outcomes.{bytes, memory}
+use Rattle.runner.specs.Standing.{ended}
+use Rattle.runner.specs.Contract.{spent, reported-by, reported, outcome-of, spent-of, EndsAs}
+use Rattle.runner.specs.declared.Spent.{Spent}
+use Rattle.runner.specs.declared.state.Ending.{Ending}
+use Rattle.runner.specs.declared.state.Next.{Next}
 
 -- ---- cleared memory
 
 -- what a run changed is among the words that are cleared
-pub cleared-same : {m : ℕ} {w o w1 o1 : List ℕ} {top : ℕ} {s t : Tally} → Kept m w o w1 o1 top s t → zeros w1 0 WORK ≡ zeros w 0 WORK
-cleared-same {w = w} {w1 = w1} k = zeros-same WORK 0 w1 w (k .long) (λ i h. by i h (ltb i WORK) refl)
+pub cleared-same : (w w1 : List ℕ) → length w1 ≡ length w → ((k : ℕ) → WORK ≤ k → getD w1 k 0 ≡ getD w k 0) → zeros w1 0 WORK ≡ zeros w 0 WORK
+cleared-same w w1 long beyond = zeros-same WORK 0 w1 w long (λ i h. by i h (ltb i WORK) refl)
   where
     by : (i : ℕ) → (0 ≤ i → i < 0 + WORK → ⊥) → (b : Bool) → ltb i WORK ≡ b → getD w1 i 0 ≡ getD w i 0
     by i h true e = let l = ltb-true i WORK e in absurd (h (omega arith) (omega arith))
-    by i h false e = k .beyond i (ltb-false i WORK e)
+    by i h false e = beyond i (ltb-false i WORK e)
 
 -- ---- the output
 
@@ -39,7 +40,9 @@ bytes-take : (o : List ℕ) (n : ℕ) → n ≤ length o → reverse (bytes o n)
 unfolding bytes
 bytes-take o zero l = refl
 bytes-take o (suc n) l =
-    reverse-cons (getD o n 0) (bytes o n) ∙ ap (λ (x : List ℕ). x ++ (getD o n 0 ∷ [])) (bytes-take o n (omega arith)) ∙ sym (take-suc o n 0 (omega arith))
+    reverse-cons (getD o n 0) (bytes o n)
+    ∙ ap (λ (x : List ℕ). x ++ (getD o n 0 ∷ [])) (bytes-take o n (omega arith))
+    ∙ sym (take-suc o n 0 (omega arith))
 
 drop-same : (n : ℕ) (v w : List ℕ) → length v ≡ length w → ((k : ℕ) → n ≤ k → getD v k 0 ≡ getD w k 0) → drop n v ≡ drop n w
 drop-same n v w e h =
@@ -47,21 +50,34 @@ drop-same n v w e h =
     (λ k l. getD-drop n v k 0 ∙ h (n + k) (omega arith) ∙ sym (getD-drop n w k 0))
 
 -- the bytes printed, then what was behind them
-pub output-is : (o o1 : List ℕ) (n : ℕ) → length o1 ≡ length o → n ≤ length o → ((k : ℕ) → n ≤ k → getD o1 k 0 ≡ getD o k 0)
+pub output-is : (o o1 : List ℕ) (n : ℕ) → length o1 ≡ length o → n ≤ length o1 → ((k : ℕ) → n ≤ k → getD o1 k 0 ≡ getD o k 0)
     → o1 ≡ reverse (bytes o1 n) ++ drop (length (reverse (bytes o1 n))) o
 output-is o o1 n e l h =
     let m : length (reverse (bytes o1 n)) ≡ n = length-reverse (bytes o1 n) ∙ bytes-length o1 n in
     sym (take-append-drop n o1)
-    ∙ ap (λ (x : List ℕ). x ++ drop n o1) (sym (bytes-take o1 n (omega arith)))
+    ∙ ap (λ (x : List ℕ). x ++ drop n o1) (sym (bytes-take o1 n l))
     ∙ ap (λ (x : List ℕ). reverse (bytes o1 n) ++ x) (drop-same n o1 o e h)
     ∙ ap (λ (k : ℕ). reverse (bytes o1 n) ++ drop k o) (sym m)
 
 -- ---- the report
 
--- it is the outcome's, with the state that the memories are
-pub reported-ends : {m : M.Outcome} (w o o1 : List ℕ) (r : Outcome) → m ≡ outcome w o1 r
-    → o1 ≡ reverse (bytes o1 (tally r .printed)) ++ drop (length (reverse (bytes o1 (tally r .printed)))) o → EndsAs m o o1 (reported r)
-reported-ends w o o1 (Gives v s) e h =
-    record { state = memory w o1 s; outcome = e; left = refl; printed = sym (bytes-length o1 (s .printed)); output = h }
-reported-ends w o o1 (Halts y p s) e h =
-    record { state = memory w o1 s; outcome = e; left = refl; printed = sym (bytes-length o1 (s .printed)); output = h }
+-- it is the outcome's, in the state in which the run ended
+pub report-is : (e : Ending) (n : Next) (σ : M.State) → ended e (n .value) σ ≡ outcome-of (reported-by e n) σ
+report-is Ending.«Value» n σ = refl
+report-is (Ending.Stop y p) n σ = refl
+
+-- units and bytes are the tally's
+pub spent-is : (e : Ending) (n : Next) → spent-of (reported-by e n) ≡ spent (n .tally)
+spent-is Ending.«Value» n = refl
+spent-is (Ending.Stop y p) n = refl
+
+pub ends-as : {m : M.Outcome} (w o o1 : List ℕ) (n : Next) → ended (n .ending) (n .value) (memory w o1 (n .tally)) ≡ m
+    → length o1 ≡ length o → n .tally .printed ≤ length o1 → ((k : ℕ) → n .tally .printed ≤ k → getD o1 k 0 ≡ getD o k 0)
+    → EndsAs m o o1 (reported n)
+ends-as w o o1 n e wide fits rest = record {
+  state = memory w o1 (n .tally);
+  outcome = sym e ∙ report-is (n .ending) n (memory w o1 (n .tally));
+  left = ap (λ (x : Spent). x .left) (spent-is (n .ending) n);
+  printed = ap (λ (x : Spent). x .printed) (spent-is (n .ending) n) ∙ sym (bytes-length o1 (n .tally .printed));
+  output = output-is o o1 (n .tally .printed) wide fits rest;
+}

@@ -1,119 +1,105 @@
--- Functions by name: the row that is found is that of the function which the meaning finds.
-use mathlib.Core.Path.{_≡_, refl, sym, ap, subst, _∙_}
+-- Names: the nearest slot that has a name's number holds what it is bound to, and the newest function of a call's name is the one
+-- that is called.
+use mathlib.Core.Path.{_≡_, refl, sym, subst, _∙_}
 use mathlib.Core.Bool.{Bool, true, false, cond}
 use mathlib.Core.List.{List}
 use mathlib.Core.Option.{Option, none, some}
-use Prim.Native.Nat.{ℕ, zero, suc, _+_, _≤_, _<_}
+use Prim.Native.Nat.{ℕ, suc, _≤_, _<_}
 use native.Mathlib.Omega.{arith}
-use lib.Dec.{eqb}
-use borrow.Author.Tests.{eqb-true, eqb-false}
+use lib.Dec.{eqb, ltb}
 use lib.ListN.{length}
-use Rattle.language.specs.Sizes.{TOKENS, NODES, PARAMETERS, TABLE}
-use Rattle.language.specs.Tokens.{Token, At, NAME, same}
-use Rattle.language.specs.Trees.{Name, Param, Def, Scope, empty, push, nearest, PUTCHAR}
-use Rattle.language.specs.Meaning.{Fun, putchar, defined}
-use Rattle.language.proofs.Meaning.CellTypes.{none-some, some-one}
-use Rattle.layout.specs.Table.{row-word, function-row}
-use Rattle.layout.specs.Names.{Stand, Named}
-use Rattle.layout.specs.Decode.{ParamsAt, params-none, params-more, FunctionAt}
-use Rattle.layout.specs.Functions.{Headed, find-function}
-use Rattle.layout.proofs.NameLaws.{name-inside, named-same}
-use Rattle.layout.proofs.FunctionLaws.{function-named, function-headed}
-use Rattle.machine.specs.Rows.{carried}
-use Rattle.runner.specs.Rows.{callee, Function, Callable}
-use Rattle.runner.specs.Contract.{Defines, defines-none, defines-more}
-use Rattle.runner.specs.declared.callees.Callee.{Callee}
-use Rattle.runner.specs.declared.callees.Callee.the-variants.{Putchar, Defined}
+use borrow.Author.Tests.{ne-eqb, ltb-true, ltb-false}
+use Rattle.language.specs.Sizes.{TOKENS}
+use Rattle.language.specs.Tokens.{Token, same}
+use Rattle.language.specs.Trees.{Name, Def, Scope, empty, push, nearest, PUTCHAR}
+use Rattle.language.specs.State as M
+use Rattle.language.specs.Meaning.{Fun, putchar, defined, Env}
+use Rattle.language.proofs.Meaning.CellTypes.{none-some}
+use Rattle.layout.specs.Names.{Named}
+use Rattle.layout.specs.Table.{function-row}
+use Rattle.layout.specs.Functions.{function-name, Headed, find-function}
+use Rattle.layout.specs.Slots.{HELD}
+use Rattle.machine.specs.Slots.{bound-in}
+use Rattle.layout.proofs.NameLaws.{number-putchar, number-other, named-same}
+use Rattle.runner.specs.Trees.{Function, Defines, defines-none, defines-more}
+use Rattle.runner.specs.Waiting.{Binds, binds-none, binds-name, binds-held}
 
--- ---- parameters
+-- no name has the number of a slot in which something waits
+not-held : {ts : List Token} → length ts ≤ TOKENS → {n : ℕ} {x : Name} → Named ts n x → n ≡ HELD → ⊥
+not-held few {n} {x} h e = by (same x PUTCHAR) refl
+  where
+    by : (b : Bool) → same x PUTCHAR ≡ b → ⊥
+    by true d = omega (arith, number-putchar few h d)
+    by false d = omega (arith, number-other few h d .0)
 
--- each parameter's token is a name
-pub parameter-token : {ts : List Token} {w : List ℕ} {r : ℕ} {ps : List Param} → ParamsAt ts w r ps → (k : ℕ) → k < length ps
-    → At ts (row-word w (r + k) 1) NAME
-parameter-token params-none k l = absurd (omega arith)
-parameter-token {ts} {w} {r} (params-more {p = p} e a c t rest) zero l =
-    let q : r + 0 ≡ r = omega arith in
-    subst (λ (n : ℕ). At ts (row-word w n 1) NAME) (sym q) (subst (λ (n : ℕ). At ts n NAME) (sym e) a)
-parameter-token {ts} {w} {r} (params-more e a c t rest) (suc k) l =
-    let q : r + 1 + k ≡ r + suc k = omega arith in
-    subst (λ (n : ℕ). At ts (row-word w n 1) NAME) q (parameter-token rest k (omega arith))
+-- a name's number is a key
+pub name-small : {ts : List Token} → length ts ≤ TOKENS → {n : ℕ} {x : Name} → Named ts n x → n ≤ TOKENS
+name-small few {n} {x} h = by (same x PUTCHAR) refl
+  where
+    by : (b : Bool) → same x PUTCHAR ≡ b → n ≤ TOKENS
+    by true d = omega (arith, number-putchar few h d)
+    by false d = omega (arith, number-other few h d .0)
 
--- ---- the functions of a table
+-- ---- bindings
 
--- the function at a row is the one of that name
-pub record Finds (d : ℕ) (ts : List Token) (table : List ℕ) (fs : Scope Fun) (x : Name) (row : ℕ) : Type 0 where
-  pub def : Def
-  pub at : FunctionAt d ts table row def
-  pub few : length (def .params) ≤ PARAMETERS
-  pub found : nearest x fs ≡ some (defined (def .params) (def .body))
+pub bound-holds : {ts : List Token} → length ts ≤ TOKENS → {key : ℕ} {x : Name} → Named ts key x → {w : List ℕ} {base : ℕ} {L : List ℕ} {env : Env}
+    → Binds ts w base L env → (v : M.Value) → nearest x env ≡ some v → bound-in w base (length L) key ≡ some v
+unfolding nearest bound-in
+bound-holds few h binds-none v e = absurd (none-some e)
+bound-holds few {key} {x} h {w} {base} (binds-name {n = n} {x = y} {L = L} {env = env} {v = u} m k d b) v e =
+    by (eqb key n) refl (λ q. bound-holds few h b v q)
+  where
+    by : (t : Bool) → eqb key n ≡ t → (nearest x env ≡ some v → bound-in w base (length L) key ≡ some v)
+        → bound-in w base (suc (length L)) key ≡ some v
+    by true z ih =
+        let g : same x y ≡ true = sym (named-same few h m) ∙ z in
+        let f : _≡_ {A = Option M.Value} (some u) (some v) = rw g at e in
+        rw (k, z, d) f
+    by false z ih =
+        let g : same x y ≡ false = sym (named-same few h m) ∙ z in
+        let f : nearest x env ≡ some v = rw g at e in
+        rw (k, z) (ih f)
+bound-holds few {key} h (binds-held {L = L} k b) v e =
+    let r = bound-holds few h b v e in
+    let z : eqb key HELD ≡ false = ne-eqb key HELD (not-held few h) in
+    rw (k, z) r
 
-module _ {d : ℕ} {ts : List Token} {table : List ℕ} (stand : Stand table (length ts) ts) where
-  -- a function's row is one that can be called
-  pub function-of : TABLE ≤ length table → {r : ℕ} {f : Def} → FunctionAt d ts table r f → length (f .params) ≤ PARAMETERS → Function table r
-  function-of long {r} {f} at few =
-      record {
-        long = long;
-        inside = at .inside;
-        few = omega (arith, at .count);
-        last = omega (arith, at .count, at .last-param);
-        named = λ k l.
-            let i = name-inside ts _ (parameter-token (at .params) k (omega (arith, at .count))) in
-            omega (arith, stand .few);
-      }
+-- ---- functions
 
-  -- all of them have rows and names
-  pub headed : {n : ℕ} {fs : Scope Fun} → Defines d ts table n fs → n ≤ TOKENS → (k : ℕ) → k < n → Headed table k
-  headed defines-none few k l = absurd (omega arith)
-  headed (defines-more {n = n} at less rest) few k l = by (eqb k n) refl λ m. headed rest (omega arith) k m
+-- what the table says of the function that is called
+pub data Calls (ts : List Token) (t : List ℕ) : Option ℕ → Option Fun → Type 0 where
+  calls-putchar : {o : Option Fun} → o ≡ some putchar → Calls ts t none o
+  calls-nobody : {o : Option Fun} → o ≡ none → Calls ts t none o
+  calls-function : {row : ℕ} {o : Option Fun} (f : Def) → Function ts t row f → o ≡ some (defined (f .params) (f .body)) → Calls ts t (some row) o
+
+-- the functions' names can be read
+pub heads-of : {ts : List Token} {t : List ℕ} {n : ℕ} {fs : Scope Fun} → Defines ts t n fs → (k : ℕ) → k < n → Headed t k
+heads-of defines-none k l = absurd (omega arith)
+heads-of {t = t} (defines-more {n = n} h m g rest) k l = by (ltb k n) refl (λ a. heads-of rest k a)
+  where
+    by : (b : Bool) → ltb k n ≡ b → (k < n → Headed t k) → Headed t k
+    by true e ih = ih (ltb-true k n e)
+    by false e ih =
+        let f = ltb-false k n e in
+        let same-one : n ≡ k = omega arith in
+        subst (λ (j : ℕ). Headed t j) same-one h
+
+module _ {ts : List Token} {t : List ℕ} (few : length ts ≤ TOKENS) {key : ℕ} {x : Name} (h : Named ts key x) where
+  first-calls : Calls ts t none (nearest x (push PUTCHAR putchar empty))
+  unfolding nearest
+  first-calls = by (same x PUTCHAR) refl
     where
-      by : (b : Bool) → eqb k n ≡ b → (k < n → Headed table k) → Headed table k
-      by true e ih = subst (λ (i : ℕ). Headed table i) (sym (eqb-true k n e)) (function-headed stand n at (omega arith))
-      by false e ih = let q = eqb-false k n e in ih (omega arith)
+      by : (b : Bool) → same x PUTCHAR ≡ b → Calls ts t none (cond (same x PUTCHAR) (some putchar) none)
+      by true e = calls-putchar {o = cond (same x PUTCHAR) (some putchar) none} (rw e refl)
+      by false e = calls-nobody {o = cond (same x PUTCHAR) (some putchar) none} (rw e refl)
 
-  -- ---- the one that has a name
-
-  module _ {key : ℕ} {x : Name} (h : Named ts key x) where
-    -- there is none
-    pub finds-none : {n : ℕ} {fs : Scope Fun} → Defines d ts table n fs → none ≡ find-function table key n
-        → nearest x fs ≡ nearest x (push PUTCHAR putchar empty)
-    unfolding find-function nearest
-    finds-none defines-none e = refl
-    finds-none (defines-more {n = n} {fs = fs} {f = f} at few rest) e =
-        by (eqb key (carried table (function-row table n) 1)) refl (λ q. finds-none rest q)
-      where
-        by : (b : Bool) → eqb key (carried table (function-row table n) 1) ≡ b
-            → (none ≡ find-function table key n → nearest x fs ≡ nearest x (push PUTCHAR putchar empty))
-            → cond (same x (f .called)) (some (defined (f .params) (f .body))) (nearest x fs) ≡ nearest x (push PUTCHAR putchar empty)
-        by true q ih = let z : _≡_ {A = Option ℕ} none (some (function-row table n)) = rw q at e in absurd (none-some z)
-        by false q ih =
-            let z : none ≡ find-function table key n = rw q at e in
-            rw (sym (named-same (stand .few) h (function-named stand at)) ∙ q) (ih z)
-
-    -- it is the one at this row
-    pub finds-some : {n : ℕ} {fs : Scope Fun} → Defines d ts table n fs → {row : ℕ} → some row ≡ find-function table key n → Finds d ts table fs x row
-    unfolding find-function nearest
-    finds-some defines-none e = absurd (none-some (sym e))
-    finds-some (defines-more {n = n} {fs = fs} {f = f} at few rest) {row} e =
-        by (eqb key (carried table (function-row table n) 1)) refl (λ q. finds-some rest q)
-      where
-        by : (b : Bool) → eqb key (carried table (function-row table n) 1) ≡ b → (some row ≡ find-function table key n → Finds d ts table fs x row)
-            → Finds d ts table (push (f .called) (defined (f .params) (f .body)) fs) x row
-        by true q ih =
-            let z : _≡_ {A = Option ℕ} (some row) (some (function-row table n)) = rw q at e in
-            subst (λ (i : ℕ). Finds d ts table (push (f .called) (defined (f .params) (f .body)) fs) x i) (sym (some-one z))
-            (record { def = f; at = at; few = few; found = rw (sym (named-same (stand .few) h (function-named stand at)) ∙ q) refl })
-        by false q ih =
-            let z : some row ≡ find-function table key n = rw q at e in
-            let g = ih z in
-            record {
-              def = g .def;
-              at = g .at;
-              few = g .few;
-              found = rw (sym (named-same (stand .few) h (function-named stand at)) ∙ q) (g .found);
-            }
-
-    -- what is found can be called
-    pub callable : TABLE ≤ length table → {n : ℕ} {fs : Scope Fun} → Defines d ts table n fs → (c : Callee) → callee c ≡ find-function table key n
-        → Callable table c
-    callable long def Putchar e = long
-    callable long def (Defined row) e = let g = finds-some def e in function-of long (g .at) (g .few)
+  pub calls-of : {n : ℕ} {fs : Scope Fun} → Defines ts t n fs → Calls ts t (find-function t key n) (nearest x fs)
+  unfolding find-function nearest
+  calls-of defines-none = first-calls
+  calls-of (defines-more {n = n} {fs = fs} {f = f} hd m g rest) = by (eqb key (function-name t n)) refl (calls-of rest)
+    where
+      by : (b : Bool) → eqb key (function-name t n) ≡ b → Calls ts t (find-function t key n) (nearest x fs)
+          → Calls ts t (cond (eqb key (function-name t n)) (some (function-row t n)) (find-function t key n))
+          (cond (same x (f .called)) (some (defined (f .params) (f .body))) (nearest x fs))
+      by true e ih = rw (e, sym (named-same few h m) ∙ e) (calls-function f g refl)
+      by false e ih = rw (e, sym (named-same few h m) ∙ e) ih

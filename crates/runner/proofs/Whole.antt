@@ -1,126 +1,286 @@
--- The whole run: the table stands for the program, whose meaning is never stuck, so what is told is what is meant.
-use mathlib.Core.Path.{_≡_, refl, sym, subst, _∙_}
-use mathlib.Core.List.{List, _∷_}
-use Prim.Native.Nat.{ℕ, suc, _+_, _-_, _≤_}
+-- The whole run: the table stands for the program, whose meaning is never stuck, so what the loop ends with is what is meant.
+use mathlib.Core.Path.{_≡_, refl, sym, ap, subst, _∙_}
+use mathlib.Core.Bool.{false}
+use mathlib.Core.List.{List, [], _∷_}
+use Prim.Native.Nat.{ℕ, zero, suc, _+_, _-_, _≤_, _<_}
 use native.Mathlib.Omega.{arith}
 use native.Mathlib.Numerals.{add-one}
 use lib.ListN.{length}
-use Rattle.language.specs.Sizes.{ACTIVE, PARAMETERS, WORK}
-use Rattle.language.specs.Tokens.{Token}
-use Rattle.language.specs.Trees.{Exp, Ty, Param, Def, Program, Scope, empty, push, size, PUTCHAR}
-use Rattle.language.specs.Types.{Sig, Takes, takes-none, takes-more, Fine, fine, TypedFrom, typed-main, typed-def, HasType}
+use Rattle.language.specs.Sizes.{TOKENS, PARAMETERS, ACTIVE, ALLOWANCE, TABLE, WORK}
+use Rattle.language.specs.Tokens.{Token, entry, LBRACE}
+use Rattle.language.specs.Trees.{Exp, Ty, Def, Program, Scope, empty, push, PUTCHAR}
+use Rattle.language.specs.Types.{Sig, TypedFrom, typed-main, typed-def, HasType}
 use Rattle.language.specs.State as M
-use Rattle.language.specs.State.{stuck}
+use Rattle.language.specs.State.{value, stop, stuck, then}
 use Rattle.language.specs.Meaning.{Fun, putchar, defined, eval, functions, start, run}
 use Rattle.language.proofs.Meaning.NeverStuck.{never-stuck}
-use Rattle.layout.specs.Table.{zeros}
-use Rattle.layout.specs.Names.{Stand}
-use Rattle.layout.specs.Decode.{tree-at, FunctionsAt, functions-none, functions-more, Holds}
+use Rattle.layout.specs.Table.{KIND, BODY, token-value, row-word, function-row, zeros}
+use Rattle.layout.specs.Names.{Stand, Named}
+use Rattle.layout.specs.Functions.{function-name, Headed}
+use Rattle.layout.specs.Decode.{shape-of, build, build-if, tree-at, Right, FunctionAt, FunctionsAt, functions-none, functions-more, Holds}
+use Rattle.layout.specs.Frames.{put-frame}
 use Rattle.layout.specs.declared.Held.{Held}
+use Rattle.layout.specs.declared.values.Value.{Value}
+use Rattle.layout.proofs.NameLaws.{name-inside, named-at}
 use Rattle.machine.specs.Slots.{slots, cells-of}
-use Rattle.machine.specs.Outcomes.{Tells, tells, anything, bytes, memory, outcome, tally}
-use Rattle.runner.specs.Contract.{Defines, defines-none, defines-more, binds-none, Stands, Ready, Ran, Loaded, reported, EndsAs, RunsTo}
-use Rattle.runner.specs.declared.Done.{Done}
-use Rattle.machine.specs.declared.state.Frame.{Frame}
+use Rattle.machine.specs.Outcomes.{bytes, memory}
 use Rattle.machine.specs.declared.state.Tally.{Tally}
-use Rattle.machine.specs.declared.state.Outcome.{Outcome}
-use Rattle.runner.proofs.Beginnings.{evals}
-use Rattle.runner.proofs.Ending.{cleared-same, output-is, reported-ends}
+use Rattle.runner.specs.Phases.{WHOLE}
+use Rattle.runner.specs.Trees.{At, slack, Function, Defines, defines-none, defines-more, Scene}
+use Rattle.runner.specs.Waiting.{Run, binds-none, which, Waits, Stack, ground, frame}
+use Rattle.runner.specs.Standing.{Fair, Begins, Ends, Good, GoodBy, begun, running-by, running, Any, OfAll, Ran}
+use Rattle.runner.specs.Contract.{Loaded, reported, EndsAs, RunsTo}
+use Rattle.runner.specs.declared.Done.{Done}
+use Rattle.runner.specs.declared.state.Mode.{Mode}
+use Rattle.runner.specs.declared.state.Next.{Next}
+use Rattle.runner.proofs.Few.{Few, Small, typed-few, given-small, params-few, def-small, body-few}
+use Rattle.runner.proofs.Reading.{at-of}
+use Rattle.runner.proofs.Memory.{stored-frame, frame-pushed}
+use Rattle.runner.proofs.Entering.{spot}
+use Rattle.runner.proofs.Waiting.{later-now}
+use Rattle.runner.proofs.Ending.{cleared-same, ends-as}
 
 -- ---- the functions of a program that has a type
 
-takes-few : {Γ Γ′ : Scope Ty} {ps : List Param} → Takes Γ ps Γ′ → size Γ ≤ PARAMETERS → size Γ + length ps ≤ PARAMETERS
-unfolding size
-takes-few takes-none l = omega arith
-takes-few (takes-more a b c rest) l = let r = takes-few rest (omega arith) in omega arith
+-- a row of a Block's kind is a Block
+block-slack : (f : ℕ) (ts : List Token) (w : List ℕ) (i : ℕ) → Right f ts w i → row-word w i KIND ≡ LBRACE → slack (tree-at f ts w i) ≡ 1
+unfolding Right tree-at build-if build shape-of entry slack
+block-slack zero ts w i r e = absurd r
+block-slack (suc f) ts w i r e = rw e refl
 
-params-few : {Δ : Scope Sig} {d : Def} → Fine Δ d → length (d .params) ≤ PARAMETERS
-unfolding size
-params-few (fine a b takes c d) = let r = takes-few takes (omega arith) in omega arith
+-- of every tree of a body or of the last expression
+pub some-slack : (e : Exp) → 0 ≤ slack e
+some-slack e = omega arith
 
--- the table's functions are those of the meaning
-defines : {d : ℕ} {ts : List Token} {table : List ℕ} {k : ℕ} {ds : List Def} {fs : Scope Fun} {Δ : Scope Sig} {e : Exp} {t : Ty}
-    → FunctionsAt d ts table k ds → TypedFrom Δ ds e t → Defines d ts table k fs → Defines d ts table (k + length ds) (functions ds fs)
-unfolding functions
-defines {d} {ts} {table} {k} {fs = fs} functions-none (typed-main h) def =
-    let q : k + 0 ≡ k = omega arith in
-    subst (λ (n : ℕ). Defines d ts table n fs) (sym q) def
-defines {d} {ts} {table} {k} {ds = f ∷ ds} {fs = fs} (functions-more at rest) (typed-def ok typed) def =
-    let q : k + 1 + length ds ≡ k + suc (length ds) = omega arith in
-    subst (λ (n : ℕ). Defines d ts table n (functions (f ∷ ds) fs)) q
-    (defines {fs = push (f .called) (defined (f .params) (f .body)) fs} rest typed (subst (λ (n : ℕ). Defines d ts table n (push (f .called) (defined (f .params) (f .body)) fs)) (sym (add-one k)) (defines-more at (params-few ok) def)))
+module _ {ts : List Token} {t : List ℕ} (long : TABLE ≤ length t) (stand : Stand t (length ts) ts) where
+  -- row r is the function d
+  function-of : {h r : ℕ} {d : Def} → FunctionAt h ts t r d → Few (d .body) → length (d .params) ≤ PARAMETERS → Function ts t r d
+  function-of {h} {r} {d} a few l =
+      let at = at-of ts t long stand h (row-word t r BODY) (a .right) (subst Few (sym (a .body)) few) in
+      record {
+        inside = a .inside;
+        few = l;
+        arity = a .count;
+        last-param = a .last-param;
+        params = a .params;
+        block = subst (λ (e : Exp). slack e ≡ 1) (a .body) (block-slack h ts t (row-word t r BODY) (a .right) (a .block));
+        at = subst (λ (e : Exp). At ts t (row-word t r BODY) e) (a .body) at;
+      }
 
--- ---- the begin
+  -- its name
+  name-of : {h : ℕ} (k : ℕ) {d : Def} → FunctionAt h ts t (function-row t k) d → Named ts (function-name t k) (d .called)
+  name-of k {d = d} a =
+      subst (λ (n : ℕ). Named ts (token-value t (n + 1)) (d .called)) (sym (a .at))
+      (subst (λ (x : List ℕ). Named ts (token-value t (d .at + 1)) x) (sym (a .called)) (named-at stand (d .at + 1) (a .name)))
 
--- no binding is in sight
-abbrev pub outermost : ℕ → Frame
-outermost defs = record { defs = defs; base = 0; size = 0 }
+  head-of : {h k : ℕ} {d : Def} → k < TOKENS → FunctionAt h ts t (function-row t k) d → Headed t k
+  head-of {d = d} l a = let i = name-inside ts (d .at + 1) (a .name) in record { few = l; row = a .inside; name = omega (arith, a .at, stand .few) }
+
+  -- the table's functions are those of the meaning
+  defines : {h : ℕ} {k : ℕ} {ds : List Def} {fs : Scope Fun} {Δ : Scope Sig} {e : Exp} {y : Ty} → k + length ds ≤ TOKENS
+      → FunctionsAt h ts t k ds → TypedFrom Δ ds e y → Small Δ → Defines ts t k fs → Defines ts t (k + length ds) (functions ds fs)
+  unfolding functions
+  defines {k = k} {fs = fs} few functions-none (typed-main x) small def =
+      let q : k + 0 ≡ k = omega arith in
+      subst (λ (n : ℕ). Defines ts t n fs) (sym q) def
+  defines {k = k} {ds = f ∷ ds} {fs = fs} {Δ = Δ} few (functions-more at rest) (typed-def ok typed) small def =
+      let q : k + 1 + length ds ≡ k + suc (length ds) = omega arith in
+      let l = params-few ok in
+      let fs1 = push (f .called) (defined (f .params) (f .body)) fs in
+      let one = defines-more (head-of (omega arith) at) (name-of k at) (function-of at (body-few small ok) l) def in
+      subst (λ (n : ℕ). Defines ts t n (functions ds fs1)) q
+      (defines {fs = fs1} (omega arith) rest typed (def-small Δ f l small) (subst (λ (n : ℕ). Defines ts t n fs1) (sym (add-one k)) one))
+
+-- the last expression has few arguments in its calls, too
+main-few : {Δ : Scope Sig} {ds : List Def} {e : Exp} {y : Ty} → TypedFrom Δ ds e y → Small Δ → Few e
+main-few (typed-main x) small = typed-few small x
+main-few {Δ} (typed-def {d = d} ok rest) small = main-few rest (def-small Δ d (params-few ok) small)
+
+-- ---- the runs of a sheet
+
+abbrev pub in-sight : Program → Scope Fun
+in-sight p = functions (p .defs) (push PUTCHAR putchar empty)
 
 abbrev pub first-tally : ℕ → Tally
 first-tally allowance = record { units = allowance; births = 0; cells = 0; printed = 0 }
-
-abbrev in-sight : Program → Scope Fun
-in-sight p = functions (p .defs) (push PUTCHAR putchar empty)
-
-stands-first : {ts : List Token} {table : List ℕ} (w : List ℕ) {P : Held} {p : Program} {t : Ty} (h : Holds ts table P p)
-    → HasType p t → Stands (h .depth) (h .depth) ts table w (P .root) (outermost (P .functions)) (in-sight p) empty
-stands-first {ts} {table} w {P} {p} h typed =
-    let q : 0 + length (p .defs) ≡ P .functions = omega (arith, h .defined) in
-    record {
-      scene = record {
-        long = h .long;
-        stand = subst (λ (n : ℕ). Stand table n ts) (sym (h .stand .long)) (h .stand);
-        few = omega (arith, h .few, h .stand .few);
-        functions = subst (λ (n : ℕ). Defines (h .depth) ts table n (in-sight p)) q (defines (h .functions) typed defines-none);
-        bindings = binds-none;
-      };
-      tree = h .right;
-    }
 
 memory-first : (w o : List ℕ) (allowance : ℕ) → memory w o (first-tally allowance) ≡ start allowance (length o)
 unfolding slots cells-of bytes
 memory-first w o allowance = let e : length o - 0 ≡ length o = omega arith in rw e refl
 
--- where the meaning is not stuck, what is told is what is meant
-told-is : {q m : M.Outcome} → Tells q m → (m ≡ stuck → ⊥) → q ≡ m
-told-is tells h = refl
-told-is anything h = absurd (h refl)
+then-value : (m : M.Outcome) → then m (λ v s. value v s) ≡ m
+unfolding then
+then-value (value v s) = refl
+then-value (stop y i s) = refl
+then-value stuck = refl
 
-module _ {table w o : List ℕ} {P : Held} {allowance : ℕ} where
-  -- the last expression is ready
-  pub ready-first : Loaded table w P allowance → Ready table w o (P .root) ACTIVE (outermost (P .functions)) (first-tally allowance)
-  ready-first sh =
+module _ (table w o : List ℕ) (P : Held) (allowance : ℕ) where
+  abbrev pub run-of : (ts : List Token) (p : Program) (t : Ty) → HasType p t → Run
+  run-of ts p t h = record {
+    ts = ts;
+    defs = P .functions;
+    fs = in-sight p;
+    whole = run p allowance (length o);
+    safe = never-stuck p t allowance (length o) h;
+    work = w;
+    out = o;
+  }
+
+  -- whatever program the table holds, the loop stands where its meaning does
+  abbrev pub Stands : List ℕ → List ℕ → Next → Type 0
+  Stands w1 o1 n = (ts : List Token) (p : Program) (t : Ty) → Holds ts table P p → (h : HasType p t) → Good (run-of ts p t h) table w1 o1 n
+
+-- ---- the begin
+
+module _ (table w o : List ℕ) (P : Held) (allowance : ℕ) (long : WORK ≤ length w) (allowed : allowance ≤ ALLOWANCE)
+    (ts : List Token) (p : Program) (t : Ty) (h : Holds ts table P p) (typed : HasType p t) where
+  abbrev q : Run
+  q = run-of table w o P allowance ts p t typed
+
+  abbrev bottom : List ℕ
+  bottom = put-frame w 0 0 WHOLE 0 0 0
+
+  stand-all : Stand table (length ts) ts
+  stand-all = subst (λ (n : ℕ). Stand table n ts) (sym (h .stand .long)) (h .stand)
+
+  scene-first : Scene ts table (P .functions) (in-sight p)
+  scene-first =
+      let e : 0 + length (p .defs) ≡ P .functions = omega (arith, h .defined) in
       record {
-        d = sh .holds .depth;
-        h = sh .holds .depth;
-        ts = sh .ts;
-        fs = in-sight (sh .program);
-        env = empty;
-        stands = stands-first w (sh .holds) (sh .typed);
-        deep = omega arith;
-        room = record { long = sh .long; few = omega arith; births = omega (arith, sh .allowed); low = λ i l. absurd (omega arith); rising = λ i j l h. absurd (omega arith) };
-        printed = omega arith;
+        long = h .long;
+        stand = stand-all;
+        functions = subst (λ (n : ℕ). Defines ts table n (in-sight p)) e
+            (defines (h .long) stand-all (omega (arith, e, h .few, h .stand .few)) (h .functions) typed given-small defines-none);
       }
 
-  module _ {w1 o1 : List ℕ} {r : Outcome} (ran : Ran (evals ACTIVE) 0 table w o w1 o1 (P .root) (outermost (P .functions)) (first-tally allowance) r) where
-    whole-tells : (ts : List Token) (p : Program) (t : Ty) → Holds ts table P p → HasType p t
-        → Tells (outcome w1 o1 r) (run p allowance (length o))
-    unfolding run
-    whole-tells ts p t h typed =
-        subst (λ (e : Exp). Tells (outcome w1 o1 r) (eval (in-sight p) ACTIVE e empty (start allowance (length o)))) (h .main)
-        (subst (λ (σ : M.State). Tells (outcome w1 o1 r) (eval (in-sight p) ACTIVE (tree-at (h .depth) ts table (P .root)) empty σ))
-        (memory-first w o allowance) (ran .right (h .depth) (h .depth) ts (in-sight p) empty (stands-first w h typed)))
+  at-first : At ts table (P .root) (p .main)
+  at-first =
+      subst (λ (e : Exp). At ts table (P .root) e) (h .main)
+      (at-of ts table (h .long) stand-all (h .depth) (P .root) (h .right)
+      (subst Few (sym (h .main)) (main-few typed given-small)))
 
-    outcome-is : (ts : List Token) (p : Program) (t : Ty) → Holds ts table P p → HasType p t
-        → outcome w1 o1 r ≡ run p allowance (length o)
-    outcome-is ts p t h typed = told-is (whole-tells ts p t h typed) (never-stuck p t allowance (length o) typed)
+  fair-first : Fair q bottom o (first-tally allowance) 1
+  fair-first =
+      let s = stored-frame w 0 0 WHOLE 0 0 0 0 (omega arith) (omega arith) in
+      record {
+        room = record {
+          long = omega (arith, s .long);
+          few = omega arith;
+          low = λ i l. absurd (omega arith);
+          rising = λ i j l m. absurd (omega arith);
+        };
+        paid = omega arith;
+        printed = omega arith;
+        long = s .long;
+        beyond = λ k l. s .cells k (omega arith);
+        wide = refl;
+        rest = λ k l. refl;
+      }
 
-    -- the contract of the run
-    pub whole : (w2 : List ℕ) → w2 ≡ zeros w1 0 WORK → (q : Done) → q ≡ reported r → RunsTo table w o w2 o1 P allowance q
-    whole w2 ew q eq = record {
-      answer = λ ts p t h typed.
-          subst (EndsAs (run p allowance (length o)) o o1) (sym eq)
-          (reported-ends w1 o o1 r (sym (outcome-is ts p t h typed))
-          (output-is o o1 (tally r .printed) (ran .kept .wide) (ran .kept .printed) (ran .kept .rest)));
-      cleared = ew ∙ cleared-same (ran .kept);
-    }
+  stack-first : Stack q table bottom ACTIVE 1 0 0 0 (λ v s. value v s)
+  unfolding Waits which
+  stack-first =
+      frame {d = ACTIVE} {a = 0} {c = 0} {m = 0} {n = 0} {b = 0} {κ = λ v s. value v s} {κ′ = λ v s. value v s} 0
+      (frame-pushed w 0 0 WHOLE 0 0 0 (omega arith) (omega arith)) binds-none (omega arith) (later-now bottom 0 0)
+      record { goes = λ v s. refl } ground
+
+  means-first : then (eval (in-sight p) ACTIVE (p .main) empty (memory bottom o (first-tally allowance))) (λ v s. value v s) ≡ run p allowance (length o)
+  unfolding run
+  means-first =
+      then-value (eval (in-sight p) ACTIVE (p .main) empty (memory bottom o (first-tally allowance)))
+      ∙ ap (λ (σ : M.State). eval (in-sight p) ACTIVE (p .main) empty σ) (memory-first bottom o allowance)
+
+  begins-first : Begins q table bottom o (P .root) (spot 0 0 1) (first-tally allowance)
+  begins-first = record {
+    scene = scene-first;
+    fair = fair-first;
+    d = ACTIVE;
+    e = p .main;
+    L = [];
+    env = empty;
+    κ = λ v s. value v s;
+    deep = omega arith;
+    high = omega arith;
+    at = at-first;
+    sized = refl;
+    binds = binds-none;
+    room = omega (arith, some-slack (p .main));
+    stack = stack-first;
+    means = means-first;
+  }
+
+module _ (table w o : List ℕ) (P : Held) (allowance : ℕ) where
+  abbrev Loop : List ℕ → List ℕ → Next → Type 0
+  Loop w1 o1 n = Stands table w o P allowance w1 o1 n
+
+  stands-first : Loaded table w P allowance → (w1 : List ℕ) (n : Next) (v : Value) → w1 ≡ put-frame w 0 0 WHOLE 0 0 0
+      → n ≡ begun (P .root) v (spot 0 0 1) (first-tally allowance) → Loop w1 o n
+  stands-first sh w1 n v e f ts p t h typed =
+      let first = begins-first table w o P allowance (sh .long) (sh .allowed) ts p t h typed in
+      let q = run-of table w o P allowance ts p t typed in
+      subst (λ (x : List ℕ). Good q table x o n) (sym e) (subst (λ (m : Next). Good q table (put-frame w 0 0 WHOLE 0 0 0) o m) (sym f) first)
+
+  -- a turn
+  stands-any : Loaded table w P allowance → (w1 o1 : List ℕ) (n : Next) → Loop w1 o1 n → Any (OfAll (P .functions) λ q. Good q table w1 o1 n)
+  stands-any sh w1 o1 n x = record {
+    q = run-of table w o P allowance (sh .ts) (sh .program) (sh .type) (sh .typed);
+    holds = (refl, x (sh .ts) (sh .program) (sh .type) (sh .holds) (sh .typed));
+  }
+
+  stands-ran : (w1 o1 w2 o2 : List ℕ) (n r : Next) → Loop w1 o1 n → Ran (P .functions) table w1 o1 w2 o2 n r → Loop w2 o2 r
+  stands-ran w1 o1 w2 o2 n r x s ts p t h typed = s .right (run-of table w o P allowance ts p t typed) refl (x ts p t h typed)
+
+  -- ---- the end
+
+  over-mode : (m : Mode) → running-by m ≡ false → m ≡ Mode.Over
+  over-mode Mode.Begin e = absurd (let z : _≡_ {A = ℕ} 0 1 = cc in omega arith)
+  over-mode Mode.Give e = absurd (let z : _≡_ {A = ℕ} 0 1 = cc in omega arith)
+  over-mode Mode.Over e = refl
+
+  ends-of : (ts : List Token) (p : Program) (t : Ty) (h : Holds ts table P p) (typed : HasType p t) (w1 o1 : List ℕ) (n : Next)
+      → running n ≡ false → Loop w1 o1 n → Ends (run-of table w o P allowance ts p t typed) table w1 o1 (n .ending) (n .value) (n .tally)
+  ends-of ts p t h typed w1 o1 n e x =
+      subst (λ (m : Mode). GoodBy (run-of table w o P allowance ts p t typed) table w1 o1 m n) (over-mode (n .mode) e) (x ts p t h typed)
+
+  stands-few : Loaded table w P allowance → (w1 o1 : List ℕ) (n : Next) → running n ≡ false → Loop w1 o1 n
+      → n .tally .units ≤ ALLOWANCE + 1
+  stands-few sh w1 o1 n e x = omega (arith, ends-of (sh .ts) (sh .program) (sh .type) (sh .holds) (sh .typed) w1 o1 n e x .fair .paid)
+
+  stands-long : Loaded table w P allowance → (w1 o1 : List ℕ) (n : Next) → running n ≡ false → Loop w1 o1 n → WORK ≤ length w1
+  stands-long sh w1 o1 n e x = ends-of (sh .ts) (sh .program) (sh .type) (sh .holds) (sh .typed) w1 o1 n e x .fair .room .long
+
+  -- the contract of the run
+  whole : Loaded table w P allowance → (w1 o1 : List ℕ) (n : Next) → running n ≡ false → Loop w1 o1 n → (w2 : List ℕ)
+      → w2 ≡ zeros w1 0 WORK → (r : Done) → r ≡ reported n → RunsTo table w o w2 o1 P allowance r
+  whole sh w1 o1 n e x w2 ew r er =
+      let fair = ends-of (sh .ts) (sh .program) (sh .type) (sh .holds) (sh .typed) w1 o1 n e x .fair in
+      record {
+        answer = λ ts p t h typed.
+            subst (λ (y : Done). EndsAs (run p allowance (length o)) o o1 y) (sym er)
+            (ends-as w1 o o1 n (ends-of ts p t h typed w1 o1 n e x .tells) (fair .wide) (fair .printed) (fair .rest));
+        cleared = ew ∙ cleared-same w w1 (fair .long) (fair .beyond);
+      }
+
+-- ---- from the first frame to the report
+
+module _ (table w o : List ℕ) (P : Held) (allowance : ℕ) (sh : Loaded table w P allowance) {w1 : List ℕ} {n : Next} {v : Value}
+    (e : w1 ≡ put-frame w 0 0 WHOLE 0 0 0) (f : n ≡ begun (P .root) v (spot 0 0 1) (first-tally allowance)) where
+  first : Stands table w o P allowance w1 o n
+  first = stands-first table w o P allowance sh w1 n v e f
+
+  -- what the loop is asked
+  pub first-any : Any (OfAll (P .functions) λ q. Good q table w1 o n)
+  first-any = stands-any table w o P allowance sh w1 o n first
+
+  module _ {w2 o2 : List ℕ} {r : Next} (g : Ran (P .functions) table w1 o w2 o2 n r) where
+    last : Stands table w o P allowance w2 o2 r
+    last = stands-ran table w o P allowance w1 o w2 o2 n r first g
+
+    pub last-long : WORK ≤ length w2
+    last-long = stands-long table w o P allowance sh w2 o2 r (g .over) last
+
+    pub last-few : r .tally .units ≤ ALLOWANCE + 1
+    last-few = stands-few table w o P allowance sh w2 o2 r (g .over) last
+
+    pub last-whole : (w3 : List ℕ) → w3 ≡ zeros w2 0 WORK → (d : Done) → d ≡ reported r → RunsTo table w o w3 o2 P allowance d
+    last-whole w3 ew d ed = whole table w o P allowance sh w2 o2 r (g .over) last w3 ew d ed

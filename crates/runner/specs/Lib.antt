@@ -1,2 +1,5 @@
-pub mod Rows
+pub mod Phases
+pub mod Trees
+pub mod Waiting
+pub mod Standing
 pub mod Contract

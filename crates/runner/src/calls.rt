@@ -1,107 +1,201 @@
-// Calls: the arguments, then the function's body, or `putchar`.
+// Calls: the arguments one after another, each into its slot, then the function's body, or `putchar`.
 ghost use mathlib.Core.Path.{_≡_};
-ghost use Prim.Native.Nat.{ℕ, _+_};
-ghost use Rattle.language.specs.Meaning.{eval, step};
-ghost use Rattle.layout.specs.Table.{KIND, row-word};
+ghost use Prim.Native.Nat.{_+_, _*_, _≤_, _<_};
+ghost use lib.ListN.{length};
+ghost use Rattle.language.specs.Sizes.{NODES, PARAMETERS, TABLE, WORK};
+ghost use Rattle.layout.specs.Table.{KIND, OWN, ARITY, EXPRESSION, BODY, row-word};
 ghost use Rattle.layout.specs.Rows.{CALL};
-ghost use Rattle.runner.specs.Contract.{Ready, Ran, Queued, Passing};
-use crate::callees;
-use crate::callees::Callee;
-use crate::nodes;
+ghost use Rattle.layout.specs.Functions.{found};
+ghost use Rattle.layout.specs.Slots.{SLOTS, TAGS};
+ghost use Rattle.layout.specs.Frames.{FRAMES, SIZES, put-frame};
+ghost use Rattle.runner.specs.Phases.{ARGUMENT};
+ghost use Rattle.runner.specs.Standing.{Starts, Resumes, Some, Goes, Of, Any, Prints, OfAll, LastOf, Printing, Keyed, Callable, Enters, Heads, callee, above, begun};
+use crate::state;
+use crate::state::Next;
+use crate::state::Spot;
+use layout::HELD;
+use layout::SLOTS_AT;
+use layout::frames;
+use layout::functions;
+use layout::functions::Found;
 use layout::rows;
-use machine::leaves;
+use layout::slots;
+use layout::token;
+use layout::values::Value;
 use machine::output;
-use machine::state;
-use machine::state::Frame;
 use machine::state::Outcome;
 use machine::state::Tally;
-use numbers::Stop;
 
-// How the arguments of a call end: bound, so many of them, or by a stop in one.
-pub enum Passed {
-    All(usize, Tally),
-    Halts(Stop, u32, Tally),
+// Which argument a frame waits for: its row and its number, in one mark.
+const NUMBERS: usize = 8;
+
+// The function that a call means; `putchar` has no row.
+fn callee(table: &[u32], defs: usize, node: usize) -> Found
+    requires { ⌜ Heads (now table) defs node ⌝ }
+    ensures { λ r. ⌜ found r ≡ callee (now (table .entry)) defs node ⌝ }
+{
+    let own = rows::link(table, node, rows::OWN);
+    let name = token::value(table, own);
+    functions::find(table, defs, name)
 }
 
-// A function's body sees the arguments, which are bound above the caller's bindings, and nothing else.
 pub fn call(
     table: &[u32],
     work: &mut [u32],
-    out: &mut [u8],
+    defs: usize,
     node: usize,
-    depth: usize,
-    frame: Frame,
+    v: Value,
+    spot: Spot,
     s: Tally,
-) -> Outcome
-    requires { ⌜ Ready (now table) (now work) (now out) node (depth + 1) frame s × (row-word (now table) node KIND ≡ CALL) ⌝ }
-    ensures { λ r. ⌜ Ran (λ fs. step fs (eval fs depth)) 1 (now (table .entry)) (now (work .entry)) (now (out .entry)) (now (work .exit)) (now (out .exit)) node frame s r ⌝ }
+) -> Next
+    requires { ⌜ Some (Of defs λ q o. Starts q (now table) (now work) o node spot s) × (row-word (now table) node KIND ≡ CALL) ⌝ }
+    ensures { λ r. ⌜ Goes (Of defs λ q o. Starts q (now (table .entry)) (now (work .entry)) o node spot s) (now (table .entry)) (now (work .exit)) (3 * s .units + spot .height + 3) r ⌝ }
 {
-    let place = rows::word(table, node, rows::OWN);
-    let name = leaves::carried(table, node, leaves::HERE);
     let row = rows::link(table, node, rows::FIRST);
-    let defs = frame.defs;
-    let top = frame.base + frame.size;
-    let callee = callees::find(table, name, defs);
-    let passed = arguments(table, work, out, row, 0, callee, depth, frame, s);
-    match passed {
-        Passed::Halts(why, p, t) => Outcome::Halts(why, p, t),
-        Passed::All(n, t) => {
-            if n == callees::takes(table, callee) {
-                return match callee {
-                    Callee::Putchar => output::put_bound(place, work, out, top, t),
-                    Callee::Defined(head) => {
-                        let body = rows::link(table, head, rows::BODY);
-                        let inner = Frame {
-                            defs,
-                            base: top,
-                            size: n,
-                        };
-                        nodes::eval(table, work, out, body, depth, inner, t)
-                    }
-                };
-            }
-            state::stuck(place, t)
+    if row == 0 {
+        let who = callee(table, defs, node);
+        return match who {
+            Found::At(head) => enter(table, work, head, node, v, spot, s),
+            Found::Nowhere => state::gives(v, spot, s),
+        };
+    }
+    pass(table, work, node, row, 0, v, spot, s)
+}
+
+// Argument k, at a row of its own, begins, above those that wait.
+fn pass(
+    table: &[u32],
+    work: &mut [u32],
+    node: usize,
+    row: usize,
+    k: usize,
+    v: Value,
+    spot: Spot,
+    s: Tally,
+) -> Next
+    requires { ⌜ (TABLE ≤ length (now table)) × (WORK ≤ length (now work)) × (spot .height < FRAMES) × (node < NODES) × (row < NODES) × (k < PARAMETERS) × (spot .base ≤ WORK) × (spot .size < SIZES) ⌝ }
+    ensures { λ r. ⌜ (now (work .exit) ≡ put-frame (now (work .entry)) (spot .height) node ARGUMENT (spot .base) (spot .size) (TAGS * row + k)) × (r ≡ begun (row-word (now (table .entry)) row EXPRESSION) v (above (spot .base) (spot .size + k) spot) s) ⌝ }
+{
+    let base = spot.base;
+    let size = spot.size;
+    let height = spot.height;
+    let mark = NUMBERS * row + k;
+    frames::put(work, height, node, state::ARGUMENT, base, size, mark);
+    let part = rows::link(table, row, rows::EXPRESSION);
+    let inner = Spot {
+        base,
+        size: size + k,
+        height: height + 1,
+    };
+    state::begins(part, v, inner, s)
+}
+
+// The arguments, which lie in the slots from `base` on, get the names of the function's parameters.
+fn bind(table: &[u32], work: &mut [u32], head: usize, base: usize, n: usize)
+    requires { ⌜ Callable (now table) head n × (base + n ≤ SLOTS) × (WORK ≤ length (now work)) ⌝ }
+    ensures { λ _. ⌜ Keyed (now (table .entry)) (now (work .entry)) (now (work .exit)) head base n ⌝ }
+{
+    let mut i = 0;
+    while i < n {
+        let own = rows::link(table, head + 1 + i, rows::OWN);
+        let key = token::value(table, own);
+        slots::name(work, SLOTS_AT, base + i, key);
+        i += 1;
+    }
+}
+
+// The body begins, and sees the arguments alone.
+fn enter(
+    table: &[u32],
+    work: &mut [u32],
+    head: usize,
+    node: usize,
+    v: Value,
+    spot: Spot,
+    s: Tally,
+) -> Next
+    requires { ⌜ Callable (now table) head (row-word (now table) head ARITY) × (WORK ≤ length (now work)) × (spot .height < FRAMES) × (node < NODES) × (spot .base + spot .size + row-word (now table) head ARITY ≤ SLOTS) ⌝ }
+    ensures { λ r. ⌜ Enters (now (table .entry)) (now (work .entry)) (now (work .exit)) node head v spot s r ⌝ }
+{
+    let base = spot.base;
+    let size = spot.size;
+    let height = spot.height;
+    let count = rows::link(table, head, rows::ARITY);
+    let body = rows::link(table, head, rows::BODY);
+    frames::put(work, height, node, state::LAST, base, size, 0);
+    bind(table, work, head, base + size, count);
+    let inner = Spot {
+        base: base + size,
+        size: count,
+        height: height + 1,
+    };
+    state::begins(body, v, inner, s)
+}
+
+// Argument k has its value, which goes into its slot, and the next one begins.
+pub fn argument(
+    table: &[u32],
+    work: &mut [u32],
+    out: &mut [u8],
+    defs: usize,
+    v: Value,
+    node: usize,
+    spot: Spot,
+    s: Tally,
+) -> Next
+    requires { ⌜ Any (OfAll defs λ q. Resumes q (now table) (now work) (now out) v node ARGUMENT spot s) ⌝ }
+    ensures { λ r. ⌜ Prints (OfAll defs λ q. Resumes q (now (table .entry)) (now (work .entry)) (now (out .entry)) v node ARGUMENT spot s) (now (table .entry)) (now (work .exit)) (now (out .exit)) (3 * s .units + spot .height + 3) r ⌝ }
+{
+    let height = spot.height;
+    let mark = frames::mark(work, height);
+    let row = mark / NUMBERS;
+    let k = mark % NUMBERS;
+    let next = rows::link(table, row, rows::NEXT);
+    if next == 0 {
+        return last_argument(table, work, out, defs, v, node, k, spot, s);
+    }
+    let at = spot.base + spot.size + k;
+    slots::put(work, SLOTS_AT, at, HELD, v);
+    pass(table, work, node, next, k + 1, v, spot, s)
+}
+
+// All arguments are worked out: the function is entered. `putchar` has no body, and its one argument is printed.
+fn last_argument(
+    table: &[u32],
+    work: &mut [u32],
+    out: &mut [u8],
+    defs: usize,
+    v: Value,
+    node: usize,
+    k: usize,
+    spot: Spot,
+    s: Tally,
+) -> Next
+    requires { ⌜ Any (OfAll defs λ q. Resumes q (now table) (now work) (now out) v node ARGUMENT spot s) × LastOf (now table) (now work) (spot .height) k ⌝ }
+    ensures { λ r. ⌜ Prints (OfAll defs λ q. Resumes q (now (table .entry)) (now (work .entry)) (now (out .entry)) v node ARGUMENT spot s) (now (table .entry)) (now (work .exit)) (now (out .exit)) (3 * s .units + spot .height + 3) r ⌝ }
+{
+    let who = callee(table, defs, node);
+    match who {
+        Found::Nowhere => print(table, out, v, node, spot, s),
+        Found::At(head) => {
+            let at = spot.base + spot.size + k;
+            slots::put(work, SLOTS_AT, at, HELD, v);
+            enter(table, work, head, node, v, spot, s)
         }
     }
 }
 
-// Works out the arguments from row `row` on, and holds each while the later ones are worked out; then
-// binds it to parameter k, if there is one. Says how many arguments the call has.
-fn arguments(
-    table: &[u32],
-    work: &mut [u32],
-    out: &mut [u8],
-    row: usize,
-    k: usize,
-    callee: Callee,
-    depth: usize,
-    frame: Frame,
-    s: Tally,
-) -> Passed
-    requires { ⌜ Queued (now table) (now work) (now out) row k callee depth frame s ⌝ }
-    ensures { λ r. ⌜ Passing (λ fs. eval fs depth) (now (table .entry)) (now (work .entry)) (now (out .entry)) (now (work .exit)) (now (out .exit)) row k callee frame s r ⌝ }
+fn print(table: &[u32], out: &mut [u8], v: Value, node: usize, spot: Spot, s: Tally) -> Next
+    requires { ⌜ (TABLE ≤ length (now table)) × (node < NODES) × (s .printed ≤ length (now out)) ⌝ }
+    ensures { λ r. ⌜ Printing (row-word (now (table .entry)) node OWN) v (now (out .entry)) (now (out .exit)) spot s r ⌝ }
 {
-    if row == 0 {
-        return Passed::All(k, s);
-    }
-    let argument = rows::link(table, row, rows::EXPRESSION);
-    let next = rows::link(table, row, rows::NEXT);
-    let top = frame.base + frame.size;
-    let first = nodes::eval(table, work, out, argument, depth, frame, s);
-    match first {
-        Outcome::Halts(why, p, t) => Passed::Halts(why, p, t),
-        Outcome::Gives(v, t) => {
-            let later = arguments(table, work, out, next, k + 1, callee, depth, frame, t);
-            match later {
-                Passed::Halts(why, p, u) => Passed::Halts(why, p, u),
-                Passed::All(n, u) => {
-                    if k < callees::takes(table, callee) {
-                        callees::bind(table, work, callee, top, k, v);
-                        return Passed::All(n, u);
-                    }
-                    Passed::All(n, u)
-                }
-            }
+    let place = rows::word(table, node, rows::OWN);
+    let r = output::put(out, v, s);
+    match r {
+        Outcome::Gives(x) => {
+            let t = output::printed(out, s);
+            state::gives(x, spot, t)
         }
+        Outcome::Halts(why) => state::halts(why, place, v, spot, s),
     }
 }

@@ -1,20 +1,26 @@
-// Runs a reading that has a type. Each node uses a unit when it begins; bindings and cells lie in lent
-// work memory, which is cleared at the end, and bytes go to the lent output.
+// Runs a reading that has a type, by a loop: what waits lies as frames in lent work memory, beside the slots for bindings and
+// operands and the cells. Each node uses a unit when it begins. Work memory is cleared at the end, and bytes go to the lent
+// output.
 
-mod callees;
+mod begin;
 mod calls;
-mod nodes;
-mod operators;
+mod resume;
+mod state;
 
 ghost use mathlib.Core.Path.{_≡_};
+ghost use Prim.Native.Nat.{_+_, _≤_};
+ghost use Rattle.language.specs.Sizes.{ALLOWANCE};
+ghost use Rattle.runner.specs.Standing.{Good, Any, OfAll, Turns, Steps, Ran};
 ghost use Rattle.runner.specs.Contract.{Loaded, RunsTo, reported};
-use language::ACTIVE;
+use crate::state::Ending;
+use crate::state::Mode;
+use crate::state::Next;
+use crate::state::Spot;
 use language::WORK;
 use layout::Held;
+use layout::frames;
 use layout::memory;
 use layout::values::Value;
-use machine::state::Frame;
-use machine::state::Outcome;
 use machine::state::Tally;
 use numbers::Stop;
 
@@ -30,24 +36,69 @@ pub enum Done {
     Stop(Stop, u32, Spent),
 }
 
-fn report(outcome: Outcome) -> Done
-    ensures { λ r. ⌜ r ≡ reported outcome ⌝ }
+// A node that is to begin does.
+fn begun(table: &[u32], work: &mut [u32], out: &mut [u8], defs: usize, n: Next) -> Next
+    requires { ⌜ Any (OfAll defs λ q. Good q (now table) (now work) (now out) n) ⌝ }
+    ensures { λ r. ⌜ Turns defs (now (table .entry)) (now (work .entry)) (now (out .entry)) (now (work .exit)) (now (out .exit)) n r Mode.Begin ⌝ }
 {
-    match outcome {
-        Outcome::Gives(v, t) => {
-            let spent = Spent {
-                left: t.units,
-                printed: t.printed,
-            };
-            Done::Value(v, spent)
-        }
-        Outcome::Halts(why, place, t) => {
-            let spent = Spent {
-                left: t.units,
-                printed: t.printed,
-            };
-            Done::Stop(why, place, spent)
-        }
+    let mode = n.mode;
+    let v = n.value;
+    match mode {
+        Mode::Begin => begin::begin(table, work, defs, n.node, v, n.spot, n.tally),
+        Mode::Give => n,
+        Mode::Over => n,
+    }
+}
+
+// A value that is to be given is.
+fn given(table: &[u32], work: &mut [u32], out: &mut [u8], defs: usize, n: Next) -> Next
+    requires { ⌜ Any (OfAll defs λ q. Good q (now table) (now work) (now out) n) ⌝ }
+    ensures { λ r. ⌜ Turns defs (now (table .entry)) (now (work .entry)) (now (out .entry)) (now (work .exit)) (now (out .exit)) n r Mode.Give ⌝ }
+{
+    let mode = n.mode;
+    let v = n.value;
+    match mode {
+        Mode::Begin => n,
+        Mode::Give => resume::give(table, work, out, defs, v, n.spot, n.tally),
+        Mode::Over => n,
+    }
+}
+
+// A turn of the loop: a node begins, and if it has its value at once, that is given.
+fn turn(table: &[u32], work: &mut [u32], out: &mut [u8], defs: usize, n: Next) -> Next
+    requires { ⌜ Any (OfAll defs λ q. Good q (now table) (now work) (now out) n) ⌝ }
+    ensures { λ r. ⌜ Steps defs (now (table .entry)) (now (work .entry)) (now (out .entry)) (now (work .exit)) (now (out .exit)) n r ⌝ }
+{
+    let m = begun(table, work, out, defs, n);
+    given(table, work, out, defs, m)
+}
+
+// Turn by turn, until it is over.
+fn go(table: &[u32], work: &mut [u32], out: &mut [u8], defs: usize, first: Next) -> Next
+    requires { ⌜ Any (OfAll defs λ q. Good q (now table) (now work) (now out) first) ⌝ }
+    ensures { λ r. ⌜ Ran defs (now (table .entry)) (now (work .entry)) (now (out .entry)) (now (work .exit)) (now (out .exit)) first r ⌝ }
+{
+    let mut next = first;
+    while state::runs(next) {
+        next = turn(table, work, out, defs, next);
+    }
+    next
+}
+
+fn report(n: Next) -> Done
+    requires { ⌜ n .tally .units ≤ ALLOWANCE + 1 ⌝ }
+    ensures { λ r. ⌜ r ≡ reported n ⌝ }
+{
+    let t = n.tally;
+    let v = n.value;
+    let spent = Spent {
+        left: t.units as u32,
+        printed: t.printed,
+    };
+    let ending = n.ending;
+    match ending {
+        Ending::Value => Done::Value(v, spent),
+        Ending::Stop(why, place) => Done::Stop(why, place, spent),
     }
 }
 
@@ -56,18 +107,20 @@ pub fn run(table: &[u32], work: &mut [u32], out: &mut [u8], program: Held, allow
     requires { ⌜ Loaded (now table) (now work) program allowance ⌝ }
     ensures { λ r. ⌜ RunsTo (now (table .entry)) (now (work .entry)) (now (out .entry)) (now (work .exit)) (now (out .exit)) program allowance r ⌝ }
 {
-    let frame = Frame {
-        defs: program.functions,
+    let spot = Spot {
         base: 0,
         size: 0,
+        height: 1,
     };
-    let start = Tally {
-        units: allowance,
+    let tally = Tally {
+        units: allowance as usize,
         births: 0,
         cells: 0,
         printed: 0,
     };
-    let outcome = nodes::eval(table, work, out, program.root, ACTIVE, frame, start);
+    frames::put(work, 0, 0, state::WHOLE, 0, 0, 0);
+    let first = state::begins(program.root, Value::Nothing, spot, tally);
+    let last = go(table, work, out, program.functions, first);
     memory::clear(work, 0, WORK);
-    report(outcome)
+    report(last)
 }

@@ -1,8 +1,10 @@
-use native.Mathlib.Omega.{arith}
-use borrow.Author.Needs.{needs}
+-- What the borrow checker leaves of `slots::put`.
 use mathlib.Core.Path.{refl}
-use Rattle.layout.specs.Slots.{put-slot}
+use native.Mathlib.Omega.{arith}
 use lib.ListN.{length-set}
+use Rattle.layout.specs.Slots.{put-slot}
+use Rattle.layout.proofs.Packed.{tag-small}
+use borrow.Author.Needs.{needs}
 use Rattle.layout.proofs.slots.put.Statement.{statement}
 use Rattle.layout.proofs.slots.put.Tie as tie
 
@@ -17,6 +19,9 @@ tag-requires c κs = search needs
 
 word-requires : tie.Need-word-requires
 word-requires c κs = search needs
+
+pack-requires : tie.Need-pack-requires
+pack-requires c κs = (search needs, rw (c .before .tag .ensures) (tag-small (c .before .before .before .args .v)))
 
 mul-work : tie.Need-mul-work
 mul-work c = search needs
@@ -33,21 +38,12 @@ mul-work-2 c = search needs
 slice-write-work-2 : tie.Need-slice-write-work-2
 slice-write-work-2 c = simp length-set (omega arith)
 
-add-work-2 : tie.Need-add-work-2
-add-work-2 c = search needs
-
-mul-work-3 : tie.Need-mul-work-3
-mul-work-3 c = search needs
-
-slice-write-work-3 : tie.Need-slice-write-work-3
-slice-write-work-3 c = simp length-set (omega arith)
-
 same-length : tie.Need-same-length
 same-length c = search needs
 
 returns : tie.Need-returns
 unfolding put-slot
-returns c = rw (c .before .tag .ensures, c .word .ensures .0) (refl, c .word .ensures .1)
+returns c = rw (c .pack .ensures, c .before .before .tag .ensures, c .before .word .ensures .0) (refl, c .before .word .ensures .1)
 
 pub put-spec : {M : Type 1} → statement M
 put-spec =
@@ -57,13 +53,11 @@ put-spec =
     add-at
     tag-requires
     word-requires
+    pack-requires
     mul-work
     slice-write-work
     add-work
     mul-work-2
     slice-write-work-2
-    add-work-2
-    mul-work-3
-    slice-write-work-3
     same-length
     returns)

@@ -14,19 +14,29 @@ sub-fits c = op-64 _-ℤ_ (pos 0) (c .args .a) zero-fits (c .fits .a) (differenc
 fits-requires : tie.Need-fits-requires
 fits-requires c κs = search needs
 
-sub-t8 : tie.Need-sub-t8
-sub-t8 c = op-32 _-ℤ_ (pos 0) (c .before .before .args .a) zero-fits (c .before .before .fits .a) (difference-wide (pos 0) (c .before .before .args .a) zero-fits (c .before .before .fits .a)) _ (c .before .fits2 .ensures) (c .if1 .taken)
+sub-t6 : tie.Need-sub-t6
+sub-t6 c =
+    op-32 _-ℤ_ (pos 0) (c .before .before .args .a) zero-fits (c .before .before .fits .a)
+    (difference-wide (pos 0) (c .before .before .args .a) zero-fits (c .before .before .fits .a)) _ (c .before .fits2 .ensures) (c .if1 .taken)
 
 out-of-range-requires : tie.Need-out-of-range-requires
 out-of-range-requires c κs = search needs
 
 returns : tie.Need-returns
-returns c = rw (negated-is (c .before .before .args .a)) at (op-is _-ℤ_ (pos 0) (c .before .before .args .a) zero-fits (c .before .before .fits .a) (difference-wide (pos 0) (c .before .before .args .a) zero-fits (c .before .before .fits .a)) _ (c .before .fits2 .ensures) (c .if1 .taken) (c .before .before .args .place) (c .before .before .args .s))
+returns c =
+    rw (negated-is (c .before .before .args .a)) at
+    (op-is _-ℤ_ (pos 0) (c .before .before .args .a) zero-fits (c .before .before .fits .a)
+    (difference-wide (pos 0) (c .before .before .args .a) zero-fits (c .before .before .fits .a)) _ (c .before .fits2 .ensures)
+    (c .if1 .taken))
 
 returns-2 : tie.Need-returns-2
-returns-2 c = rw (negated-is (c .before .before .before .args .a)) at (op-over _-ℤ_ (pos 0) (c .before .before .before .args .a) zero-fits (c .before .before .before .fits .a) (difference-wide (pos 0) (c .before .before .before .args .a) zero-fits (c .before .before .before .fits .a)) _ (c .before .before .fits2 .ensures) (c .before .if1 .left) (c .before .before .before .args .place) (c .before .before .before .args .s) _ (c .out-of-range .ensures))
+returns-2 c =
+    let start = c .before .before .before in
+    rw (negated-is (start .args .a)) at
+    (op-over _-ℤ_ (pos 0) (start .args .a) zero-fits (start .fits .a) (difference-wide (pos 0) (start .args .a) zero-fits (start .fits .a)) _
+    (c .before .before .fits2 .ensures) (c .before .if1 .left) _ (c .out-of-range .ensures))
 
 pub negate-spec : {M : Type 1} → statement M
 negate-spec =
     tie.close
-    (tie.spec cast-fits sub-fits fits-requires sub-t8 out-of-range-requires returns returns-2)
+    (tie.spec cast-fits sub-fits fits-requires sub-t6 out-of-range-requires returns returns-2)

@@ -1,4 +1,4 @@
--- What the borrow checker leaves of `operators::apply_binary`.
+-- What the borrow checker leaves of `operations::apply_binary`.
 use mathlib.Core.Path.{sym, ap, _∙_}
 use mir.Syntax.{w32}
 use mir.Val.{SFits}
@@ -29,16 +29,31 @@ same-length : tie.Need-same-length
 same-length c = search needs
 
 returns : tie.Need-returns
-returns c = applies-assign (c .before .before .before .before .before .before .before .before .before .before .args .op) (c .before .before .before .before .before .before .before .before .before .before .args .place) (meant (c .before .before .before .before .before .before .before .before .before .before .args .a)) (meant (c .before .before .before .before .before .before .before .before .before .before .args .b)) (c .before .before .before .before .before .before .before .before .before .before .pre) (c .before .before .before .before .before .before .before .before .if1 .taken) (sym (ap cell-in (c .before .before .before .before .before .c .given .1)) ∙ (c .before .before .before .before .before .before .before .cell-of .ensures)) (c .before .before .assign .ensures)
+returns c =
+    let at-c = c .before .before .before .before .before in
+    let at-cell-of = at-c .before .before in
+    let at-if1 = at-cell-of .before in
+    let start = at-if1 .before .before in
+    applies-assign (start .args .op) (meant (start .args .a)) (meant (start .args .b)) (start .pre .0) (at-if1 .if1 .taken)
+    (sym (ap cell-in (at-c .c .given .1)) ∙ (at-cell-of .cell-of .ensures)) (c .before .before .assign .ensures)
 
 returns-2 : tie.Need-returns-2
-returns-2 c = stuck-assign (c .before .before .before .before .before .before .args .op) (c .before .before .before .before .before .before .args .place) (meant (c .before .before .before .before .before .before .args .a)) (meant (c .before .before .before .before .before .before .args .b)) (c .before .before .before .before .before .before .pre) (c .before .before .before .before .if1 .taken) _ (c .stuck .ensures) (sym (ap cell-in (c .before .enum-told .given .1)) ∙ (c .before .before .before .cell-of .ensures))
+returns-2 c =
+    let at-cell-of = c .before .before .before in
+    let at-if1 = at-cell-of .before in
+    let start = at-if1 .before .before in
+    stuck-assign (start .args .op) (meant (start .args .a)) (meant (start .args .b)) (start .pre .0) (at-if1 .if1 .taken) _
+    (sym (ap cell-in (c .before .enum-told .given .1)) ∙ (at-cell-of .cell-of .ensures))
 
 returns-3 : tie.Need-returns-3
-returns-3 c = applies-and (c .before .before .before .args .op) (c .before .before .before .args .place) (meant (c .before .before .before .args .a)) (c .before .before .before .args .b) (c .before .before .before .pre) (c .if2 .taken)
+returns-3 c =
+    let start = c .before .before .before in
+    applies-and (start .args .op) (meant (start .args .a)) (start .args .b) (start .pre .0) (c .if2 .taken)
 
 returns-4 : tie.Need-returns-4
-returns-4 c = applies-or (c .before .before .before .before .args .op) (c .before .before .before .before .args .place) (meant (c .before .before .before .before .args .a)) (c .before .before .before .before .args .b) (c .before .before .before .before .pre) (c .if3 .taken)
+returns-4 c =
+    let start = c .before .before .before .before in
+    applies-or (start .args .op) (meant (start .args .a)) (start .args .b) (start .pre .0) (c .if3 .taken)
 
 int-of-requires : tie.Need-int-of-requires
 int-of-requires c κs = search needs
@@ -53,7 +68,12 @@ enum-known-y : tie.Need-enum-known-y
 enum-known-y c = search needs
 
 reckon-requires : tie.Need-reckon-requires
-reckon-requires c κs = ((c .before .before .before .before .before .before .before .before .before .before .if1 .left), (c .before .before .before .before .before .before .before .before .before .if2 .left), (c .before .before .before .before .before .before .before .before .if3 .left))
+reckon-requires c κs =
+    let earlier = c .before .before .before .before .before .before .before in
+    let at-if3 = earlier .before in
+    let at-if2 = at-if3 .before in
+    let at-if1 = at-if2 .before in
+    ((at-if1 .if1 .left), (at-if2 .if2 .left), (at-if3 .if3 .left))
 
 enum-told-2 : tie.Need-enum-told-2
 enum-told-2 c = search needs
@@ -68,13 +88,41 @@ stuck-requires-3 : tie.Need-stuck-requires-3
 stuck-requires-3 c κs = search needs
 
 returns-5 : tie.Need-returns-5
-returns-5 c = let x : SFits w32 (c .before .before .before .before .before .x .given .0 .0) = search needs in let y : SFits w32 (c .before .before .y .given .0 .0) = search needs in applies-numbers (c .before .before .before .before .before .before .before .before .before .before .before .before .before .args .op) (c .before .before .before .before .before .before .before .before .before .before .before .before .before .args .place) (meant (c .before .before .before .before .before .before .before .before .before .before .before .before .before .args .a)) (meant (c .before .before .before .before .before .before .before .before .before .before .before .before .before .args .b)) (c .before .before .before .before .before .before .before .before .before .before .before .before .before .pre) _ (sym (ap number-in (c .before .before .before .before .before .x .given .1)) ∙ (c .before .before .before .before .before .before .before .before .int-of .ensures)) (sym (ap number-in (c .before .before .y .given .1)) ∙ (c .before .before .before .before .before .before .before .int-of2 .ensures)) (rw (toZ-ofZ {w = w32} x, toZ-ofZ {w = w32} y) at (c .reckon .ensures))
+returns-5 c =
+    let x : SFits w32 (c .before .before .before .before .before .x .given .0 .0) = search needs in
+    let y : SFits w32 (c .before .before .y .given .0 .0) = search needs in
+    let at-x = c .before .before .before .before .before in
+    let at-int-of2 = at-x .before .before in
+    let at-int-of = at-int-of2 .before in
+    let start = at-int-of .before .before .before .before .before in
+    applies-numbers (start .args .op) (meant (start .args .a)) (meant (start .args .b)) (start .pre .0) _
+    (sym (ap number-in (at-x .x .given .1)) ∙ (at-int-of .int-of .ensures))
+    (sym (ap number-in (c .before .before .y .given .1)) ∙ (at-int-of2 .int-of2 .ensures))
+    (rw (toZ-ofZ {w = w32} x, toZ-ofZ {w = w32} y) at (c .reckon .ensures))
 
 returns-6 : tie.Need-returns-6
-returns-6 c = stuck-right (c .before .before .before .before .before .before .before .before .before .before .before .before .args .op) (c .before .before .before .before .before .before .before .before .before .before .before .before .args .place) (meant (c .before .before .before .before .before .before .before .before .before .before .before .before .args .a)) (meant (c .before .before .before .before .before .before .before .before .before .before .before .before .args .b)) (c .before .before .before .before .before .before .before .before .before .before .before .before .pre) ((c .before .before .before .before .before .before .before .before .before .before .if1 .left), (c .before .before .before .before .before .before .before .before .before .if2 .left), (c .before .before .before .before .before .before .before .before .if3 .left)) _ (c .stuck2 .ensures) (sym (ap number-in (c .before .before .before .before .x .given .1)) ∙ (c .before .before .before .before .before .before .before .int-of .ensures)) (sym (ap number-in (c .before .enum-told2 .given .1)) ∙ (c .before .before .before .before .before .before .int-of2 .ensures))
+returns-6 c =
+    let at-x = c .before .before .before .before in
+    let at-int-of2 = at-x .before .before in
+    let at-int-of = at-int-of2 .before in
+    let at-if3 = at-int-of .before in
+    let at-if2 = at-if3 .before in
+    let at-if1 = at-if2 .before in
+    let start = at-if1 .before .before in
+    stuck-right (start .args .op) (meant (start .args .a)) (meant (start .args .b)) (start .pre .0)
+    ((at-if1 .if1 .left), (at-if2 .if2 .left), (at-if3 .if3 .left)) _ (sym (ap number-in (at-x .x .given .1)) ∙ (at-int-of .int-of .ensures))
+    (sym (ap number-in (c .before .enum-told2 .given .1)) ∙ (at-int-of2 .int-of2 .ensures))
 
 returns-7 : tie.Need-returns-7
-returns-7 c = stuck-left (c .before .before .before .before .before .before .before .before .before .args .op) (c .before .before .before .before .before .before .before .before .before .args .place) (meant (c .before .before .before .before .before .before .before .before .before .args .a)) (meant (c .before .before .before .before .before .before .before .before .before .args .b)) (c .before .before .before .before .before .before .before .before .before .pre) ((c .before .before .before .before .before .before .before .if1 .left), (c .before .before .before .before .before .before .if2 .left), (c .before .before .before .before .before .if3 .left)) _ (c .stuck3 .ensures) (sym (ap number-in (c .before .enum-told3 .given .1)) ∙ (c .before .before .before .before .int-of .ensures))
+returns-7 c =
+    let at-int-of = c .before .before .before .before in
+    let at-if3 = at-int-of .before in
+    let at-if2 = at-if3 .before in
+    let at-if1 = at-if2 .before in
+    let start = at-if1 .before .before in
+    stuck-left (start .args .op) (meant (start .args .a)) (meant (start .args .b)) (start .pre .0)
+    ((at-if1 .if1 .left), (at-if2 .if2 .left), (at-if3 .if3 .left)) _
+    (sym (ap number-in (c .before .enum-told3 .given .1)) ∙ (at-int-of .int-of .ensures))
 
 pub apply-binary-spec : {M : Type 1} → statement M
 apply-binary-spec =

@@ -13,10 +13,15 @@ enum-known-t : tie.Need-enum-known-t
 enum-known-t c = search needs
 
 returns : tie.Need-returns
-returns c = settles-and _ (c .if1 .taken) _ _ (sym (ap truth-in (c .before .before .t .given .1)) ∙ (c .before .before .before .before .flag-of .ensures))
+returns c =
+    let at-flag-of = c .before .before .before .before in
+    settles-and _ (c .if1 .taken) _ _ (sym (ap truth-in (c .before .before .t .given .1)) ∙ (at-flag-of .flag-of .ensures))
 
 returns-2 : tie.Need-returns-2
-returns-2 c = settles-or _ (c .if2 .taken) _ _ (sym (ap truth-in (c .before .before .before .t .given .1)) ∙ (c .before .before .before .before .before .flag-of .ensures))
+returns-2 c =
+    let at-t = c .before .before .before in
+    let at-flag-of = at-t .before .before in
+    settles-or _ (c .if2 .taken) _ _ (sym (ap truth-in (at-t .t .given .1)) ∙ (at-flag-of .flag-of .ensures))
 
 enum-told : tie.Need-enum-told
 enum-told c = search needs

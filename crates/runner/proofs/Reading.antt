@@ -1,0 +1,198 @@
+-- Rows that are whole are the trees that they are read back as.
+use mathlib.Core.Path.{_≡_, refl, sym, ap, subst, _∙_}
+use mathlib.Core.Bool.{true, false}
+use mathlib.Core.List.{List}
+use mathlib.Core.Option.{Option, some}
+use Prim.Native.Nat.{ℕ, zero, suc, _≤_, _<_}
+use native.Mathlib.Omega.{arith}
+use native.Mathlib.Decide.{ℕ-discrete, decLt}
+use borrow.Author.Tests.{eq-eqb, ne-eqb}
+use lib.ListN.{length, getD, List·getD-eq-default}
+use Rattle.language.specs.Sizes.{TABLE}
+use Rattle.language.specs.Tokens.{Token, At, kind-at, entry, value-at, spelling-at, past, PAST, NAME, NUMBER}
+use Rattle.language.specs.Trees.{Literal, whole, truth, trivial, Exp, Exps, more, literal}
+use Rattle.layout.specs.Table.{KIND, OWN, FIRST, SECOND, THIRD, EXPRESSION, NEXT, token-value, row-word}
+use Rattle.layout.specs.Names.{value-word, Stand}
+use Rattle.layout.specs.Rows.{literal-kind}
+use Rattle.layout.specs.Decode.{Shape, a-name, a-number, a-follow, a-group, a-block, a-call, a-let, an-if, a-while, a-constant, a-unary, a-binary, shape-of, children, build, build-if, tree-at, args-at, Node, Right, RightArgs}
+use Rattle.layout.proofs.NameLaws.{name-inside, named-at}
+use Rattle.layout.proofs.Shapes.{shape-kind, kind-of-shape}
+use Rattle.language.proofs.Meaning.CellTypes.{some-one}
+use Rattle.machine.specs.Rows.{literal-of, LiteralRow}
+use Rattle.runner.specs.Trees as Trees
+use Rattle.runner.specs.Trees.{Head, NameAt, at-name, at-literal, at-unary, at-binary, at-follow, at-group, at-block, at-call, at-bind, at-branch, at-loop, Args, args-last, args-more}
+use Rattle.runner.proofs.Few.{Few, FewAll}
+
+-- ---- tokens that are numbers
+
+-- one of the list's
+number-inside : (ts : List Token) (i : ℕ) → At ts i NUMBER → i < length ts
+unfolding kind-at
+number-inside ts i e = go (decLt i (length ts))
+  where
+    go : Dec (i < length ts) → i < length ts
+    go (yes h) = h
+    go (no h) =
+        let p : getD ts i past ≡ past = List·getD-eq-default ts past (omega (arith, h)) in
+        let z : PAST ≡ NUMBER = sym (ap (λ (t : Token). t .kind) p) ∙ e in
+        absurd (omega arith)
+
+-- its fourth word is its value
+number-at : {w : List ℕ} {count : ℕ} {ts : List Token} → Stand w count ts → (i : ℕ) → At ts i NUMBER → token-value w i ≡ value-at ts i
+unfolding kind-at value-at value-word
+number-at {w} {count} {ts} st i e = let l = number-inside ts i e in st .values i (omega (arith, st .long)) ∙ rw e refl
+
+-- ---- the parts of a row
+
+module _ (right rights : ℕ → Type 0) (ts : List Token) (w : List ℕ) (i : ℕ) (n : Node right rights ts w i) (sh : Shape)
+    (e : shape-of (row-word w i KIND) ≡ some sh) where
+  shape-is : n .shape ≡ sh
+  shape-is = some-one (sym (n .known) ∙ e)
+
+  part-first : 1 ≤ children sh → right (row-word w i FIRST)
+  part-first l = n .first (subst (λ (x : Shape). 1 ≤ children x) (sym shape-is) l) .1
+
+  part-second : 2 ≤ children sh → right (row-word w i SECOND)
+  part-second l = n .second (subst (λ (x : Shape). 2 ≤ children x) (sym shape-is) l) .1
+
+  part-third : 3 ≤ children sh → right (row-word w i THIRD)
+  part-third l = n .third (subst (λ (x : Shape). 3 ≤ children x) (sym shape-is) l) .1
+
+-- ---- a row by its shape
+
+abbrev built : List Token → List ℕ → (ℕ → Exp) → (ℕ → Exps) → ℕ → Shape → Exp
+built ts w tree args i sh =
+    build ts sh (row-word w i OWN) (tree (row-word w i FIRST)) (tree (row-word w i SECOND)) (tree (row-word w i THIRD)) (args (row-word w i FIRST))
+
+module _ (ts : List Token) (w : List ℕ) (long : TABLE ≤ length w) (stand : Stand w (length ts) ts) where
+  abbrev Tree : ℕ → Exp → Type 0
+  Tree i e = Trees.At ts w i e
+
+  -- a token that is a name
+  pub name-at : (i : ℕ) → At ts i NAME → NameAt ts w i (spelling-at ts i)
+  name-at i a = let l = name-inside ts i a in record { inside = omega (arith, stand .few); named = named-at stand i a }
+
+  module _ (right rights : ℕ → Type 0) (tree : ℕ → Exp) (args : ℕ → Exps) (ih : (j : ℕ) → right j → Few (tree j) → Tree j (tree j))
+      (ihs : (j : ℕ) → rights j → FewAll (args j) → Args ts w j (args j)) (i : ℕ) (n : Node right rights ts w i) where
+    abbrev F : ℕ
+    F = row-word w i FIRST
+
+    abbrev S : ℕ
+    S = row-word w i SECOND
+
+    abbrev T : ℕ
+    T = row-word w i THIRD
+
+    head : (sh : Shape) → shape-of (row-word w i KIND) ≡ some sh → Head w i (shape-kind sh) (row-word w i OWN)
+    head sh e = record { inside = n .inside; kind-is = kind-of-shape (row-word w i KIND) sh e; own-is = refl }
+
+    plain-row : {k : ℕ} → row-word w i KIND ≡ k → (k ≡ NUMBER → ⊥) → LiteralRow w i
+    plain-row e h = record { long = long; inside = n .inside; token = λ d. absurd (h (sym e ∙ d)); small = λ d. absurd (h (sym e ∙ d)) }
+
+    module _ (e : row-word w i KIND ≡ NUMBER) where
+      number-token : At ts (row-word w i OWN) NUMBER
+      number-token = n .valued e
+
+      number-row : LiteralRow w i
+      number-row = record {
+        long = long;
+        inside = n .inside;
+        token = λ _. let l = number-inside ts _ number-token in omega (arith, stand .few, stand .long);
+        small = λ _. let l = stand .written _ number-token in omega (arith, number-at stand _ number-token);
+      }
+
+      number-literal : literal-of w i ≡ whole (value-at ts (row-word w i OWN))
+      unfolding literal-of
+      number-literal = rw e (ap whole (number-at stand _ number-token))
+
+    constant : (l : Literal) → shape-of (row-word w i KIND) ≡ some (a-constant l) → Tree i (literal (row-word w i OWN) l)
+    unfolding shape-kind literal-kind literal-of shape-of entry
+    constant (whole m) e =
+        let k = kind-of-shape (row-word w i KIND) (a-constant (whole m)) e in
+        let q : _≡_ {A = Option Shape} (some a-number) (some (a-constant (whole m))) = rw k at e in
+        absurd (let z : _≡_ {A = ℕ} 0 1 = cc in omega arith)
+    constant (truth true) e =
+        let k = kind-of-shape (row-word w i KIND) (a-constant (truth true)) e in
+        at-literal {l = truth true} (head _ e) (rw k refl) (plain-row k (λ d. omega arith))
+    constant (truth false) e =
+        let k = kind-of-shape (row-word w i KIND) (a-constant (truth false)) e in
+        at-literal {l = truth false} (head _ e) (rw k refl) (plain-row k (λ d. omega arith))
+    constant trivial e =
+        let k = kind-of-shape (row-word w i KIND) (a-constant trivial) e in
+        at-literal {l = trivial} (head _ e) (rw k refl) (plain-row k (λ d. omega arith))
+
+    first-part : (sh : Shape) → shape-of (row-word w i KIND) ≡ some sh → 1 ≤ children sh → Few (tree F) → Tree F (tree F)
+    first-part sh e l f = ih F (part-first right rights ts w i n sh e l) f
+
+    second-part : (sh : Shape) → shape-of (row-word w i KIND) ≡ some sh → 2 ≤ children sh → Few (tree S) → Tree S (tree S)
+    second-part sh e l f = ih S (part-second right rights ts w i n sh e l) f
+
+    third-part : (sh : Shape) → shape-of (row-word w i KIND) ≡ some sh → 3 ≤ children sh → Few (tree T) → Tree T (tree T)
+    third-part sh e l f = ih T (part-third right rights ts w i n sh e l) f
+
+    pub by-shape : (sh : Shape) → shape-of (row-word w i KIND) ≡ some sh → Few (built ts w tree args i sh) → Tree i (built ts w tree args i sh)
+    unfolding build shape-kind Few literal-kind
+    by-shape a-name e f = at-name (head a-name e) (name-at _ (n .named (kind-of-shape _ _ e)))
+    by-shape a-number e f =
+        let k = kind-of-shape (row-word w i KIND) a-number e in
+        at-literal {l = whole (value-at ts (row-word w i OWN))} (head a-number e) (number-literal k) (number-row k)
+    by-shape (a-constant l) e f = constant l e
+    by-shape (a-unary o) e f = at-unary (head (a-unary o) e) (first-part (a-unary o) e (omega arith) f)
+    by-shape a-group e f = at-group (head a-group e) (first-part a-group e (omega arith) f)
+    by-shape a-block e f = at-block (head a-block e) (first-part a-block e (omega arith) f)
+    by-shape (a-binary o) e f =
+        at-binary (head (a-binary o) e) (first-part (a-binary o) e (omega arith) (f .0)) (second-part (a-binary o) e (omega arith) (f .1))
+    by-shape a-follow e f =
+        at-follow (head a-follow e) (first-part a-follow e (omega arith) (f .0)) (second-part a-follow e (omega arith) (f .1))
+    by-shape a-while e f = at-loop (head a-while e) (first-part a-while e (omega arith) (f .0)) (second-part a-while e (omega arith) (f .1))
+    by-shape a-let e f =
+        at-bind (head a-let e) (name-at _ (n .bound (kind-of-shape _ _ e))) (first-part a-let e (omega arith) (f .0))
+        (second-part a-let e (omega arith) (f .1))
+    by-shape an-if e f =
+        at-branch (head an-if e) (first-part an-if e (omega arith) (f .0)) (second-part an-if e (omega arith) (f .1))
+        (third-part an-if e (omega arith) (f .2))
+    by-shape a-call e f =
+        let k = kind-of-shape (row-word w i KIND) a-call e in
+        at-call (head a-call e) (name-at _ (n .called k)) (f .0) (ihs F (n .args k .1) (f .1))
+
+  -- ---- arguments
+
+  none-args : (h i : ℕ) → i ≡ 0 → Args ts w i (args-at (suc h) ts w i)
+  unfolding args-at
+  none-args h i e = rw (eq-eqb i 0 e) (args-last e)
+
+  some-args : (h i : ℕ) → Dec (i ≡ 0) → RightArgs (suc h) ts w i → FewAll (args-at (suc h) ts w i)
+      → ((j : ℕ) → Right h ts w j → Few (tree-at h ts w j) → Tree j (tree-at h ts w j))
+      → ((j : ℕ) → RightArgs h ts w j → FewAll (args-at h ts w j) → Args ts w j (args-at h ts w j))
+      → Args ts w i (args-at (suc h) ts w i)
+  unfolding args-at RightArgs FewAll
+  some-args h i (yes e) r f ih ihs = none-args h i e
+  some-args h i (no n) r f ih ihs =
+      let a = r n in
+      let e : args-at (suc h) ts w i ≡ more (tree-at h ts w (row-word w i EXPRESSION)) (args-at h ts w (row-word w i NEXT)) = rw (ne-eqb i 0 n) refl in
+      let g = subst FewAll e f in
+      subst (λ (x : Exps). Args ts w i x) (sym e) (args-more n (a .inside) (ih _ (a .exp .1) (g .0)) (ihs _ (a .next .1) (g .1)))
+
+  -- ---- every row
+
+  row-at : (h i : ℕ) → Right (suc h) ts w i → Few (tree-at (suc h) ts w i)
+      → ((j : ℕ) → Right h ts w j → Few (tree-at h ts w j) → Tree j (tree-at h ts w j))
+      → ((j : ℕ) → RightArgs h ts w j → FewAll (args-at h ts w j) → Args ts w j (args-at h ts w j))
+      → Tree i (tree-at (suc h) ts w i)
+  unfolding Right tree-at build-if
+  row-at h i r f ih ihs =
+      let e : tree-at (suc h) ts w i ≡ built ts w (λ j. tree-at h ts w j) (λ j. args-at h ts w j) i (r .shape) = rw (r .known) refl in
+      subst (Tree i) (sym e)
+      (by-shape (λ j. Right h ts w j) (λ j. RightArgs h ts w j) (λ j. tree-at h ts w j) (λ j. args-at h ts w j) ih ihs i r (r .shape) (r .known)
+      (subst Few e f))
+
+  mutual
+    unfolding Right args-at
+
+    pub at-of : (h i : ℕ) → Right h ts w i → Few (tree-at h ts w i) → Tree i (tree-at h ts w i)
+    at-of zero i r f = absurd r
+    at-of (suc h) i r f = row-at h i r f (λ j r f. at-of h j r f) (λ j r f. args-of h j r f)
+
+    pub args-of : (h i : ℕ) → RightArgs h ts w i → FewAll (args-at h ts w i) → Args ts w i (args-at h ts w i)
+    args-of zero i r f = args-last r
+    args-of (suc h) i r f = some-args h i (ℕ-discrete i 0) r f (λ j r f. at-of h j r f) (λ j r f. args-of h j r f)

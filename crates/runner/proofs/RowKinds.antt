@@ -1,0 +1,129 @@
+-- Rows by their kinds: which nodes wait for a part, in which phase, and kinds that cannot be the same.
+use mathlib.Core.Path.{_≡_, refl, sym, ap, _∙_}
+use mathlib.Core.Bool.{Bool, true, false}
+use Prim.Native.Nat.{ℕ, _≤_}
+use native.Mathlib.Omega.{arith}
+use Rattle.language.specs.Tokens.{LET, IF, WHILE, SEMI, LPAR, LBRACE}
+use Rattle.language.specs.Trees.{Literal, whole, truth, trivial, Unary, minus, fetch, new, Binary}
+use Rattle.layout.specs.Rows.{CALL, literal-kind, unary-kind, binary-kind}
+use Rattle.runner.specs.Phases.{LAST, UNARY, LEFT, BEFORE, INSIDE, BOUND, CONDITION, TEST, waits, phase-of}
+
+-- kinds that wait, and those that do not
+pub unary-waits : (o : Unary) → waits (unary-kind o) ≡ true
+unfolding waits unary-kind
+unary-waits minus = refl
+unary-waits Unary.not = refl
+unary-waits fetch = refl
+unary-waits new = refl
+
+pub binary-waits : (o : Binary) → waits (binary-kind o) ≡ true
+unfolding waits binary-kind
+binary-waits Binary.add = refl
+binary-waits Binary.sub = refl
+binary-waits Binary.mul = refl
+binary-waits Binary.div = refl
+binary-waits Binary.less = refl
+binary-waits Binary.equal = refl
+binary-waits Binary.and = refl
+binary-waits Binary.or = refl
+binary-waits Binary.assign = refl
+
+pub literal-waits : (l : Literal) → waits (literal-kind l) ≡ false
+unfolding waits literal-kind
+literal-waits (whole n) = refl
+literal-waits (truth true) = refl
+literal-waits (truth false) = refl
+literal-waits trivial = refl
+
+pub literal-range : (l : Literal) → (2 ≤ literal-kind l) × (literal-kind l ≤ 19)
+unfolding literal-kind
+literal-range (whole n) = (omega arith, omega arith)
+literal-range (truth true) = (omega arith, omega arith)
+literal-range (truth false) = (omega arith, omega arith)
+literal-range trivial = (omega arith, omega arith)
+
+pub semi-waits : waits SEMI ≡ true
+unfolding waits
+semi-waits = refl
+
+pub group-waits : waits LPAR ≡ true
+unfolding waits
+group-waits = refl
+
+pub block-waits : waits LBRACE ≡ true
+unfolding waits
+block-waits = refl
+
+pub call-waits : waits CALL ≡ true
+unfolding waits
+call-waits = refl
+
+pub let-waits : waits LET ≡ true
+unfolding waits
+let-waits = refl
+
+pub if-waits : waits IF ≡ true
+unfolding waits
+if-waits = refl
+
+pub while-waits : waits WHILE ≡ true
+unfolding waits
+while-waits = refl
+
+pub unary-phase : (o : Unary) → phase-of (unary-kind o) ≡ UNARY
+unfolding phase-of unary-kind
+unary-phase minus = refl
+unary-phase Unary.not = refl
+unary-phase fetch = refl
+unary-phase new = refl
+
+pub binary-phase : (o : Binary) → phase-of (binary-kind o) ≡ LEFT
+unfolding phase-of binary-kind
+binary-phase Binary.add = refl
+binary-phase Binary.sub = refl
+binary-phase Binary.mul = refl
+binary-phase Binary.div = refl
+binary-phase Binary.less = refl
+binary-phase Binary.equal = refl
+binary-phase Binary.and = refl
+binary-phase Binary.or = refl
+binary-phase Binary.assign = refl
+
+pub group-phase : phase-of LPAR ≡ LAST
+unfolding phase-of
+group-phase = refl
+
+pub block-phase : phase-of LBRACE ≡ INSIDE
+unfolding phase-of
+block-phase = refl
+
+pub semi-phase : phase-of SEMI ≡ BEFORE
+unfolding phase-of
+semi-phase = refl
+
+pub let-phase : phase-of LET ≡ BOUND
+unfolding phase-of
+let-phase = refl
+
+pub if-phase : phase-of IF ≡ CONDITION
+unfolding phase-of
+if-phase = refl
+
+pub while-phase : phase-of WHILE ≡ TEST
+unfolding phase-of
+while-phase = refl
+
+-- ---- kinds that differ
+
+-- true is not false
+pub clash-bool : {A : Type 0} {b : Bool} → b ≡ true → b ≡ false → A
+clash-bool e f = let z : _≡_ {A = Bool} true false = sym e ∙ f in let y : _≡_ {A = ℕ} 0 1 = cc in absurd (omega arith)
+
+pub clash : {A : Type 0} {x a b : ℕ} → x ≡ a → x ≡ b → (a ≡ b → ⊥) → A
+clash p r n = absurd (n (sym p ∙ r))
+
+pub clash-waits : {A : Type 0} {x a : ℕ} → x ≡ a → waits x ≡ false → waits a ≡ true → A
+clash-waits p f t = clash-bool t (ap waits (sym p) ∙ f)
+
+pub clash-still : {A : Type 0} {x a : ℕ} → x ≡ a → waits x ≡ true → waits a ≡ false → A
+clash-still p t f = clash-bool (ap waits (sym p) ∙ t) f

@@ -1,0 +1,173 @@
+// A node begins: it uses a unit, and gives its value, or waits in a frame while its first part is worked out.
+ghost use mathlib.Core.Path.{_≡_};
+ghost use Prim.Native.Nat.{_+_, _*_, _-_, _≤_, _<_};
+ghost use lib.ListN.{length};
+ghost use Rattle.language.specs.Sizes.{NODES, WORK};
+ghost use Rattle.language.specs.Tokens.{NAME};
+ghost use Rattle.layout.specs.Table.{KIND, row-word};
+ghost use Rattle.layout.specs.Frames.{FRAMES, SIZES, put-frame};
+ghost use Rattle.runner.specs.Phases.{waits, phase-of};
+ghost use Rattle.runner.specs.Standing.{Begins, Starts, Some, Goes, Of, charged, above, begun};
+use crate::calls;
+use crate::state;
+use crate::state::Next;
+use crate::state::Spot;
+use language::ACTIVE;
+use language::kinds;
+use layout::frames;
+use layout::rows;
+use layout::token;
+use layout::values::Value;
+use machine::bindings;
+use machine::leaves;
+use machine::state::Tally;
+use numbers::Stop;
+
+// One unit less.
+fn charge(s: Tally) -> Tally
+    requires { ⌜ 1 ≤ s .units ⌝ }
+    ensures { λ r. ⌜ r ≡ charged s ⌝ }
+{
+    Tally {
+        units: s.units - 1,
+        births: s.births,
+        cells: s.cells,
+        printed: s.printed,
+    }
+}
+
+// `defs` functions can be called.
+pub fn begin(
+    table: &[u32],
+    work: &mut [u32],
+    defs: usize,
+    node: usize,
+    v: Value,
+    spot: Spot,
+    s: Tally,
+) -> Next
+    requires { ⌜ Some (Of defs λ q o. Begins q (now table) (now work) o node spot s) ⌝ }
+    ensures { λ r. ⌜ Goes (Of defs λ q o. Begins q (now (table .entry)) (now (work .entry)) o node spot s) (now (table .entry)) (now (work .exit)) (3 * s .units + spot .height + 1) r ⌝ }
+{
+    if machine::state::exhausted(s) {
+        let place = rows::word(table, node, rows::OWN);
+        return state::halts(Stop::NoUnit, place, v, spot, s);
+    }
+    let t = charge(s);
+    let height = spot.height;
+    if height == ACTIVE + 1 {
+        let place = rows::word(table, node, rows::OWN);
+        return state::halts(Stop::TooDeep, place, v, spot, t);
+    }
+    start(table, work, defs, node, v, spot, t)
+}
+
+// Does a node of this kind wait for its first part? All do but names, literals and calls.
+fn waits(kind: u32) -> bool
+    ensures { λ r. ⌜ r ≡ waits kind ⌝ }
+{
+    if kinds::PLUS <= kind {
+        return true;
+    }
+    if kind == kinds::LET {
+        return true;
+    }
+    if kind == kinds::IF {
+        return true;
+    }
+    kind == kinds::WHILE
+}
+
+// In which phase.
+fn phase_of(kind: u32) -> u32
+    ensures { λ r. ⌜ r ≡ phase-of kind ⌝ }
+{
+    if kind == kinds::LPAR {
+        return state::LAST;
+    }
+    if kind == kinds::LBRACE {
+        return state::INSIDE;
+    }
+    if kind == kinds::SEMI {
+        return state::BEFORE;
+    }
+    if kind == kinds::LET {
+        return state::BOUND;
+    }
+    if kind == kinds::IF {
+        return state::CONDITION;
+    }
+    if kind == kinds::WHILE {
+        return state::TEST;
+    }
+    if rows::PREFIX <= kind {
+        return state::UNARY;
+    }
+    state::LEFT
+}
+
+// A node that has used its unit.
+fn start(
+    table: &[u32],
+    work: &mut [u32],
+    defs: usize,
+    node: usize,
+    v: Value,
+    spot: Spot,
+    s: Tally,
+) -> Next
+    requires { ⌜ Some (Of defs λ q o. Starts q (now table) (now work) o node spot s) ⌝ }
+    ensures { λ r. ⌜ Goes (Of defs λ q o. Starts q (now (table .entry)) (now (work .entry)) o node spot s) (now (table .entry)) (now (work .exit)) (3 * s .units + spot .height + 3) r ⌝ }
+{
+    let kind = rows::word(table, node, rows::KIND);
+    if kind == kinds::NAME {
+        return look(table, work, node, spot, s);
+    }
+    if kind == rows::CALL {
+        return calls::call(table, work, defs, node, v, spot, s);
+    }
+    if waits(kind) {
+        let phase = phase_of(kind);
+        let first = rows::link(table, node, rows::FIRST);
+        return wait(work, node, phase, first, v, spot, s);
+    }
+    let found = leaves::literal(table, node);
+    state::gives(found, spot, s)
+}
+
+// What the nearest binding of the name holds.
+fn look(table: &[u32], work: &[u32], node: usize, spot: Spot, s: Tally) -> Next
+    requires { ⌜ Some (λ q o. Starts q (now table) (now work) o node spot s) × (row-word (now table) node KIND ≡ NAME) ⌝ }
+    ensures { λ r. ⌜ Goes (λ q o. Starts q (now (table .entry)) (now (work .entry)) o node spot s) (now (table .entry)) (now (work .entry)) (3 * s .units + spot .height + 3) r ⌝ }
+{
+    let own = rows::link(table, node, rows::OWN);
+    let key = token::value(table, own);
+    let v = bindings::nearest(work, spot.base, spot.size, key);
+    state::gives(v, spot, s)
+}
+
+// A frame for the node, and its part begins. The mark is how many cells are live, for a Block to free those that come.
+fn wait(
+    work: &mut [u32],
+    node: usize,
+    phase: u32,
+    part: usize,
+    v: Value,
+    spot: Spot,
+    s: Tally,
+) -> Next
+    requires { ⌜ (WORK ≤ length (now work)) × (spot .height < FRAMES) × (node < NODES) × (spot .base ≤ WORK) × (spot .size < SIZES) × (s .cells ≤ WORK) ⌝ }
+    ensures { λ r. ⌜ (now (work .exit) ≡ put-frame (now (work .entry)) (spot .height) node phase (spot .base) (spot .size) (s .cells)) × (r ≡ begun part v (above (spot .base) (spot .size) spot) s) ⌝ }
+{
+    let base = spot.base;
+    let size = spot.size;
+    let height = spot.height;
+    let cells = s.cells;
+    frames::put(work, height, node, phase, base, size, cells);
+    let inner = Spot {
+        base,
+        size,
+        height: height + 1,
+    };
+    state::begins(part, v, inner, s)
+}
