@@ -62,9 +62,9 @@ extern "C" {
 #define GRUMPY_CHECK_PAIR_REPORT 6
 #define GRUMPY_RUN_PAIR_REPORT 9
 
-/* bytes of stack that a thread which calls these functions should have: measured on the worst sheets that a
- * search has found, not proved */
-#define GRUMPY_STACK 2097152
+/* bytes of stack that a thread which calls these functions should have: worked out from the compiled code
+ * (tools/stack) and tried on the worst sheets that a search has found, not proved */
+#define GRUMPY_STACK 1048576
 
 /* the largest source in bytes, and the largest allowance in units */
 #define GRUMPY_SOURCE 8192
