@@ -31,9 +31,6 @@ pub trait Other {
 
 const MARGIN: usize = 16;
 
-/// Of a sheet with very many LFs these are enough.
-const MOST_CUTS: usize = 12;
-
 /// A memory filled at random, of which only the middle is lent.
 struct Memory<T> {
     all: Vec<T>,
@@ -89,10 +86,8 @@ pub fn compare(other: &dyn Other, trial: &Trial) -> Result<(), String> {
         }
     }
     // A sheet cut in two says the same wherever it is cut (R07.2).
-    if trial.fill.is_multiple_of(20) {
-        for cut in trial.cuts().iter().take(MOST_CUTS) {
-            hold(other, cut, Service::RunPair)?;
-        }
+    for cut in trial.cuts() {
+        hold(other, &cut, Service::RunPair)?;
     }
     if trial.fill.is_multiple_of(2) {
         promise::kept(other, trial).map_err(|e| format!("promise: {e}"))?;
@@ -183,6 +178,10 @@ mod tests {
                     call.report[3] = call.allowance
                 }
                 "the other sheet" if call.service == Service::RunPair => call.report[6] ^= 3,
+                "the other sheet behind four LFs" if call.service == Service::RunPair => {
+                    let feeds = call.source.iter().filter(|byte| **byte == b'\n');
+                    call.report[6] ^= if feeds.count() == 4 { 3 } else { 0 };
+                }
                 "no line feed" if call.service == Service::Write && number == 0 => {
                     output[used - 1] = b' '
                 }
@@ -252,6 +251,7 @@ mod tests {
             "a word past the end",
             "a byte too many",
             "the other sheet",
+            "the other sheet behind four LFs",
             "no line feed",
         ] {
             assert!(failures(fault) > 0, "{fault}");

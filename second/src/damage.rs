@@ -3,16 +3,10 @@
 use crate::chance::Chance;
 use crate::text::{MARKS, RESERVED};
 
-const GAPS: [&str; 8] = [
-    " ",
-    "\n",
-    "\t",
-    "\r\n",
-    "  ",
-    "/* a */",
-    "// b\n",
-    "/*/**/ // */\n",
-];
+const GAPS: [&str; 6] = [" ", "\t", "\r", "  ", "/* a */", "/*/**/ // */"];
+
+/// Gaps with an LF. A sheet gets few of them, because it is cut at every one.
+const BREAKS: [&str; 5] = ["\n", "\r\n", "// b\n", "/*/*\n*/ // */", " \n"];
 const LOOSE: [&str; 19] = [
     "x",
     "y",
@@ -40,14 +34,25 @@ const LOOSE: [&str; 19] = [
 pub fn spell(chance: &mut Chance, tokens: &[String]) -> Vec<u8> {
     let gap_one_in = chance.pick(&[1, 2, 4, 1000]);
     let only_spaces = chance.one_in(2);
+    let breaks = chance.pick(&[0, 0, 1, 2, 3, 8]);
+    let broken: Vec<usize> = (0..breaks)
+        .map(|_| chance.below(tokens.len() + 1))
+        .collect();
     let mut text = String::new();
     for (index, token) in tokens.iter().enumerate() {
-        if index > 0 && (runs_together(&tokens[index - 1], token) || chance.one_in(gap_one_in)) {
-            // A comment right after a slash would be another comment.
-            let plain = only_spaces || tokens[index - 1] == "/";
+        let apart = index > 0 && runs_together(&tokens[index - 1], token);
+        // A comment right after a slash would be another comment.
+        let slash = index > 0 && tokens[index - 1] == "/";
+        if broken.contains(&index) {
+            text += if slash { "\n" } else { chance.pick(&BREAKS) };
+        } else if apart || (index > 0 && chance.one_in(gap_one_in)) {
+            let plain = only_spaces || slash;
             text += if plain { " " } else { chance.pick(&GAPS) };
         }
         text += token;
+    }
+    if broken.contains(&tokens.len()) {
+        text.push('\n');
     }
     text.into_bytes()
 }

@@ -29,7 +29,7 @@ pub fn many_words(chance: &mut Chance) -> String {
 pub fn long_sheet(chance: &mut Chance) -> String {
     let start = part(chance, &Type::Int);
     let length = chance.between(8190, 8194);
-    let fill = chance.pick(&[" ", "\n", "-"]);
+    let fill = chance.pick(&[" ", "\r", "-"]);
     let comment = if fill == "-" { "//" } else { "" };
     let missing = length.saturating_sub(start.len() + comment.len());
     format!("{start}{comment}{}", fill.repeat(missing))
