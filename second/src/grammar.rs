@@ -1,32 +1,51 @@
-//! Tokens to a tree, one function for each rule of the grammar.
+//! Tokens to a tree, one function for each rule of the grammar; those from
+//! Assign down to Atom are in `operators`.
 
 use crate::text::{Kind, Token};
-use crate::tree::{Form, Function, Infix, Node, Parameter, Prefix, Program};
+use crate::tree::{infix, Form, Function, Infix, Node, Parameter, Program};
 use crate::types::Type;
 
 /// The only reading of the tokens, or nothing.
 pub fn read(tokens: &[Token]) -> Option<Program> {
-    let mut reader = Reader { tokens, at: 0 };
-    let program = reader.program()?;
-    (reader.at == tokens.len()).then_some(program)
+    read_by(Reader {
+        tokens,
+        at: 0,
+        let_after_else: true,
+    })
 }
 
-struct Reader<'a> {
+/// The reading by the grammar of page 01, in which a let after `else` needs
+/// brackets.
+pub fn read_before(tokens: &[Token]) -> Option<Program> {
+    read_by(Reader {
+        tokens,
+        at: 0,
+        let_after_else: false,
+    })
+}
+
+fn read_by(mut reader: Reader) -> Option<Program> {
+    let program = reader.program()?;
+    (reader.at == reader.tokens.len()).then_some(program)
+}
+
+pub struct Reader<'a> {
     tokens: &'a [Token],
-    at: usize,
+    pub at: usize,
+    let_after_else: bool,
 }
 
 impl Reader<'_> {
-    fn here(&self) -> Option<&Token> {
+    pub fn here(&self) -> Option<&Token> {
         self.tokens.get(self.at)
     }
 
-    fn sees(&self, fixed: &str) -> bool {
+    pub fn sees(&self, fixed: &str) -> bool {
         matches!(self.here(), Some(Token { kind: Kind::Fixed(f), .. }) if *f == fixed)
     }
 
     /// Passes this fixed token and gives its place.
-    fn take(&mut self, fixed: &str) -> Option<usize> {
+    pub fn take(&mut self, fixed: &str) -> Option<usize> {
         if !self.sees(fixed) {
             return None;
         }
@@ -35,12 +54,12 @@ impl Reader<'_> {
     }
 
     /// Passes whichever of these tokens stands here.
-    fn take_any<T: Copy>(&mut self, choices: &[(&str, T)]) -> Option<(usize, T)> {
+    pub fn take_any<T: Copy>(&mut self, choices: &[(&str, T)]) -> Option<(usize, T)> {
         let (fixed, meaning) = choices.iter().find(|(f, _)| self.sees(f))?;
         Some((self.take(fixed)?, *meaning))
     }
 
-    fn name(&mut self) -> Option<(String, usize)> {
+    pub fn name(&mut self) -> Option<(String, usize)> {
         let token = self.here()?;
         let Kind::Name(name) = &token.kind else {
             return None;
@@ -81,7 +100,7 @@ impl Reader<'_> {
 
     /// What stands between an opening parenthesis already passed and its
     /// closing one: nothing, or items with commas between them.
-    fn list<T>(&mut self, item: fn(&mut Self) -> Option<T>) -> Option<Vec<T>> {
+    pub fn list<T>(&mut self, item: fn(&mut Self) -> Option<T>) -> Option<Vec<T>> {
         let mut items = Vec::new();
         if self.take(")").is_some() {
             return Some(items);
@@ -111,7 +130,7 @@ impl Reader<'_> {
         Some(kind)
     }
 
-    fn block(&mut self) -> Option<Node> {
+    pub fn block(&mut self) -> Option<Node> {
         let place = self.take("{")?;
         let inside = self.seq()?;
         self.take("}")?;
@@ -121,7 +140,7 @@ impl Reader<'_> {
         })
     }
 
-    fn seq(&mut self) -> Option<Node> {
+    pub fn seq(&mut self) -> Option<Node> {
         if self.sees("let") {
             return self.binding();
         }
@@ -172,124 +191,34 @@ impl Reader<'_> {
     /// A let here reaches as far right as it can, so nothing of the sequence
     /// is left for the `if` to be followed by.
     fn last_branch(&mut self) -> Option<Node> {
-        match self.sees("let") {
+        match self.let_after_else && self.sees("let") {
             true => self.binding(),
             false => self.item(),
         }
     }
-
-    fn assign(&mut self) -> Option<Node> {
-        self.at_most_once(&[(":=", Infix::Write)], Reader::or)
-    }
-
-    fn or(&mut self) -> Option<Node> {
-        self.repeated(&[("||", Infix::Or)], Reader::and)
-    }
-
-    fn and(&mut self) -> Option<Node> {
-        self.repeated(&[("&&", Infix::And)], Reader::cmp)
-    }
-
-    fn cmp(&mut self) -> Option<Node> {
-        self.at_most_once(&[("<", Infix::Less), ("==", Infix::Same)], Reader::sum)
-    }
-
-    fn sum(&mut self) -> Option<Node> {
-        self.repeated(&[("+", Infix::Plus), ("-", Infix::Minus)], Reader::prod)
-    }
-
-    fn prod(&mut self) -> Option<Node> {
-        self.repeated(&[("*", Infix::Times), ("/", Infix::Over)], Reader::un)
-    }
-
-    fn repeated(
-        &mut self,
-        marks: &[(&str, Infix)],
-        part: fn(&mut Self) -> Option<Node>,
-    ) -> Option<Node> {
-        let mut left = part(self)?;
-        while let Some((place, mark)) = self.take_any(marks) {
-            left = infix(place, mark, left, part(self)?);
-        }
-        Some(left)
-    }
-
-    fn at_most_once(
-        &mut self,
-        marks: &[(&str, Infix)],
-        part: fn(&mut Self) -> Option<Node>,
-    ) -> Option<Node> {
-        let left = part(self)?;
-        match self.take_any(marks) {
-            Some((place, mark)) => Some(infix(place, mark, left, part(self)?)),
-            None => Some(left),
-        }
-    }
-
-    fn un(&mut self) -> Option<Node> {
-        let prefixes = [
-            ("-", Prefix::Minus),
-            ("not", Prefix::Not),
-            ("!", Prefix::Read),
-            ("ref", Prefix::Cell),
-        ];
-        match self.take_any(&prefixes) {
-            Some((place, prefix)) => {
-                let inside = Box::new(self.un()?);
-                Some(Node {
-                    place,
-                    form: Form::Prefix(prefix, inside),
-                })
-            }
-            None => self.atom(),
-        }
-    }
-
-    fn atom(&mut self) -> Option<Node> {
-        let Token { kind, place, .. } = self.here()?.clone();
-        let form = match kind {
-            Kind::Fixed("{") => return self.block(),
-            Kind::Fixed("(") => return self.group(),
-            Kind::Name(_) => return self.variable_or_call(),
-            Kind::Number(value) => Form::Number(value),
-            Kind::Fixed("true") => Form::Truth(true),
-            Kind::Fixed("false") => Form::Truth(false),
-            Kind::Fixed("tt") => Form::Unit,
-            Kind::Fixed(_) => return None,
-        };
-        self.at += 1;
-        Some(Node { place, form })
-    }
-
-    fn group(&mut self) -> Option<Node> {
-        let place = self.take("(")?;
-        let inside = self.seq()?;
-        self.take(")")?;
-        Some(Node {
-            place,
-            form: Form::Group(Box::new(inside)),
-        })
-    }
-
-    fn variable_or_call(&mut self) -> Option<Node> {
-        let (name, place) = self.name()?;
-        if self.take("(").is_none() {
-            return Some(Node {
-                place,
-                form: Form::Variable(name),
-            });
-        }
-        let arguments = self.list(Reader::seq)?;
-        Some(Node {
-            place,
-            form: Form::Call(name, arguments),
-        })
-    }
 }
 
-fn infix(place: usize, mark: Infix, left: Node, right: Node) -> Node {
-    Node {
-        place,
-        form: Form::Infix(mark, Box::new(left), Box::new(right)),
+#[cfg(test)]
+mod tests {
+    use super::*;
+    use crate::text::tokens;
+    use crate::{on_big_stack, trial};
+
+    /// R05.4: what had a reading before has the same one, and there is more now.
+    #[test]
+    fn readings_before_are_readings() {
+        let (mut before, mut now) = (0, 0);
+        on_big_stack(|| {
+            for trial in (0..3000).map(|index| trial::make(5, index)) {
+                let tokens = tokens(&trial.sheet).unwrap_or_default();
+                let reading = read(&tokens);
+                now += u32::from(reading.is_some());
+                if let Some(program) = read_before(&tokens) {
+                    before += 1;
+                    assert_eq!(Some(program), reading);
+                }
+            }
+        });
+        assert!(100 < before && before < now, "{before} and {now}");
     }
 }

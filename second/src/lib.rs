@@ -20,6 +20,7 @@ pub mod near;
 pub mod neighbours;
 pub mod nests;
 pub mod numbers;
+pub mod operators;
 pub mod pair;
 pub mod paper;
 pub mod piped;

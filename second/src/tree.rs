@@ -2,11 +2,13 @@
 
 use crate::types::Type;
 
+#[derive(Debug, PartialEq)]
 pub struct Program {
     pub functions: Vec<Function>,
     pub last: Node,
 }
 
+#[derive(Debug, PartialEq)]
 pub struct Function {
     pub def: usize,
     pub name: String,
@@ -16,12 +18,14 @@ pub struct Function {
     pub body: Node,
 }
 
+#[derive(Debug, PartialEq)]
 pub struct Parameter {
     pub name: String,
     pub place: usize,
     pub kind: Type,
 }
 
+#[derive(Debug, PartialEq)]
 pub struct Node {
     pub place: usize,
     pub form: Form,
@@ -49,6 +53,7 @@ pub enum Infix {
     Then,
 }
 
+#[derive(Debug, PartialEq)]
 pub enum Form {
     Number(i32),
     Truth(bool),
@@ -62,6 +67,13 @@ pub enum Form {
     Let(String, Box<Node>, Box<Node>),
     If(Box<Node>, Box<Node>, Box<Node>),
     While(Box<Node>, Box<Node>),
+}
+
+pub fn infix(place: usize, mark: Infix, left: Node, right: Node) -> Node {
+    Node {
+        place,
+        form: Form::Infix(mark, Box::new(left), Box::new(right)),
+    }
 }
 
 impl Node {
