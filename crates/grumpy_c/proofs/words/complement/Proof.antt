@@ -7,8 +7,8 @@ use mir.Facts.{toZ-ofZ, fits-ofZ}
 use mir.Syntax.{w64}
 use mir.Val.{toZ, ofZ, SFits}
 use Rattle.grumpy_c.proofs.TwosComplement.{one-up-fits, below-zero, complement-below, complement-up}
-use Rattle.grumpy_c.proofs.complement.Statement.{statement}
-use Rattle.grumpy_c.proofs.complement.Tie as tie
+use Rattle.grumpy_c.proofs.words.complement.Statement.{statement}
+use Rattle.grumpy_c.proofs.words.complement.Tie as tie
 
 module _ (c : tie.Then1) where
   fits : SFits w64 (c .before .args .v)
