@@ -2,7 +2,7 @@ pub mod Adding
 pub mod Decimals
 pub mod Digits
 pub mod Feeds
-pub mod FloatExamples
+pub mod FloatsTold
 pub mod FloatTexts
 pub mod Letters
 pub mod Negative
