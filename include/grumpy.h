@@ -33,6 +33,9 @@
  *     double value;
  *     memcpy(&value, &report[3], sizeof value);
  *
+ * The calling thread has to have the usual control of floats (MXCSR): rounding to nearest, no exception
+ * trapped, subnormal numbers kept. C programs have it unless they change it.
+ *
  * Two sheets. grumpy_check_pair and grumpy_run_pair take a rule book and a loom's sheet, and read them as the
  * first, one line feed, then the second; the limits hold for the whole. They tell besides, behind the words
  * above (from report[3] on for check, from report[6] on for run):
