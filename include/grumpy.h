@@ -22,9 +22,19 @@
  *
  * and those that run also
  *
- *     report[3]  the value, a number in 64-bit two's complement: (int64_t)report[3]; 0 unless the number is 0
+ *     report[3]  the value, a number in 64-bit two's complement: (int64_t)report[3]; of a float its 64 bits;
+ *                0 unless the number is 0
  *     report[4]  the units used
  *     report[5]  the bytes printed
+ *
+ * A float, of type GRUMPY_FLOAT, is the double with these bits; every not-a-number has the same,
+ * 0x7FF8000000000000, and no other float has them:
+ *
+ *     double value;
+ *     memcpy(&value, &report[3], sizeof value);
+ *
+ * The calling thread has to have the usual control of floats (MXCSR): rounding to nearest, no exception
+ * trapped, subnormal numbers kept. C programs have it unless they change it.
  *
  * Two sheets. grumpy_check_pair and grumpy_run_pair take a rule book and a loom's sheet, and read them as the
  * first, one line feed, then the second; the limits hold for the whole. They tell besides, behind the words
@@ -77,6 +87,7 @@ extern "C" {
 #define GRUMPY_OPEN_COMMENT 12    /* a comment that is never closed */
 #define GRUMPY_LARGE_NUMBER 13    /* a number that is too large to write */
 #define GRUMPY_MANY_TOKENS 14     /* more than 1,024 tokens */
+#define GRUMPY_LONG_FLOAT 15      /* a number with a point and more than 15 digits */
 #define GRUMPY_NOT_A_PROGRAM 20   /* the tokens have no reading; the place is where it goes wrong */
 #define GRUMPY_MANY_FUNCTIONS 30  /* a 33rd function, or a ninth parameter */
 #define GRUMPY_DEFINED_TWICE 31   /* a function's name is taken */
@@ -91,17 +102,18 @@ extern "C" {
 #define GRUMPY_LONG_TEXT 44       /* the text is longer than `out` or than a source; nothing is written */
 #define GRUMPY_OUT_OF_UNITS 50    /* the allowance is used up */
 #define GRUMPY_TOO_DEEP 51        /* more than 512 nodes active at once */
-#define GRUMPY_OVERFLOW 52        /* a result outside 32 bits */
-#define GRUMPY_DIVISION_BY_ZERO 53
+#define GRUMPY_OVERFLOW 52        /* an int outside 32 bits */
+#define GRUMPY_DIVISION_BY_ZERO 53 /* of ints */
 #define GRUMPY_FREED_CELL 54      /* a cell is used after its block has ended */
 #define GRUMPY_MANY_CELLS 55      /* 1,024 cells are live already */
 #define GRUMPY_NOT_A_BYTE 56      /* putchar of something outside 0 to 255 */
 #define GRUMPY_OUTPUT_FULL 57     /* no room for another byte */
 
-/* the types; 8 more for each ref around one of them */
+/* the types; 8 more for each ref around one of them: 12 is a float ref, 124 the largest */
 #define GRUMPY_INT 1
 #define GRUMPY_BOOL 2
 #define GRUMPY_UNIT 3
+#define GRUMPY_FLOAT 4
 #define GRUMPY_REF 8
 
 /* Reads and checks a sheet. */

@@ -7,7 +7,7 @@ use crate::text::{Kind, Token};
 use std::collections::{HashMap, HashSet};
 
 /// One production a line. A word that stands left of an arrow is a part of the
-/// grammar, `name` and `number` are any of these, all else is itself.
+/// grammar, `name`, `number` and `decimal` are any of these, all else is itself.
 const PRODUCTIONS: &str = "
 Program -> Defs Seq
 Defs ->
@@ -20,6 +20,7 @@ SomeParameters -> SomeParameters , name : Type
 Type -> int
 Type -> bool
 Type -> unit
+Type -> float
 Type -> Type ref
 Seq -> Let
 Seq -> Item
@@ -54,6 +55,7 @@ Un -> Atom
 Atom -> name
 Atom -> name ( Arguments )
 Atom -> number
+Atom -> decimal
 Atom -> true
 Atom -> false
 Atom -> tt
@@ -122,6 +124,7 @@ impl Recogniser {
             Kind::Fixed(word) => word,
             Kind::Name(_) => "name",
             Kind::Number(_) => "number",
+            Kind::Float(_) => "decimal",
         };
         let last = self.sets.last().expect("at least one set");
         let taken: Vec<UnderWay> = last

@@ -17,6 +17,8 @@
 //! = number place type value units printed "bytes"
 //! ```
 //!
+//! The value of a float is told by its bits, as `0x3FF0000000000000`.
+//!
 //! The loans may be left out where they are the usual ones; `room` is what is
 //! lent to Write. The `?` line is the answer of Check and may be left out where
 //! it follows from the `=` line, which is the answer of Run and ends the case.
@@ -180,6 +182,16 @@ fn four(text: &str) -> Result<[u64; 4], String> {
         .map_err(|_| "four numbers are wanted".to_string())
 }
 
+/// A number, or the bits of a float in hexadecimal.
+fn value_of(text: &str) -> Result<i64, String> {
+    match text.strip_prefix("0x") {
+        Some(bits) => u64::from_str_radix(bits, 16)
+            .map(|bits| bits as i64)
+            .map_err(|_| format!("no bits: {text}")),
+        None => number(text),
+    }
+}
+
 fn quoted(text: &str) -> Result<Vec<u8>, String> {
     let inside = text.strip_prefix('"').and_then(|b| b.strip_suffix('"'));
     quote::decode(inside.ok_or("the last part is a text in quotes")?)
@@ -214,7 +226,7 @@ fn run_line(text: &str) -> Result<Wanted, String> {
         return Err("the count of bytes is not that of the text".to_string());
     }
     let (no, place, kind) = (number(no)?, number(place)?, number(kind)?);
-    let (value, units) = (number(value)?, number(units)?);
+    let (value, units) = (value_of(value)?, number(units)?);
     Ok(ran(no, place, kind, value, units, &printed))
 }
 

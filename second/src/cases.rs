@@ -102,7 +102,7 @@ pub fn show(service: Service, wanted: &Wanted) -> String {
     match (service, &report[..]) {
         (Service::Check, [place, kind]) => format!("? {number} {place} {kind}"),
         (Service::Run, [place, kind, value, units, printed]) => {
-            let value = *value as i64;
+            let value = shown_value(*kind, *value);
             format!("= {number} {place} {kind} {value} {units} {printed} \"{output}\"")
         }
         (Service::Write, [place, _]) => format!("> {number} {place} \"{output}\""),
@@ -113,6 +113,16 @@ pub fn show(service: Service, wanted: &Wanted) -> String {
         _ => unreachable!("a report of another length"),
     }
 }
+
+/// A float's bits are told in hexadecimal, all else as a number.
+fn shown_value(kind: u64, value: u64) -> String {
+    match kind == FLOAT && value != 0 {
+        true => format!("0x{value:016X}"),
+        false => (value as i64).to_string(),
+    }
+}
+
+const FLOAT: u64 = 4;
 
 /// A whole case with this interpreter's answers, ready to be pasted into a file.
 pub fn show_case(title: &str, trial: &Trial) -> String {

@@ -182,6 +182,12 @@ mod tests {
                     let feeds = call.source.iter().filter(|byte| **byte == b'\n');
                     call.report[6] ^= if feeds.count() == 4 { 3 } else { 0 };
                 }
+                "another not-a-number" if call.report.get(2..4) == Some(&[4, 0x7FF8 << 48]) => {
+                    call.report[3] = 0xFFF8 << 48
+                }
+                "zero without its sign" if call.report.get(2..4) == Some(&[4, 1 << 63]) => {
+                    call.report[3] = 0
+                }
                 "no line feed" if call.service == Service::Write && number == 0 => {
                     output[used - 1] = b' '
                 }
@@ -231,16 +237,17 @@ mod tests {
         assert!(broken);
     }
 
-    fn failures(fault: &'static str) -> usize {
+    /// Whether some trial, of so many at the most, tells the mirror from this one.
+    fn told_apart(fault: &'static str, trials: u64) -> bool {
         on_big_stack(move || {
-            let fails = |index: &u64| compare(&Mirror(fault), &trial::make(5, *index)).is_err();
-            (0..300).filter(fails).count()
+            let fails = |index: u64| compare(&Mirror(fault), &trial::make(5, index)).is_err();
+            (0..trials).any(fails)
         })
     }
 
     #[test]
     fn equals_are_found_equal() {
-        assert_eq!(failures("none"), 0);
+        assert!(!told_apart("none", 300));
     }
 
     #[test]
@@ -252,9 +259,11 @@ mod tests {
             "a byte too many",
             "the other sheet",
             "the other sheet behind four LFs",
+            "another not-a-number",
+            "zero without its sign",
             "no line feed",
         ] {
-            assert!(failures(fault) > 0, "{fault}");
+            assert!(told_apart(fault, 5000), "{fault}");
         }
     }
 }

@@ -7,7 +7,7 @@ const GAPS: [&str; 6] = [" ", "\t", "\r", "  ", "/* a */", "/*/**/ // */"];
 
 /// Gaps with an LF. A sheet gets few of them, because it is cut at every one.
 const BREAKS: [&str; 5] = ["\n", "\r\n", "// b\n", "/*/*\n*/ // */", " \n"];
-const LOOSE: [&str; 19] = [
+const LOOSE: [&str; 23] = [
     "x",
     "y",
     "f0",
@@ -27,6 +27,10 @@ const LOOSE: [&str; 19] = [
     "0x7FFFFFFF",
     "0x80000000",
     "b1",
+    "1.5",
+    "2.",
+    "0.0",
+    "1234567890.123456",
 ];
 
 /// Spells the tokens out. Blanks and comments come where tokens would run

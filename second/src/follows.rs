@@ -5,9 +5,9 @@ use crate::text::{MARKS, RESERVED};
 
 /// What begins an operand, a sequence, a program. A last branch begins as a
 /// sequence does.
-const OPERAND: &str = "- not ! ref x 1 true false tt ( {";
-const SEQ: &str = "let if while - not ! ref x 1 true false tt ( {";
-const PROGRAM: &str = "def let if while - not ! ref x 1 true false tt ( {";
+const OPERAND: &str = "- not ! ref x 1 1.5 true false tt ( {";
+const SEQ: &str = "let if while - not ! ref x 1 1.5 true false tt ( {";
+const PROGRAM: &str = "def let if while - not ! ref x 1 1.5 true false tt ( {";
 
 /// What may come behind an operand before a sequence has to end.
 const MORE: &str = "+ - * / < == && || := ;";
@@ -19,7 +19,7 @@ const TABLE: &[(&str, &[&str])] = &[
     ("def f", &["("]),
     ("def f(", &["x )"]),
     ("def f(a", &[":"]),
-    ("def f(a:", &["int bool unit"]),
+    ("def f(a:", &["int bool unit float"]),
     ("def f(a:int", &["ref , )"]),
     ("def f(a:bool ref", &["ref , )"]),
     ("def f(a:int,", &["x"]),
@@ -27,7 +27,7 @@ const TABLE: &[(&str, &[&str])] = &[
     ("def f(a:int,b:unit", &["ref , )"]),
     ("def f()", &[":"]),
     ("def f(a:int)", &[":"]),
-    ("def f():", &["int bool unit"]),
+    ("def f():", &["int bool unit float"]),
     ("def f():int", &["ref {"]),
     ("def f():int ref", &["ref {"]),
     ("def f():int{", &[SEQ]),
@@ -104,6 +104,10 @@ const TABLE: &[(&str, &[&str])] = &[
     ("f(1)", &[MORE]),
     ("f((1", &[MORE, ")"]),
     ("1", &[MORE]),
+    ("1.5", &[MORE]),
+    ("1.5+", &[OPERAND]),
+    ("def f(a:float", &["ref , )"]),
+    ("def f():float", &["ref {"]),
     ("true", &[MORE]),
     ("false", &[MORE]),
     ("tt", &[MORE]),
@@ -145,7 +149,7 @@ pub struct Follow {
 
 /// Every beginning with every kind of token behind it.
 pub fn all() -> Vec<Follow> {
-    let kinds = RESERVED.iter().chain(&MARKS).chain(&["x", "1"]);
+    let kinds = RESERVED.iter().chain(&MARKS).chain(&["x", "1", "1.5"]);
     let kinds: Vec<&str> = kinds.copied().collect();
     let follow = |(begin, allowed): &(&str, &[&str])| {
         let allowed: Vec<&str> = allowed.iter().flat_map(|a| a.split(' ')).collect();

@@ -45,13 +45,15 @@ impl Writer<'_> {
             AND if *kind == Type::Bool => self.pair(kind, AND, "&&", CMP),
             CMP if *kind == Type::Bool => {
                 let mark = self.chance.pick(&["<", "=="]);
-                self.pair(&Type::Int, SUM, mark, SUM);
+                let float = mark == "<" && self.chance.one_in(3);
+                let inside = if float { Type::Float } else { Type::Int };
+                self.pair(&inside, SUM, mark, SUM);
             }
-            SUM if *kind == Type::Int => {
+            SUM if matches!(kind, Type::Int | Type::Float) => {
                 let mark = self.chance.pick(&["+", "-"]);
                 self.pair(kind, SUM, mark, PROD);
             }
-            PROD if *kind == Type::Int => {
+            PROD if matches!(kind, Type::Int | Type::Float) => {
                 let mark = self.chance.pick(&["*", "*", "/"]);
                 self.pair(kind, PROD, mark, UN);
             }
@@ -211,6 +213,10 @@ impl Writer<'_> {
         match kind {
             Type::Int => {
                 let number = numbers::spelled(self.chance);
+                self.put(&number);
+            }
+            Type::Float => {
+                let number = numbers::float(self.chance);
                 self.put(&number);
             }
             Type::Bool => {

@@ -121,9 +121,10 @@ impl Reader<'_> {
     }
 
     fn kind(&mut self) -> Option<Type> {
-        let bases = [("int", 0), ("bool", 1), ("unit", 2)];
+        let bases = [("int", 0), ("bool", 1), ("unit", 2), ("float", 3)];
+        let kinds = [Type::Int, Type::Bool, Type::Unit, Type::Float];
         let (_, base) = self.take_any(&bases)?;
-        let mut kind = [Type::Int, Type::Bool, Type::Unit].into_iter().nth(base)?;
+        let mut kind = kinds.into_iter().nth(base)?;
         while self.take("ref").is_some() {
             kind = Type::Ref(Box::new(kind));
         }

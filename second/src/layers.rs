@@ -10,9 +10,10 @@ pub enum Kind {
     Bool,
     Unit,
     Cell,
+    Float,
 }
 
-pub const KINDS: [Kind; 4] = [Kind::Int, Kind::Bool, Kind::Unit, Kind::Cell];
+pub const KINDS: [Kind; 5] = [Kind::Int, Kind::Bool, Kind::Unit, Kind::Cell, Kind::Float];
 
 impl Kind {
     /// An expression of this type with nothing more in it.
@@ -22,6 +23,7 @@ impl Kind {
             Kind::Bool => "true",
             Kind::Unit => "tt",
             Kind::Cell => "ref 1",
+            Kind::Float => "1.0",
         }
     }
 
@@ -31,6 +33,7 @@ impl Kind {
             Kind::Bool => "bool",
             Kind::Unit => "unit",
             Kind::Cell => "int ref",
+            Kind::Float => "float",
         }
     }
 }
@@ -62,6 +65,7 @@ fn layer(before: &str, after: &str, kinds: [Kind; 2], levels: [u8; 2]) -> Layer 
 
 pub fn layers() -> Vec<Layer> {
     let mut all = operators();
+    all.extend(between());
     for kind in KINDS {
         all.extend(of_any_kind(kind));
     }
@@ -81,19 +85,28 @@ pub fn layers() -> Vec<Layer> {
 
 fn operators() -> Vec<Layer> {
     use Kind::{Bool, Cell, Int, Unit};
-    let mut all = vec![
+    vec![
         layer("-", "", [Int, Int], [UN, UN]),
         layer("not ", "", [Bool, Bool], [UN, UN]),
         layer("!", "", [Int, Cell], [UN, UN]),
         layer("ref ", "", [Cell, Int], [UN, UN]),
         layer("ref 1:=", "", [Unit, Int], [ASSIGN, OR]),
         layer("", ":=1", [Unit, Cell], [ASSIGN, OR]),
-    ];
+    ]
+}
+
+/// Operators between two of one type, with the hole on either side.
+fn between() -> Vec<Layer> {
+    use Kind::{Bool, Float, Int};
+    let mut all = Vec::new();
     let marks = [
         ("+", Int, Int, SUM, SUM, PROD),
         ("-", Int, Int, SUM, SUM, PROD),
         ("*", Int, Int, PROD, PROD, UN),
         ("/", Int, Int, PROD, PROD, UN),
+        ("+", Float, Float, SUM, SUM, PROD),
+        ("/", Float, Float, PROD, PROD, UN),
+        ("<", Bool, Float, CMP, SUM, SUM),
         ("<", Bool, Int, CMP, SUM, SUM),
         ("==", Bool, Int, CMP, SUM, SUM),
         ("&&", Bool, Bool, AND, AND, CMP),

@@ -10,6 +10,7 @@ pub mod chance;
 pub mod compare;
 pub mod damage;
 pub mod deep;
+pub mod floats;
 pub mod follows;
 pub mod forms;
 pub mod grammar;
@@ -36,6 +37,7 @@ pub mod text;
 pub mod tree;
 pub mod trial;
 pub mod types;
+pub mod values;
 pub mod write;
 
 /// A numbered end other than success, and the byte offset it points at.

@@ -79,6 +79,26 @@ pub fn odd_number(chance: &mut Chance) -> String {
     form.replace('N', &numbers::odd(chance))
 }
 
+pub fn long_float(chance: &mut Chance) -> String {
+    let (left, right) = (numbers::float(chance), numbers::long_float(chance));
+    format!(
+        "{left}{}{right}",
+        chance.pick(&["+", "-", "*", "/", "<", " "])
+    )
+}
+
+pub fn odd_float(chance: &mut Chance) -> String {
+    let form = chance.pick(&[
+        "N",
+        "N+1.5",
+        "N<2.",
+        "if true then Nelse 2.",
+        "let x=1.in N",
+        "1.+N",
+    ]);
+    form.replace('N', &numbers::odd_float(chance))
+}
+
 pub fn open_comment(chance: &mut Chance) -> String {
     let depth = chance.between(1, 40);
     let closed = (depth + 1 - chance.below(3)).min(depth + 1);

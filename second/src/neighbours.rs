@@ -15,6 +15,7 @@ fn word(token: &Token) -> String {
         Kind::Fixed(word) => word.to_string(),
         Kind::Name(_) => "name".to_string(),
         Kind::Number(_) => "number".to_string(),
+        Kind::Float(_) => "decimal".to_string(),
     }
 }
 
@@ -147,13 +148,16 @@ mod tests {
     fn untyped(left: &str, right: &str) -> bool {
         const BETWEEN_INTS: [&str; 6] = ["+", "-", "*", "/", "<", "=="];
         const BETWEEN_BOOLS: [&str; 2] = ["&&", "||"];
+        const NEVER_CELLS: [&str; 7] = ["-", "not", "number", "decimal", "true", "false", "tt"];
         (BETWEEN_INTS.contains(&left) && ["true", "false", "tt", "ref", "not"].contains(&right))
             || (BETWEEN_INTS.contains(&right) && ["true", "false", "tt"].contains(&left))
             || (BETWEEN_BOOLS.contains(&left) && ["tt", "ref"].contains(&right))
             || (BETWEEN_BOOLS.contains(&right) && left == "tt")
-            || (left == "!" && ["-", "not", "number", "true", "false", "tt"].contains(&right))
-            || (left == "not" && ["-", "number", "ref", "tt"].contains(&right))
+            || (left == "!" && NEVER_CELLS.contains(&right))
+            || (left == "not" && ["-", "number", "decimal", "ref", "tt"].contains(&right))
             || (left == "tt" && ["then", "{"].contains(&right))
+            || (left == "==" && right == "decimal")
+            || (left == "decimal" && right == "==")
     }
 
     /// What is one number in hex or binary was a number and a name before, and

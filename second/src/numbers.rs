@@ -55,3 +55,77 @@ pub fn odd(chance: &mut Chance) -> String {
         ])
         .to_string()
 }
+
+const NOTABLE_FLOATS: [&str; 14] = [
+    "0.",
+    "0.0",
+    "1.",
+    "1.0",
+    "12.0",
+    "0.1",
+    "0.2",
+    "0.3",
+    "2147483648.",
+    "9007199254740.99",
+    "999999999999999.",
+    "0.00000000000001",
+    "1.00000000000001",
+    "00000.500000000",
+];
+
+/// A float, mostly a short one.
+pub fn float(chance: &mut Chance) -> String {
+    match chance.below(4) {
+        0 => chance.pick(&NOTABLE_FLOATS).to_string(),
+        1 => digits(chance, 15),
+        _ => format!("{}.{}", chance.below(20), chance.below(100)),
+    }
+}
+
+/// That many digits at random, with a point somewhere behind the first.
+fn digits(chance: &mut Chance, count: usize) -> String {
+    let mut digits: String = (0..count)
+        .map(|_| char::from(b'0' + chance.below(10) as u8))
+        .collect();
+    digits.insert(chance.between(1, count), '.');
+    digits
+}
+
+/// A float with as many digits as it may have, or nearly.
+pub fn long_float(chance: &mut Chance) -> String {
+    let count = chance.between(13, 17);
+    let zeros = chance.pick(&["", "", "0", "000"]);
+    match chance.below(3) {
+        0 => format!("{zeros}{}", digits(chance, count)),
+        1 => format!("{}{zeros}", digits(chance, count)),
+        _ => digits(chance, count),
+    }
+}
+
+/// What comes close to being a float.
+pub fn odd_float(chance: &mut Chance) -> String {
+    chance
+        .pick(&[
+            ".5",
+            "1.5.2",
+            "1..5",
+            "1.x",
+            "1.5x",
+            "1. 5",
+            "1 .5",
+            "0x1.5",
+            "0b1.1",
+            "0x.5",
+            "1.5e3",
+            "1.e3",
+            "1e3",
+            "1._",
+            "1./2.",
+            "00.",
+            "2147483648.",
+            "2147483648",
+            "x.5",
+            "1.if",
+        ])
+        .to_string()
+}

@@ -79,6 +79,7 @@ impl Reader<'_> {
             Kind::Fixed("(") => return self.group(),
             Kind::Name(_) => return self.variable_or_call(),
             Kind::Number(value) => Form::Number(value),
+            Kind::Float(value) => Form::Float(value),
             Kind::Fixed("true") => Form::Truth(true),
             Kind::Fixed("false") => Form::Truth(false),
             Kind::Fixed("tt") => Form::Unit,

@@ -18,6 +18,11 @@ pub fn fits(kind: u64, value: i64) -> bool {
         1 => i32::try_from(value).is_ok(),
         2 => [0, 1].contains(&value),
         3 => value == 0,
+        // Its bits, one form of not-a-number alone among them.
+        4 => {
+            let float = f64::from_bits(value as u64);
+            !float.is_nan() || value as u64 == 0x7FF8_0000_0000_0000
+        }
         // A reference: cells are counted from 1, and each takes a unit.
         _ => (1..=MOST_UNITS as i64).contains(&value),
     }

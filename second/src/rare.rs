@@ -2,6 +2,7 @@
 //! hardly ever do. Those whose text matters, not their tree, are in `long`.
 
 use crate::chance::Chance;
+use crate::floats;
 use crate::forms::SEQ;
 use crate::long;
 use crate::sheets::Writer;
@@ -13,6 +14,12 @@ pub fn sheet(chance: &mut Chance) -> Vec<u8> {
         long::many_tokens,
         long::large_number,
         long::odd_number,
+        long::long_float,
+        long::odd_float,
+        floats::edge,
+        floats::edge,
+        floats::edge,
+        floats::mixed,
         long::open_comment,
         many_functions,
         many_parameters,

@@ -1,32 +1,12 @@
 //! The interpreter. It only ever sees programs the checker has passed.
 
 use crate::tree::{Form, Function, Infix, Node, Prefix, Program};
+use crate::values::{in_range, operate, Value};
 use crate::Refusal;
 use std::collections::{BTreeMap, HashMap};
 
 pub const MOST_ACTIVE: usize = 512;
 pub const MOST_CELLS: usize = 1024;
-
-#[derive(Clone, Copy, Debug, PartialEq, Eq)]
-pub enum Value {
-    Int(i32),
-    Bool(bool),
-    Unit,
-    /// The birth number of a cell, which may be long gone.
-    Ref(u64),
-}
-
-impl Value {
-    /// The number a report gives for this value.
-    pub fn code(self) -> i64 {
-        match self {
-            Value::Int(int) => i64::from(int),
-            Value::Bool(truth) => i64::from(truth),
-            Value::Unit => 0,
-            Value::Ref(birth) => birth as i64,
-        }
-    }
-}
 
 /// How a run came out, whether by a value or by a stop.
 pub struct Outcome {
@@ -76,6 +56,11 @@ pub fn run(program: &Program, allowance: u64, room: usize) -> Outcome {
     }
 }
 
+/// A result, or a stop at the node.
+fn at(node: &Node, result: Result<Value, u32>) -> Step {
+    result.map_err(|number| Refusal::new(number, node.place))
+}
+
 fn stop<T>(number: u32, node: &Node) -> Result<T, Refusal> {
     Err(Refusal::new(number, node.place))
 }
@@ -98,6 +83,7 @@ impl<'a> Machine<'a> {
     fn form(&mut self, node: &'a Node, scope: &mut Scope<'a>) -> Step {
         match &node.form {
             Form::Number(value) => Ok(Value::Int(*value)),
+            Form::Float(value) => Ok(Value::Float(*value)),
             Form::Truth(truth) => Ok(Value::Bool(*truth)),
             Form::Unit => Ok(Value::Unit),
             Form::Variable(name) => Ok(nearest(scope, name)),
@@ -126,13 +112,15 @@ impl<'a> Machine<'a> {
                 Value::Bool(true) => self.node(yes, scope),
                 _ => self.node(no, scope),
             },
-            Form::While(test, body) => {
-                while self.node(test, scope)? == Value::Bool(true) {
-                    self.node(body, scope)?;
-                }
-                Ok(Value::Unit)
-            }
+            Form::While(test, body) => self.repeated(test, body, scope),
         }
+    }
+
+    fn repeated(&mut self, test: &'a Node, body: &'a Node, scope: &mut Scope<'a>) -> Step {
+        while self.node(test, scope)? == Value::Bool(true) {
+            self.node(body, scope)?;
+        }
+        Ok(Value::Unit)
     }
 
     /// `&&` and `||`: when the left side is `settled`, it is the answer and
@@ -191,7 +179,7 @@ impl<'a> Machine<'a> {
 
     fn prefix(&mut self, node: &Node, prefix: Prefix, value: Value) -> Step {
         match (prefix, value) {
-            (Prefix::Minus, Value::Int(int)) => in_range(node, -i64::from(int)),
+            (Prefix::Minus, Value::Int(int)) => at(node, in_range(-i64::from(int))),
             (Prefix::Not, Value::Bool(truth)) => Ok(Value::Bool(!truth)),
             (Prefix::Read, Value::Ref(birth)) => match self.cells.get(&birth) {
                 Some(content) => Ok(*content),
@@ -221,10 +209,7 @@ impl<'a> Machine<'a> {
                 }
                 None => stop(54, node),
             },
-            (_, Value::Int(left), Value::Int(right)) => {
-                arithmetic(node, mark, i64::from(left), i64::from(right))
-            }
-            _ => unreachable!("the checker lets no other operands through"),
+            _ => at(node, operate(mark, left, right)),
         }
     }
 }
@@ -232,26 +217,4 @@ impl<'a> Machine<'a> {
 fn nearest(scope: &Scope, name: &str) -> Value {
     let found = scope.iter().rev().find(|(n, _)| *n == name);
     found.expect("the checker knows every name").1
-}
-
-/// Works in 64 bits, where none of these can leave the range, and only then
-/// asks whether the result is one of 32 bits.
-fn arithmetic(node: &Node, mark: Infix, left: i64, right: i64) -> Step {
-    match mark {
-        Infix::Plus => in_range(node, left + right),
-        Infix::Minus => in_range(node, left - right),
-        Infix::Times => in_range(node, left * right),
-        Infix::Over if right == 0 => stop(53, node),
-        Infix::Over => in_range(node, left / right),
-        Infix::Less => Ok(Value::Bool(left < right)),
-        Infix::Same => Ok(Value::Bool(left == right)),
-        _ => unreachable!("not a mark between ints"),
-    }
-}
-
-fn in_range(node: &Node, result: i64) -> Step {
-    match i32::try_from(result) {
-        Ok(int) => Ok(Value::Int(int)),
-        Err(_) => stop(52, node),
-    }
 }

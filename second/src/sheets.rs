@@ -73,7 +73,8 @@ impl<'a> Writer<'a> {
     }
 
     pub fn kind(&mut self) -> Type {
-        let base = [Type::Int, Type::Int, Type::Int, Type::Bool, Type::Unit];
+        let (int, float) = (Type::Int, Type::Float);
+        let base = [int.clone(), int.clone(), int, Type::Bool, Type::Unit, float];
         let mut kind = base[self.chance.below(base.len())].clone();
         while self.chance.one_in(5) {
             kind = cell_of(&kind);
@@ -94,6 +95,7 @@ impl<'a> Writer<'a> {
             Type::Int => self.put("int"),
             Type::Bool => self.put("bool"),
             Type::Unit => self.put("unit"),
+            Type::Float => self.put("float"),
             Type::Ref(inside) => {
                 self.put_kind(inside);
                 self.put("ref");
@@ -163,13 +165,15 @@ impl<'a> Writer<'a> {
             self.variables.push((name.to_string(), Type::Int));
         }
         match &known.result {
-            Type::Int if self.chance.one_in(2) => self.expression(&Type::Int, PROD),
+            Type::Int | Type::Float if self.chance.one_in(2) => {
+                self.expression(&known.result, PROD)
+            }
             Type::Bool if self.chance.one_in(2) => self.expression(&Type::Bool, CMP),
             Type::Unit if self.chance.one_in(2) => self.expression(&Type::Unit, ITEM),
             _ => return self.call(known, "n - 1"),
         }
         let joint = match known.result {
-            Type::Int => self.chance.pick(&["+", "-", "*"]),
+            Type::Int | Type::Float => self.chance.pick(&["+", "-", "*"]),
             Type::Bool => self.chance.pick(&["&&", "||"]),
             _ => ";",
         };

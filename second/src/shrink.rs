@@ -5,7 +5,7 @@
 use crate::answer::{Lent, MOST_BYTES};
 use crate::trial::Trial;
 
-const CONSTANTS: [&[u8]; 4] = [b"", b" 1 ", b" true ", b" tt "];
+const CONSTANTS: [&[u8]; 5] = [b"", b" 1 ", b" true ", b" tt ", b" 1. "];
 
 /// The smallest trial found on which the test still holds.
 pub fn shrink(start: Trial, mut fails: impl FnMut(&Trial) -> bool) -> Trial {

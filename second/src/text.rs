@@ -1,12 +1,15 @@
 //! Bytes to tokens.
 
+use crate::values::float;
 use crate::Refusal;
 
 pub const MOST_TOKENS: usize = 1024;
 const LARGEST: u64 = 2_147_483_647;
+/// Of a float, before and behind its point together.
+pub const MOST_DIGITS: usize = 15;
 
-/// Words that can never be names. `do`, `end` and `float` are among them
-/// although no rule of the grammar mentions them.
+/// Words that can never be names. `do` and `end` are among them although no
+/// rule of the grammar mentions them.
 pub const RESERVED: [&str; 18] = [
     "def", "let", "in", "while", "do", "end", "if", "then", "else", "ref", "not", "int", "bool",
     "true", "false", "unit", "tt", "float",
@@ -23,6 +26,7 @@ pub enum Kind {
     Fixed(&'static str),
     Name(String),
     Number(i32),
+    Float(f64),
 }
 
 #[derive(Clone, Debug, PartialEq)]
@@ -129,6 +133,9 @@ fn number(rest: &[u8]) -> Result<(Kind, usize), u32> {
         });
     let (start, base) = marked.map_or((0, 10), |(mark, base)| (mark.len(), base));
     let length = start + run_of(&rest[start..], |b| is_digit(b, base));
+    if base == 10 && rest.get(length) == Some(&b'.') {
+        return float_number(rest, length);
+    }
     let mut value = 0u64;
     for byte in &rest[start..length] {
         let digit = char::from(*byte).to_digit(base).expect("a digit");
@@ -138,6 +145,18 @@ fn number(rest: &[u8]) -> Result<(Kind, usize), u32> {
         }
     }
     Ok((Kind::Number(value as i32), length))
+}
+
+/// A float with its point at that byte. However large it is, only its digits
+/// are counted.
+fn float_number(rest: &[u8], point: usize) -> Result<(Kind, usize), u32> {
+    let after = run_of(&rest[point + 1..], |b| b.is_ascii_digit());
+    if point + after > MOST_DIGITS {
+        return Err(15);
+    }
+    let length = point + 1 + after;
+    let digits = [&rest[..point], &rest[point + 1..length]].concat();
+    Ok((Kind::Float(float(&digits, after)), length))
 }
 
 fn is_digit(byte: u8, base: u32) -> bool {
@@ -157,6 +176,7 @@ mod tests {
             Kind::Fixed(f) => f.to_string(),
             Kind::Name(n) => format!("name {n}"),
             Kind::Number(n) => format!("number {n}"),
+            Kind::Float(f) => format!("float {f:?}"),
         };
         tokens(source.as_bytes())
             .unwrap()
@@ -175,6 +195,10 @@ mod tests {
         assert_eq!(spelled("0x1else"), ["number 30", "name lse"]);
         assert_eq!(spelled("0b1else"), ["number 1", "else"]);
         assert_eq!(spelled("0b12"), ["number 1", "number 2"]);
+        assert_eq!(
+            spelled("1.x 1.5in"),
+            ["float 1.0", "name x", "float 1.5", "in"]
+        );
         assert_eq!(
             spelled("0xg 0b 00x1"),
             ["number 0", "name xg", "number 0", "name b", "number 0", "name x1"]

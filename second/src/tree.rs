@@ -56,6 +56,7 @@ pub enum Infix {
 #[derive(Debug, PartialEq)]
 pub enum Form {
     Number(i32),
+    Float(f64),
     Truth(bool),
     Unit,
     Variable(String),
@@ -79,7 +80,9 @@ pub fn infix(place: usize, mark: Infix, left: Node, right: Node) -> Node {
 impl Node {
     pub fn children(&self) -> Vec<&Node> {
         match &self.form {
-            Form::Number(_) | Form::Truth(_) | Form::Unit | Form::Variable(_) => vec![],
+            Form::Number(_) | Form::Float(_) | Form::Truth(_) | Form::Unit | Form::Variable(_) => {
+                vec![]
+            }
             Form::Call(_, arguments) => arguments.iter().collect(),
             Form::Group(a) | Form::Block(a) | Form::Prefix(_, a) => vec![a],
             Form::Infix(_, a, b) | Form::Let(_, a, b) | Form::While(a, b) => vec![a, b],

@@ -13,6 +13,7 @@ pub enum Type {
     Int,
     Bool,
     Unit,
+    Float,
     Ref(Box<Type>),
 }
 
@@ -30,6 +31,7 @@ impl Type {
             Type::Int => 1,
             Type::Bool => 2,
             Type::Unit => 3,
+            Type::Float => 4,
             Type::Ref(inside) => 8 + inside.code(),
         }
     }
@@ -127,6 +129,7 @@ impl Checker {
             (Form::Variable(name), _) => return self.variable(name),
             (Form::Call(name, _), arguments) => return self.call(name, arguments),
             (Form::Number(_), _) => Some(Type::Int),
+            (Form::Float(_), _) => Some(Type::Float),
             (Form::Truth(_), _) => Some(Type::Bool),
             (Form::Unit, _) => Some(Type::Unit),
             (Form::Group(_) | Form::Block(_), [kind]) => Some(kind.clone()),
@@ -186,13 +189,19 @@ fn prefix_rule(prefix: Prefix, kind: &Type) -> Option<Type> {
 
 fn infix_rule(mark: Infix, left: &Type, right: &Type) -> Option<Type> {
     match (mark, left, right) {
-        (Infix::Plus | Infix::Minus | Infix::Times | Infix::Over, Type::Int, Type::Int) => {
-            Some(Type::Int)
+        (Infix::Plus | Infix::Minus | Infix::Times | Infix::Over, left, right) => {
+            (is_arithmetic(left) && left == right).then(|| left.clone())
         }
-        (Infix::Less | Infix::Same, Type::Int, Type::Int) => Some(Type::Bool),
+        (Infix::Less, left, right) => (is_arithmetic(left) && left == right).then_some(Type::Bool),
+        (Infix::Same, Type::Int, Type::Int) => Some(Type::Bool),
         (Infix::And | Infix::Or, Type::Bool, Type::Bool) => Some(Type::Bool),
         (Infix::Write, Type::Ref(inside), _) => (**inside == *right).then_some(Type::Unit),
         (Infix::Then, Type::Unit, _) => Some(right.clone()),
         _ => None,
     }
+}
+
+/// The source document's arithmetic types.
+fn is_arithmetic(kind: &Type) -> bool {
+    matches!(kind, Type::Int | Type::Float)
 }

@@ -2,3 +2,4 @@ pub mod Asked
 pub mod Causes
 pub mod Ends
 pub mod Told
+pub mod Values

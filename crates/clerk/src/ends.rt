@@ -8,6 +8,7 @@ use grumpy::answers::Checked;
 use grumpy::answers::PairChecked;
 use grumpy::answers::PairRan;
 use grumpy::answers::Ran;
+use layout::values::Value;
 use numbers::Refusal;
 use pairs::Spot;
 
@@ -16,7 +17,7 @@ pub enum End {
     Passed(u32),
     Value {
         type_number: u32,
-        value: i64,
+        value: Value,
         units: u32,
         printed: usize,
     },

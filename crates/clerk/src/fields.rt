@@ -1,8 +1,11 @@
 // Lines, and parts of them, that both reports have.
 ghost use Rattle.io.specs.Counts.{Counts};
 ghost use Rattle.page.specs.Text.{Adds};
+ghost use Rattle.layout.specs.Values.{meant};
 ghost use Rattle.clerk.specs.Told.{name-words};
+ghost use Rattle.clerk.specs.Values.{value-lines};
 use crate::types;
+use layout::values::Value;
 use page::decimal;
 use page::put;
 use page::readable;
@@ -36,11 +39,13 @@ pub fn type_line(out: &mut [u8], at: usize, type_number: u32) -> usize
     put(out, b, b"\n")
 }
 
-// The value, which is of this type.
-pub fn value_line(out: &mut [u8], at: usize, type_number: u32, value: i64) -> usize
+// The value, and of a float its bits.
+pub fn value_lines(out: &mut [u8], at: usize, value: Value) -> usize
     ensures { λ r. ⌜ Counts r (now (out .exit)) ⌝ }
+    ensures { λ r. ⌜ Adds (value-lines (meant value)) (now (out .entry)) (now (out .exit)) at r ⌝ }
 {
     let a = put(out, at, b"value ");
-    let b = types::value(out, a, type_number, value);
-    put(out, b, b"\n")
+    let b = types::value(out, a, value);
+    let c = put(out, b, b"\n");
+    types::bits(out, c, value)
 }

@@ -97,7 +97,7 @@ pub fn report(
         } => {
             let c = well(out, b);
             let d = fields::type_line(out, c, type_number);
-            let e = fields::value_line(out, d, type_number, value);
+            let e = fields::value_lines(out, d, value);
             ran(out, e, units, allowance, printed)
         }
         End::Refused(why, place) => cause(out, b, source, why, place),

@@ -125,7 +125,7 @@ pub fn report(out: &mut [u8], file: &[u8], sheet: &[u8], allowance: u64, end: En
         } => {
             let a = well(out, 0);
             let b = fields::type_line(out, a, type_number);
-            let c = fields::value_line(out, b, type_number, value);
+            let c = fields::value_lines(out, b, value);
             units(out, c, used, allowance)
         }
         End::Refused(why, place) => cause(out, 0, file, sheet, why, place),

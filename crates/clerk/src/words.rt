@@ -16,6 +16,7 @@ fn flaw(out: &mut [u8], at: usize, why: Flaw) -> usize
         Flaw::OpenComment => put(out, at, b"a comment that is never closed"),
         Flaw::LargeNumber => put(out, at, b"a number over 2147483647"),
         Flaw::ManyTokens => put(out, at, b"more than 1024 tokens"),
+        Flaw::LongFloat => put(out, at, b"a number with a point and more than 15 digits"),
     }
 }
 

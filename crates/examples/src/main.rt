@@ -4,12 +4,15 @@ use grumpy::answers::Ran;
 use language::ALLOWANCE;
 use language::TABLE;
 use language::WORK;
+use layout::floats;
+use layout::values::Value;
 use libc::STDOUT_FILENO;
 
 fn main() {
     proved();
     easily_wrong();
     scope_programs();
+    decimal_points();
 }
 
 // The examples that the paper's theorem speaks of, and those beside them.
@@ -64,6 +67,20 @@ fn scope_programs() {
     show(b"def h():int ref{let x=ref 1 in x}!h()+1", ALLOWANCE);
 }
 
+// Rates with a decimal point: a float's value is told by its bits, as a number.
+fn decimal_points() {
+    show(b"12.0", ALLOWANCE);
+    show(b"0.1+0.2", ALLOWANCE);
+    show(b"70000.0*3.25/1000.0", ALLOWANCE);
+    show(b"0.3<0.1+0.2", ALLOWANCE);
+    show(b"1.0/0.0", ALLOWANCE);
+    show(b"0.0/0.0", ALLOWANCE);
+    show(b"def f(x:float):float ref{ref(x/2.0)}f(2.5)", ALLOWANCE);
+    show(b"1+1.0", ALLOWANCE);
+    show(b"-1.0", ALLOWANCE);
+    show(b"1+123456789012345.6", ALLOWANCE);
+}
+
 fn show(sheet: &[u8], allowance: u64) {
     let mut table = [0u32; TABLE];
     let mut work = [0u32; WORK];
@@ -86,7 +103,7 @@ fn report(answer: Ran, out: &[u8]) {
             printed,
         } => {
             three(0, 0, type_number);
-            signed(value);
+            number(value);
             field(units as u64);
             bytes(out, printed);
         }
@@ -127,6 +144,17 @@ fn signed(n: i64) {
         io::print_decimal(STDOUT_FILENO, page::magnitude(n));
     } else {
         field(page::magnitude(n));
+    }
+}
+
+// A value by its number; a float by its bits.
+fn number(value: Value) {
+    match value {
+        Value::Int(n) => signed(n as i64),
+        Value::Float(x) => field(floats::bits(x)),
+        Value::Flag(b) => { if b { field(1) } else { field(0) } }
+        Value::Nothing => field(0),
+        Value::Cell(birth) => field(birth as u64),
     }
 }
 

@@ -9,9 +9,11 @@ use Rattle.language.specs.Writing.{WriteReport, Write}
 use Rattle.language.proofs.Answers.Origins.{text-lawful}
 use Rattle.language.proofs.Answers.OneAnswer.{one-check, one-run}
 use Rattle.language.proofs.Writing.OneWriting.{one-write}
+use Rattle.layout.specs.declared.values.Value.{Value}
 use Rattle.numbers.proofs.Apart.{refusal-of, refusal-back, stop-of, stop-back}
 use Rattle.numbers.specs.declared.Refusal.{Refusal}
 use Rattle.numbers.specs.declared.Stop.{Stop}
+use Rattle.runner.proofs.Unique.{value-of, value-back}
 use Rattle.grumpy.specs.Reports.{checked-report, ran-report, wrote-report}
 use Rattle.grumpy.specs.declared.answers.Checked.{Checked}
 use Rattle.grumpy.specs.declared.answers.Ran.{Ran}
@@ -33,7 +35,7 @@ checked-back (Checked.Passed t) = refl
 checked-back (Checked.Refused y i) = ap (λ (y : Refusal). Checked.Refused y i) (refusal-back y)
 
 abbrev ran-by : Told → RunReport ℕ → Ran
-ran-by passed r = Ran.Value (r .type) (r .value) (r .units) (r .printed)
+ran-by passed r = Ran.Value (r .type) (value-of (r .value)) (r .units) (r .printed)
 ran-by (refused y) r = Ran.Refused (refusal-of y) (r .place)
 ran-by (stopped w) r = Ran.Stopped (stop-of w) (r .place) (r .type) (r .units) (r .printed)
 
@@ -41,7 +43,7 @@ abbrev pub ran-of : RunReport ℕ → Ran
 ran-of r = ran-by (r .told) r
 
 pub ran-back : (r : Ran) → ran-of (ran-report r) ≡ r
-ran-back (Ran.Value t v u n) = refl
+ran-back (Ran.Value t v u n) = ap (λ (v : Value). Ran.Value t v u n) (value-back v)
 ran-back (Ran.Stopped w i t u n) = ap (λ (w : Stop). Ran.Stopped w i t u n) (stop-back w)
 ran-back (Ran.Refused y i) = ap (λ (y : Refusal). Ran.Refused y i) (refusal-back y)
 

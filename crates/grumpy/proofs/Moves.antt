@@ -1,12 +1,13 @@
 -- An answer for the joined text, case by case, as one for the two sheets.
-use lib.IntN.{ℤ, pos}
 use mathlib.Core.List.{List}
 use mathlib.Core.Path.{_≡_, refl, ap, sym, subst, _∙_}
 use Prim.Native.Nat.{ℕ}
+use Rattle.language.specs.State.{nothing}
 use Rattle.language.specs.Answers.{CheckReport, check-report, RunReport, refusal}
 use Rattle.language.specs.Numbers.{refused, stopped}
 use Rattle.language.specs.Pairs.{Place, place-of}
 use Rattle.language.proofs.Answers.Pairs.{moved, check-moved, run-moved}
+use Rattle.layout.specs.declared.values.Value.{Value}
 use Rattle.numbers.specs.Meanings.{refusal-meant, stop-meant}
 use Rattle.numbers.specs.declared.Refusal.{Refusal}
 use Rattle.numbers.specs.declared.Stop.{Stop}
@@ -37,13 +38,13 @@ module _ (first second : List ℕ) where
       (ap (λ (p : Place). check-report (refused (refusal-meant y)) p 0) f)
 
   -- of run
-  pub value-moved : (a : Ran) (t : ℕ) (v : ℤ) (u n : ℕ) → a ≡ Ran.Value t v u n
+  pub value-moved : (a : Ran) (t : ℕ) (v : Value) (u n : ℕ) → a ≡ Ran.Value t v u n
       → pair-ran-report (PairRan.Value t v u n) ≡ run-moved first second (ran-report a)
   value-moved a t v u n e =
       subst (λ (a : Ran). pair-ran-report (PairRan.Value t v u n) ≡ run-moved first second (ran-report a)) (sym e) refl
 
   stopped-at : Stop → ℕ → ℕ → ℕ → Place → RunReport Place
-  stopped-at y t u n p = record { told = stopped (stop-meant y); place = p; type = t; value = pos 0; units = u; printed = n }
+  stopped-at y t u n p = record { told = stopped (stop-meant y); place = p; type = t; value = nothing; units = u; printed = n }
 
   pub stopped-moved : (a : Ran) (y : Stop) (i : ℕ) (x : Spot) (t u n : ℕ) → a ≡ Ran.Stopped y i t u n → meant x ≡ place-of first second i
       → pair-ran-report (PairRan.Stopped y x t u n) ≡ run-moved first second (ran-report a)

@@ -3,16 +3,14 @@ use mathlib.Core.List.{List, reverse}
 use mathlib.Core.Path.{_≡_, refl, sym, ap, subst, _∙_}
 use Prim.Native.Nat.{ℕ, _-_, _≤_}
 use native.Mathlib.Omega.{arith}
-use lib.IntN.{ℤ}
 use lib.ListN.{length, length-reverse}
 use Rattle.language.specs.State as M
 use Rattle.language.specs.State.{value, stop, stuck}
-use Rattle.language.specs.Meaning.{run, value-number}
+use Rattle.language.specs.Meaning.{run}
 use Rattle.language.specs.Answers as Answers
 use Rattle.language.specs.Answers.{ending}
 use Rattle.language.proofs.Meaning.Spending.{Spent, spent-value, spent-stop, spent-stuck, births-few}
 use Rattle.layout.specs.declared.Held.{Held}
-use Rattle.layout.specs.Values.{meant}
 use Rattle.layout.specs.declared.values.Value.{Value}
 use Rattle.numbers.specs.declared.Stop.{Stop}
 use Rattle.runner.specs.Contract as Runner
@@ -55,12 +53,12 @@ module _ {table work out work′ out′ : List ℕ} {P : Held} {allowance : ℕ}
 -- ---- the end that is told
 
 -- what is told of an outcome whose units are those left
-value-told : {m : M.Outcome} {out out′ : List ℕ} (allowance : ℕ) (v : Value) (e : spent.Spent) (z : ℤ) → Runner.EndsAs m out out′ (Done.Value v e)
-    → z ≡ value-number (meant v) → Told m allowance out out′ (Ending.Value z (allowance - e .left) (e .printed))
+value-told : {m : M.Outcome} {out out′ : List ℕ} (allowance : ℕ) (v : Value) (e : spent.Spent) → Runner.EndsAs m out out′ (Done.Value v e)
+    → Told m allowance out out′ (Ending.Value v (allowance - e .left) (e .printed))
 unfolding ending
-value-told allowance v e z a q = record {
+value-told allowance v e a = record {
   printed = reverse (a .state .printed);
-  ends = ap (ending allowance) (a .outcome) ∙ rw (q, a .left) refl;
+  ends = ap (ending allowance) (a .outcome) ∙ rw (a .left) refl;
   counted = a .printed ∙ sym (length-reverse (a .state .printed));
   output = a .output;
 }
@@ -77,10 +75,10 @@ stop-told allowance y i e a = record {
 
 module _ {table work out work′ out′ : List ℕ} {P : Held} {allowance : ℕ} {r : Done}
     (x : Runner.RunsTo table work out work′ out′ P allowance r) where
-  pub executed-value : (v : Value) (e : spent.Spent) (z : ℤ) (u : ℕ) → r ≡ Done.Value v e → z ≡ value-number (meant v) → u ≡ allowance - e .left
-      → Executed table work out work′ out′ P allowance (Ending.Value z u (e .printed))
-  executed-value v e z u q a b = record {
-    told = λ ts p t h y. rw b (value-told allowance v e z (subst (Runner.EndsAs (run p allowance (length out)) out out′) q (x .answer ts p t h y)) a);
+  pub executed-value : (v : Value) (e : spent.Spent) (u : ℕ) → r ≡ Done.Value v e → u ≡ allowance - e .left
+      → Executed table work out work′ out′ P allowance (Ending.Value v u (e .printed))
+  executed-value v e u q b = record {
+    told = λ ts p t h y. rw b (value-told allowance v e (subst (Runner.EndsAs (run p allowance (length out)) out out′) q (x .answer ts p t h y)));
     cleared = x .cleared;
   }
 

@@ -15,11 +15,13 @@ use Rattle.language.proofs.Answers.OneAnswer.{one-check, one-run}
 use Rattle.language.proofs.Answers.Pairs.{check-moved, run-moved, pair-check, pair-run, pair-lawful}
 use Rattle.language.proofs.Pairs.Places.{Inside}
 use Rattle.language.proofs.Pairs.Told.{checked-inside, ran-inside}
+use Rattle.layout.specs.declared.values.Value.{Value}
 use Rattle.numbers.proofs.Apart.{refusal-of, refusal-back, stop-of, stop-back}
 use Rattle.numbers.specs.declared.Refusal.{Refusal}
 use Rattle.numbers.specs.declared.Stop.{Stop}
 use Rattle.pairs.specs.Spots.{meant, Part, Cut, Shows}
 use Rattle.pairs.specs.declared.Spot.{Spot}
+use Rattle.runner.proofs.Unique.{value-of, value-back}
 use Rattle.grumpy.specs.Reports.{checked-report, ran-report, pair-checked-report, pair-ran-report}
 use Rattle.grumpy.specs.declared.answers.Checked.{Checked}
 use Rattle.grumpy.specs.declared.answers.Ran.{Ran}
@@ -61,7 +63,7 @@ checked-back (PairChecked.Passed t) = refl
 checked-back (PairChecked.Refused y x) = ap (λ (y : Refusal). PairChecked.Refused y x) (refusal-back y)
 
 abbrev ran-by : Told → RunReport Place → PairRan
-ran-by passed r = PairRan.Value (r .type) (r .value) (r .units) (r .printed)
+ran-by passed r = PairRan.Value (r .type) (value-of (r .value)) (r .units) (r .printed)
 ran-by (refused y) r = PairRan.Refused (refusal-of y) (spot-of (r .place))
 ran-by (stopped w) r = PairRan.Stopped (stop-of w) (spot-of (r .place)) (r .type) (r .units) (r .printed)
 
@@ -69,7 +71,7 @@ abbrev ran-of : RunReport Place → PairRan
 ran-of r = ran-by (r .told) r
 
 ran-back : (r : PairRan) → ran-of (pair-ran-report r) ≡ r
-ran-back (PairRan.Value t v u n) = refl
+ran-back (PairRan.Value t v u n) = ap (λ (v : Value). PairRan.Value t v u n) (value-back v)
 ran-back (PairRan.Stopped w x t u n) = ap (λ (w : Stop). PairRan.Stopped w x t u n) (stop-back w)
 ran-back (PairRan.Refused y x) = ap (λ (y : Refusal). PairRan.Refused y x) (refusal-back y)
 

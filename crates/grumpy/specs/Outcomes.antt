@@ -3,19 +3,19 @@ use mathlib.Core.List.{List, _++_}
 use mathlib.Core.Option.{some}
 use mathlib.Core.Path.{_≡_}
 use Prim.Native.Nat.{ℕ, _≤_}
-use lib.IntN.{pos}
 use lib.ListN.{length, drop}
 use Rattle.language.specs.Sizes.{WORK, ALLOWANCE}
 use Rattle.language.specs.Tokens.{Token}
 use Rattle.language.specs.Trees.{Ty, Program}
 use Rattle.language.specs.Types.{HasType}
-use Rattle.language.specs.State.{Outcome}
+use Rattle.language.specs.State.{Outcome, nothing}
 use Rattle.language.specs.Meaning.{run}
 use Rattle.language.specs.Numbers.{passed, stopped}
 use Rattle.language.specs.Answers as Answers
 use Rattle.language.specs.Answers.{from-text, nowhere, at, ending, Lent, Enough}
 use Rattle.numbers.specs.Meanings.{stop-meant}
 use Rattle.layout.specs.Table.{zeros}
+use Rattle.layout.specs.Values.{meant}
 use Rattle.layout.specs.Decode.{Holds}
 use Rattle.layout.specs.declared.Held.{Held}
 use Rattle.runner.specs.Contract as Runner
@@ -29,9 +29,9 @@ use Rattle.grumpy.specs.declared.outcomes.Ending.{Ending}
 
 -- the end of a program that the code's is, with the bytes printed
 abbrev pub ending-meant : Ending → List ℕ → Answers.Ending
-ending-meant (Ending.Value v u n) bs = record { told = passed; spot = nowhere; value = v; units = u; printed = bs }
+ending-meant (Ending.Value v u n) bs = record { told = passed; spot = nowhere; value = meant v; units = u; printed = bs }
 ending-meant (Ending.Stopped y i u n) bs =
-    record { told = stopped (stop-meant y); spot = at i; value = pos 0; units = u; printed = bs }
+    record { told = stopped (stop-meant y); spot = at i; value = nothing; units = u; printed = bs }
 
 abbrev pub printed-in : Ending → ℕ
 printed-in (Ending.Value v u n) = n

@@ -1,11 +1,12 @@
 -- What the answers of the services say in the paper's numbers: what is told, and the report.
 use Prim.Native.Nat.{ℕ}
-use lib.IntN.{pos}
+use Rattle.language.specs.State.{nothing}
 use Rattle.language.specs.Numbers.{passed, refused, stopped}
 use Rattle.language.specs.Answers.{CheckReport, check-report, RunReport, refusal}
 use Rattle.language.specs.Writing.{WriteReport, write-report}
 use Rattle.language.specs.Pairs.{Place, front}
 use Rattle.numbers.specs.Meanings.{refusal-meant, stop-meant}
+use Rattle.layout.specs.Values as Values
 use Rattle.pairs.specs.Spots.{meant}
 use Rattle.grumpy.specs.declared.answers.Checked.{Checked}
 use Rattle.grumpy.specs.declared.answers.Ran.{Ran}
@@ -18,9 +19,9 @@ checked-report (Checked.Passed t) = check-report passed 0 t
 checked-report (Checked.Refused y i) = check-report (refused (refusal-meant y)) i 0
 
 abbrev pub ran-report : Ran → RunReport ℕ
-ran-report (Ran.Value t v u n) = record { told = passed; place = 0; type = t; value = v; units = u; printed = n }
+ran-report (Ran.Value t v u n) = record { told = passed; place = 0; type = t; value = Values.meant v; units = u; printed = n }
 ran-report (Ran.Stopped y i t u n) =
-    record { told = stopped (stop-meant y); place = i; type = t; value = pos 0; units = u; printed = n }
+    record { told = stopped (stop-meant y); place = i; type = t; value = nothing; units = u; printed = n }
 ran-report (Ran.Refused y i) = refusal (refusal-meant y) i
 
 abbrev pub wrote-report : Wrote → WriteReport ℕ
@@ -34,7 +35,7 @@ pair-checked-report (PairChecked.Refused y x) = check-report (refused (refusal-m
 
 abbrev pub pair-ran-report : PairRan → RunReport Place
 pair-ran-report (PairRan.Value t v u n) =
-    record { told = passed; place = front; type = t; value = v; units = u; printed = n }
+    record { told = passed; place = front; type = t; value = Values.meant v; units = u; printed = n }
 pair-ran-report (PairRan.Stopped y x t u n) =
-    record { told = stopped (stop-meant y); place = meant x; type = t; value = pos 0; units = u; printed = n }
+    record { told = stopped (stop-meant y); place = meant x; type = t; value = nothing; units = u; printed = n }
 pair-ran-report (PairRan.Refused y x) = refusal (refusal-meant y) (meant x)

@@ -1,4 +1,5 @@
 // What the services answer. `specs/Reports.antt` gives the paper's numbers for each case.
+use layout::values::Value;
 use numbers::Refusal;
 use numbers::Stop;
 use pairs::Spot;
@@ -9,12 +10,12 @@ pub enum Checked {
     Refused(Refusal, usize),
 }
 
-// A value as it is reported, or a stop and the byte it is told at, each with the number of the program's
+// A value, or a stop and the byte it is told at, each with the number of the program's
 // type, the units used and the bytes printed; or a refusal.
 pub enum Ran {
     Value {
         type_number: u32,
-        value: i64,
+        value: Value,
         units: u32,
         printed: usize,
     },
@@ -43,7 +44,7 @@ pub enum PairChecked {
 pub enum PairRan {
     Value {
         type_number: u32,
-        value: i64,
+        value: Value,
         units: u32,
         printed: usize,
     },

@@ -3,9 +3,7 @@ ghost use mathlib.Core.Path.{_≡_};
 ghost use Prim.Native.Nat.{_≤_};
 ghost use lib.ListN.{length};
 ghost use Rattle.language.specs.Sizes.{TOKENS, TABLE, WORK};
-ghost use Rattle.language.specs.Meaning.{value-number};
 ghost use Rattle.layout.specs.Table.{zeros};
-ghost use Rattle.layout.specs.Values.{meant};
 ghost use Rattle.runner.specs.Contract.{Loaded};
 ghost use Rattle.tokens.specs.Shown.{text-of};
 ghost use Rattle.grumpy.specs.Outcomes.{Executed, ran-of, Runnable, Answered};
@@ -21,11 +19,11 @@ use sheets::Seen;
 use tokens::view::View;
 use tokens::view::len;
 
-// How a program ends: a value as it is reported, or a stop and the token it is told at; with the units
+// How a program ends: a value, or a stop and the token it is told at; with the units
 // used and the bytes printed.
 enum Ending {
     Value {
-        value: i64,
+        value: Value,
         units: u32,
         printed: usize,
     },
@@ -37,18 +35,6 @@ enum Ending {
     },
 }
 
-// The number that is reported for a value.
-fn reported(v: Value) -> i64
-    ensures { λ r. ⌜ r ≡ value-number (meant v) ⌝ }
-{
-    match v {
-        Value::Int(z) => z as i64,
-        Value::Flag(b) => { if b { 1 } else { 0 } }
-        Value::Nothing => 0,
-        Value::Cell(n) => n as i64,
-    }
-}
-
 // Runs the program that the table holds.
 fn execute(table: &[u32], work: &mut [u32], out: &mut [u8], program: Held, allowance: u32) -> Ending
     requires { ⌜ Loaded (now table) (now work) program allowance ⌝ }
@@ -56,11 +42,10 @@ fn execute(table: &[u32], work: &mut [u32], out: &mut [u8], program: Held, allow
         (now (out .exit)) program allowance r ⌝ }
 {
     match runner::run(table, work, out, program, allowance) {
-        Done::Value(v, spent) => {
+        Done::Value(value, spent) => {
             let left = spent.left;
             let used = allowance - left;
             let printed = spent.printed;
-            let value = reported(v);
             Ending::Value {
                 value,
                 units: used,

@@ -3,16 +3,18 @@ use mathlib.Core.List.{List}
 use mathlib.Core.Path.{_≡_, refl, sym, ap, subst, _∙_}
 use Prim.Native.Nat.{ℕ, _≤_, _<_}
 use native.Mathlib.Omega.{arith}
-use lib.IntN.{ℤ}
 use lib.ListN.{length, set, length-set}
 use mir.Syntax.{w64}
 use mir.Val.{ofZ}
+use Rattle.language.specs.Meaning.{value-number}
 use Rattle.language.specs.Numbers.{number, refusal-number, stop-number}
 use Rattle.language.specs.Answers.{from-text, CheckReport, Check, RunReport, Run}
 use Rattle.language.specs.Writing.{WriteReport, Write}
 use Rattle.language.proofs.Answers.Origins.{text-lawful}
 use Rattle.language.proofs.Answers.OneAnswer.{one-check, one-run}
 use Rattle.language.proofs.Writing.OneWriting.{one-write}
+use Rattle.layout.specs.Values.{meant}
+use Rattle.layout.specs.declared.values.Value.{Value}
 use Rattle.numbers.specs.Meanings.{refusal-meant, stop-meant}
 use Rattle.numbers.specs.declared.Refusal.{Refusal}
 use Rattle.numbers.specs.declared.Stop.{Stop}
@@ -41,18 +43,20 @@ pub told-refused : (a : Checked) (w w′ : List ℕ) (y : Refusal) (i n : ℕ) �
 told-refused a w w′ y i n e m h =
     subst (λ (a : Checked). ToldChecked a w w′ n) (sym e) (m, h ∙ ap (λ (n : ℕ). three w n i 0) m)
 
-pub told-value : (a : Ran) (w w′ : List ℕ) (k : ℕ) (v : ℤ) (u p b : ℕ) → a ≡ Ran.Value k v u p → b ≡ ofZ w64 v
+pub told-value : (a : Ran) (w w′ : List ℕ) (k : ℕ) (v : Value) (u p b : ℕ) → a ≡ Ran.Value k v u p → b ≡ ofZ w64 (value-number (meant v))
     → w′ ≡ six w 0 0 k b u p → ToldRan a w w′ 0
 told-value a w w′ k v u p b e m h =
     subst (λ (a : Ran). ToldRan a w w′ 0) (sym e) (refl, h ∙ ap (λ (b : ℕ). six w 0 0 k b u p) m)
 
 pub told-stopped : (a : Ran) (w w′ : List ℕ) (y : Stop) (i k u p n : ℕ) → a ≡ Ran.Stopped y i k u p → n ≡ stop-number (stop-meant y)
     → w′ ≡ six w n i k 0 u p → ToldRan a w w′ n
+unfolding value-number
 told-stopped a w w′ y i k u p n e m h =
     subst (λ (a : Ran). ToldRan a w w′ n) (sym e) (m, h ∙ ap (λ (n : ℕ). six w n i k 0 u p) m)
 
 pub told-not-run : (a : Ran) (w w′ : List ℕ) (y : Refusal) (i n : ℕ) → a ≡ Ran.Refused y i → n ≡ refusal-number (refusal-meant y)
     → w′ ≡ six w n i 0 0 0 0 → ToldRan a w w′ n
+unfolding value-number
 told-not-run a w w′ y i n e m h =
     subst (λ (a : Ran). ToldRan a w w′ n) (sym e) (m, h ∙ ap (λ (n : ℕ). six w n i 0 0 0 0) m)
 

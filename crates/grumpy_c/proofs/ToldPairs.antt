@@ -3,15 +3,17 @@ use mathlib.Core.List.{List}
 use mathlib.Core.Path.{_≡_, refl, sym, ap, ap₂, subst, _∙_}
 use Prim.Native.Nat.{ℕ, _+_, _≤_, _<_}
 use native.Mathlib.Omega.{arith}
-use lib.IntN.{ℤ}
 use lib.ListN.{length, set, length-set}
 use mir.Syntax.{w64}
 use mir.Val.{ofZ}
+use Rattle.language.specs.Meaning.{value-number}
 use Rattle.language.specs.Numbers.{number, refusal-number, stop-number}
 use Rattle.language.specs.Answers.{CheckReport, Check, RunReport, Run}
 use Rattle.language.specs.Pairs.{Place, front, from-pair}
 use Rattle.language.proofs.Answers.Pairs.{pair-lawful}
 use Rattle.language.proofs.Answers.OneAnswer.{one-check, one-run}
+use Rattle.layout.specs.Values as Values
+use Rattle.layout.specs.declared.values.Value.{Value}
 use Rattle.numbers.specs.Meanings.{refusal-meant, stop-meant}
 use Rattle.numbers.specs.declared.Refusal.{Refusal}
 use Rattle.numbers.specs.declared.Stop.{Stop}
@@ -50,7 +52,7 @@ module _ (a : PairChecked) (w w′ : List ℕ) where
       (m, h ∙ ap (λ (n : ℕ). spot-words (three w n (x .at) 0) 3 (meant x)) m)
 
 module _ (a : PairRan) (w w′ : List ℕ) where
-  pub told-value : (k : ℕ) (v : ℤ) (u p b : ℕ) (x : Spot) → a ≡ PairRan.Value k v u p → b ≡ ofZ w64 v → meant x ≡ front
+  pub told-value : (k : ℕ) (v : Value) (u p b : ℕ) (x : Spot) → a ≡ PairRan.Value k v u p → b ≡ ofZ w64 (value-number (Values.meant v)) → meant x ≡ front
       → w′ ≡ spot-words (six w 0 (meant x .at) k b u p) 6 (meant x) → ToldPairRan a w w′ 0
   told-value k v u p b x e m c h =
       subst (λ (a : PairRan). ToldPairRan a w w′ 0) (sym e)
@@ -58,12 +60,14 @@ module _ (a : PairRan) (w w′ : List ℕ) where
 
   pub told-stopped : (y : Stop) (x : Spot) (k u p n : ℕ) → a ≡ PairRan.Stopped y x k u p → n ≡ stop-number (stop-meant y)
       → w′ ≡ spot-words (six w n (meant x .at) k 0 u p) 6 (meant x) → ToldPairRan a w w′ n
+  unfolding value-number
   told-stopped y x k u p n e m h =
       subst (λ (a : PairRan). ToldPairRan a w w′ n) (sym e)
       (m, h ∙ ap (λ (n : ℕ). spot-words (six w n (x .at) k 0 u p) 6 (meant x)) m)
 
   pub told-not-run : (y : Refusal) (x : Spot) (n : ℕ) → a ≡ PairRan.Refused y x → n ≡ refusal-number (refusal-meant y)
       → w′ ≡ spot-words (six w n (meant x .at) 0 0 0 0) 6 (meant x) → ToldPairRan a w w′ n
+  unfolding value-number
   told-not-run y x n e m h =
       subst (λ (a : PairRan). ToldPairRan a w w′ n) (sym e)
       (m, h ∙ ap (λ (n : ℕ). spot-words (six w n (x .at) 0 0 0 0) 6 (meant x)) m)

@@ -5,6 +5,7 @@ use Prim.Native.Nat.{ℕ, _+_, _≤_, _<_}
 use lib.ListN.{length, set}
 use mir.Syntax.{w64}
 use mir.Val.{ofZ}
+use Rattle.language.specs.Meaning.{value-number}
 use Rattle.language.specs.Numbers.{short-memory, refusal-number, number}
 use Rattle.language.specs.Answers.{CheckReport, Check, RunReport, Run}
 use Rattle.language.specs.Pairs.{Place, from-pair}
@@ -23,7 +24,7 @@ pair-check-words w r = spot-words (three w (number (r .told)) (r .place .at) (r 
 
 abbrev pub pair-run-words : List ℕ → RunReport Place → List ℕ
 pair-run-words w r =
-    spot-words (six w (number (r .told)) (r .place .at) (r .type) (ofZ w64 (r .value)) (r .units) (r .printed)) 6
+    spot-words (six w (number (r .told)) (r .place .at) (r .type) (ofZ w64 (value-number (r .value))) (r .units) (r .printed)) 6
     (r .place)
 
 abbrev pub ToldPairChecked : PairChecked → List ℕ → List ℕ → ℕ → Type 0

@@ -5,6 +5,7 @@ use Prim.Native.Nat.{ℕ, _≤_, _<_}
 use lib.ListN.{length, set}
 use mir.Syntax.{w64}
 use mir.Val.{ofZ}
+use Rattle.language.specs.Meaning.{value-number}
 use Rattle.language.specs.Numbers.{short-memory, refusal-number, number}
 use Rattle.language.specs.Answers.{from-text, CheckReport, Check, RunReport, Run}
 use Rattle.language.specs.Writing.{WriteReport, Write}
@@ -20,12 +21,12 @@ three w n i t = set (set (set w 0 n) 1 i) 2 t
 unfoldable pub six : List ℕ → ℕ → ℕ → ℕ → ℕ → ℕ → ℕ → List ℕ
 six w n i t v u p = set (set (set (three w n i t) 3 v) 4 u) 5 p
 
--- a report in words, the number of what is told first; the value in two's complement
+-- a report in words, the number of what is told first; the value in two's complement, a float by its bits (R08.7)
 abbrev pub check-words : List ℕ → CheckReport ℕ → List ℕ
 check-words w r = three w (number (r .told)) (r .place) (r .type)
 
 abbrev pub run-words : List ℕ → RunReport ℕ → List ℕ
-run-words w r = six w (number (r .told)) (r .place) (r .type) (ofZ w64 (r .value)) (r .units) (r .printed)
+run-words w r = six w (number (r .told)) (r .place) (r .type) (ofZ w64 (value-number (r .value))) (r .units) (r .printed)
 
 abbrev pub write-words : List ℕ → WriteReport ℕ → List ℕ
 write-words w r = three w (number (r .told)) (r .place) (r .written)

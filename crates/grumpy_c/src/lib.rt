@@ -1,33 +1,23 @@
 // The C interface of the box. All functions return the paper's number and write a report: number, place,
-// type, and for run also value (64-bit two's complement), units and bytes printed; for write bytes written
-// in the type's stead; for two sheets also the sheet, and where the line that is shown begins and ends in it.
+// type, and for run also value (64-bit two's complement; a float's bits), units and bytes printed; for write
+// bytes written in the type's stead; for two sheets also the sheet, and where the line that is shown begins and ends in it.
 // A report that is too short is answered like memory that is too short, and nothing is changed.
 ghost use mathlib.Core.Path.{_≡_};
 ghost use Prim.Native.Nat.{ℕ, _+_, _≤_};
 ghost use lib.ListN.{length};
-ghost use mir.Syntax.{w64};
-ghost use mir.Val.{ofZ};
 ghost use Rattle.pairs.specs.Spots.{meant};
 ghost use Rattle.grumpy_c.specs.Reports.{three, six, ToldChecked, ToldRan, ToldWrote, CheckedC, RanC, WroteC};
 ghost use Rattle.grumpy_c.specs.Pairs.{spot-words, ToldPairChecked, ToldPairRan, PairCheckedC, PairRanC};
+
+mod words;
+
+use crate::words::word;
 use grumpy::answers::Checked;
 use grumpy::answers::PairChecked;
 use grumpy::answers::PairRan;
 use grumpy::answers::Ran;
 use grumpy::answers::Wrote;
 use pairs::Spot;
-
-// The two's complement of v.
-fn complement(v: i64) -> u64
-    ensures { λ r. ⌜ r ≡ ofZ w64 v ⌝ }
-{
-    if v < 0 {
-        let below = -(v + 1);
-        18446744073709551615 - (below as u64)
-    } else {
-        v as u64
-    }
-}
 
 // Number, place, and what the service has to add.
 fn write_three(report: &mut [u64], number: u32, place: usize, last: u64)
@@ -112,7 +102,7 @@ fn report_ran(report: &mut [u64], answer: Ran) -> u32
             units,
             printed,
         } => {
-            let bits = complement(value);
+            let bits = word(value);
             write_run_report(report, 0, 0, type_number, bits, units, printed);
             0
         }
@@ -238,7 +228,7 @@ fn report_pair_ran(report: &mut [u64], answer: PairRan) -> u32
             units,
             printed,
         } => {
-            let bits = complement(value);
+            let bits = word(value);
             write_pair_run_report(report, 0, pairs::front(), type_number, bits, units, printed);
             0
         }

@@ -7,10 +7,12 @@ pub mod Demand1
 pub mod Demand3
 pub mod HeadOffice
 pub mod NotAgain
-pub mod PlacesAside
 pub mod OldSheets
-pub mod DecimalSheets
 pub mod Pairs
+pub mod OlderTexts
+pub mod PlacesAside
 pub mod Examples
 pub mod FurtherExamples
+pub mod FloatExamples
 pub mod LetAfterElse
+pub mod BeforeFloats

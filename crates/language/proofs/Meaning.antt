@@ -11,3 +11,5 @@ pub mod CellOrder
 pub mod Freed
 pub mod StopPlaces
 pub mod Passing
+pub mod OldMeaning
+pub mod SameAsBefore

@@ -19,3 +19,6 @@ pub mod Examples
 pub mod BaseExamples
 pub mod SmallNumbers
 pub mod DecimalBefore
+pub mod PointBefore
+pub mod Fractions
+pub mod FloatNumbers

@@ -2,3 +2,4 @@
 pub mod OneType
 pub mod TypeNumbers
 pub mod FaultPlaces
+pub mod OldTypes

@@ -8,7 +8,6 @@ use mathlib.Core.Option.{Option, none, some}
 use mathlib.Core.Path.{_≡_}
 use Prim.Native.Nat.{ℕ, _-_, _≤_, _<_}
 use lib.Dec.{ltb}
-use lib.IntN.{ℤ, pos}
 use lib.ListN.{length, drop, replicate}
 use Rattle.language.specs.Sizes.{SOURCE, ALLOWANCE, TABLE, WORK}
 use Rattle.language.specs.Tokens.{Token, place-at}
@@ -19,10 +18,11 @@ use Rattle.language.specs.Grammar.{Reading}
 use Rattle.language.specs.Starts.{FirstWrong}
 use Rattle.language.specs.Types.{HasType}
 use Rattle.language.specs.Faults.{Reason, HasFault}
-use Rattle.language.specs.State.{State, Outcome, value, stop, stuck}
-use Rattle.language.specs.Meaning.{run, value-number, type-number}
-use Rattle.language.specs.Numbers.{Refusal, short-memory, large-allowance, long-source, text}
-use Rattle.language.specs.Numbers.{no-reading, types, long-text, Told, passed, refused, stopped}
+use Rattle.language.specs.State.{Value, nothing, State, Outcome, value, stop, stuck}
+use Rattle.language.specs.Meaning.{run, type-number}
+use Rattle.language.specs.Numbers.{Refusal, short-memory, large-allowance, long-source}
+use Rattle.language.specs.Numbers.{text, no-reading, types, Told, passed, refused, stopped}
+use Rattle.language.specs.Numbers.{long-text}
 
 -- ---- where tokens come from
 
@@ -87,24 +87,24 @@ module _ {P : Type 0} (o : Origin P) where
 
 -- ---- what becomes of a program
 
--- what is told of its end and at which token, the value reported, the units used, and the bytes printed, the first one
--- first
+-- what is told of its end and at which token, its value (R08.6), which is nothing where it stopped, the units used, and
+-- the bytes printed, the first one first
 pub record Ending : Type 0 where
   pub told : Told
   pub spot : Spot
-  pub value : ℤ
+  pub value : Value
   pub units : ℕ
   pub printed : List ℕ
 
 -- units used are those that the allowance has lost
-abbrev pub ended : ℕ → Told → Spot → ℤ → State → Ending
+abbrev pub ended : ℕ → Told → Spot → Value → State → Ending
 ended allowance a i v s =
     record { told = a; spot = i; value = v; units = allowance - s .units; printed = reverse (s .printed) }
 
 -- S097; no reading that has a type is stuck
 unfoldable pub ending : ℕ → Outcome → Option Ending
-ending allowance (value v s) = some (ended allowance passed nowhere (value-number v) s)
-ending allowance (stop w i s) = some (ended allowance (stopped w) (at i) (pos 0) s)
+ending allowance (value v s) = some (ended allowance passed nowhere v s)
+ending allowance (stop w i s) = some (ended allowance (stopped w) (at i) nothing s)
 ending allowance stuck = none
 
 -- ---- what is left in lent memory (S100): the required words zero, those past them as before; after 40 all as before
@@ -156,7 +156,7 @@ pub record RunReport (P : Type 0) : Type 0 where
   pub told : Told
   pub place : P
   pub type : ℕ
-  pub value : ℤ
+  pub value : Value
   pub units : ℕ
   -- how many bytes were printed (S095)
   pub printed : ℕ
@@ -175,7 +175,7 @@ pub record Enough (l : Lent) : Type 0 where
 
 -- S096
 abbrev pub refusal : {P : Type 0} → Refusal → P → RunReport P
-refusal r x = record { told = refused r; place = x; type = 0; value = pos 0; units = 0; printed = 0 }
+refusal r x = record { told = refused r; place = x; type = 0; value = nothing; units = 0; printed = 0 }
 
 abbrev pub after-run : {P : Type 0} → Origin P → List Token → Ty → Ending → RunReport P
 after-run o ts t e = record {

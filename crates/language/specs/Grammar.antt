@@ -4,14 +4,17 @@ use mathlib.Core.Bool.{true, false}
 use mathlib.Core.List.{List, [], _∷_}
 use Prim.Native.Nat.{ℕ, _+_}
 use lib.ListN.{length}
-use Rattle.language.specs.Tokens.{Token, Entry, _is_, At, Means, value-at, spelling-at, NAME, NUMBER}
-use Rattle.language.specs.Tokens.{DEF, LET, IN, WHILE, IF, THEN, ELSE, REF, NOT, INT, BOOL, TRUE}
-use Rattle.language.specs.Tokens.{FALSE, UNIT, TT, PLUS, MINUS, STAR, SLASH, AND, OR, LESS, EQUAL}
+use Rattle.language.specs.Tokens.{Token, Entry, _is_, At, Means, value-at, spelling-at}
+use Rattle.language.specs.Tokens.{NAME, NUMBER, FLOAT-NUMBER, FLOAT, DEF, LET, IN, WHILE}
+use Rattle.language.specs.Tokens.{IF, THEN, ELSE, REF, NOT, INT, BOOL, TRUE, FALSE, UNIT}
+use Rattle.language.specs.Tokens.{TT, PLUS, MINUS, STAR, SLASH, AND, OR, LESS, EQUAL}
 use Rattle.language.specs.Tokens.{BECOMES, IS, BANG, SEMI, COMMA, COLON, LPAR, RPAR, LBRACE, RBRACE}
-use Rattle.language.specs.Trees.{Ty, int, bool, unit, ref, Literal, whole, truth, trivial, Unary}
-use Rattle.language.specs.Trees.{minus, not, fetch, new, Binary, add, sub, mul, div, less, equal}
-use Rattle.language.specs.Trees.{Exp, name, literal, unary, binary, follow, group, block, call}
-use Rattle.language.specs.Trees.{bind, branch, loop, Exps, last, more, Param, Def, Program}
+use Rattle.language.specs.Decimals.{float-of}
+use Rattle.language.specs.Trees.{Ty, int, bool, unit, float, ref, Literal, whole, truth}
+use Rattle.language.specs.Trees.{trivial, decimal, Unary, minus, not, fetch, new, Binary}
+use Rattle.language.specs.Trees.{add, sub, mul, div, less, equal, Exp, name, literal}
+use Rattle.language.specs.Trees.{unary, binary, follow, group, block, call, bind, branch}
+use Rattle.language.specs.Trees.{loop, Exps, last, more, Param, Def, Program}
 
 -- ---- the symbols
 
@@ -72,7 +75,7 @@ abbrev pub constants : List (Entry ℕ Literal)
 constants = TRUE is truth true ∷ FALSE is truth false ∷ TT is trivial ∷ []
 
 abbrev pub basics : List (Entry ℕ Ty)
-basics = INT is int ∷ BOOL is bool ∷ UNIT is unit ∷ []
+basics = INT is int ∷ BOOL is bool ∷ UNIT is unit ∷ FLOAT is float ∷ []
 
 -- ---- what Def, its parameters and Program put together
 
@@ -111,7 +114,7 @@ pub data Reads (ts : List Token) : (s : Sym) → ℕ → ℕ → Of s → Type 0
   params-more : {i m j : ℕ} {t : Ty} {ps : List Param}
       → At ts i NAME → At ts (i + 1) COLON → Reads ts type (i + 2) m t → At ts m COMMA → Reads ts params (m + 1) j ps
       → Reads ts params i j (param ts i t ∷ ps)
-  -- Type (S024)
+  -- Type (S024, R08.1)
   type-basic : {i : ℕ} {t : Ty} → Means ts i basics t → Reads ts type i (i + 1) t
   type-ref : {i m : ℕ} {t : Ty} → Reads ts type i m t → At ts m REF → Reads ts type i (m + 1) (ref t)
   -- Seq (S025, R05.2): `;` associates to the right
@@ -161,6 +164,9 @@ pub data Reads (ts : List Token) : (s : Sym) → ℕ → ℕ → Of s → Type 0
       → At ts i NAME → At ts (i + 1) LPAR → Reads ts actuals (i + 2) j es
       → Reads ts atom i j (call i (spelling-at ts i) es)
   atom-number : {i : ℕ} → At ts i NUMBER → Reads ts atom i (i + 1) (literal i (whole (value-at ts i)))
+  -- R08.3
+  atom-float : {i : ℕ} → At ts i FLOAT-NUMBER
+      → Reads ts atom i (i + 1) (literal i (decimal (float-of (spelling-at ts i))))
   atom-constant : {i : ℕ} {l : Literal} → Means ts i constants l → Reads ts atom i (i + 1) (literal i l)
   atom-group : {i k : ℕ} {e : Exp}
       → At ts i LPAR → Reads ts seq (i + 1) k e → At ts k RPAR → Reads ts atom i (k + 1) (group i e)

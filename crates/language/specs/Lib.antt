@@ -1,5 +1,6 @@
 pub mod Sizes
 pub mod Tokens
+pub mod Decimals
 pub mod Text
 pub mod Edition
 pub mod Trees

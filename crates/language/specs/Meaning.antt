@@ -5,14 +5,16 @@ use Prim.Native.Nat.{ℕ, zero, suc, _+_}
 use lib.Dec.{eqb, leb, ltb}
 use lib.IntN.{ℤ, pos, negsuc, negℤ, _+ℤ_, _-ℤ_, _*ℤ_}
 use lib.Signed.{ltZ, quotZ}
+use lib.Ieee as Ieee
+use lib.Ieee.{Float, binary64, toBits}
 use Rattle.language.specs.Sizes.{ACTIVE, CELLS, LARGEST, BYTE}
-use Rattle.language.specs.State.{Value, number, flag, nothing, cell, no-cell, count, held, store}
-use Rattle.language.specs.State.{keep, State, with-units, with-cells, with-birth, with-byte, no-unit}
-use Rattle.language.specs.State.{too-deep, out-of-range, zero-divisor, cell-freed, cells-full}
+use Rattle.language.specs.State.{Value, number, float, flag, nothing, cell, no-cell, count, held}
+use Rattle.language.specs.State.{store, keep, State, with-units, with-cells, with-birth, with-byte}
+use Rattle.language.specs.State.{no-unit, too-deep, out-of-range, zero-divisor, cell-freed, cells-full}
 use Rattle.language.specs.State.{not-a-byte, output-full, Outcome, value, stop, stuck, then, as-int}
-use Rattle.language.specs.State.{as-bool, as-unit, as-cell, has, choose, when-some, want, only}
-use Rattle.language.specs.Trees.{Ty, int, bool, unit, ref, Literal, whole, truth, trivial, Unary, minus, fetch}
-use Rattle.language.specs.Trees.{new, Binary, add, sub, mul, div, less, equal, and, or, assign, Exp, name}
+use Rattle.language.specs.State.{as-bool, as-unit, as-cell, has, choose, when-some, want, alike, only}
+use Rattle.language.specs.Trees.{Ty, int, bool, unit, ref, Literal, whole, truth, trivial, decimal, Unary, minus}
+use Rattle.language.specs.Trees.{fetch, new, Binary, add, sub, mul, div, less, equal, and, or, assign, Exp, name}
 use Rattle.language.specs.Trees.{literal, unary, binary, follow, group, block, call, bind, branch, loop, Exps}
 use Rattle.language.specs.Trees.{last, more, own, Param, Def, Program, Scope, empty, push, nearest, PUTCHAR}
 
@@ -48,8 +50,8 @@ same-int (negsuc m) (negsuc n) = eqb m n
 
 unfoldable pub create : ℕ → Value → State → Outcome
 create i v s =
-    choose (ltb (count (s .cells)) CELLS) (λ _. value (cell (suc (s .births))) (with-birth v s)) λ _.
-    stop cells-full i s
+    choose (ltb (count (s .cells)) CELLS) (λ _. value (cell (suc (s .births))) (with-birth v s)) λ _. stop cells-full i
+    s
 
 unfoldable pub apply-unary : ℕ → Unary → Value → State → Outcome
 apply-unary i minus v s = want (as-int v) λ x. fit i (negℤ x) s
@@ -58,13 +60,16 @@ apply-unary i fetch v s = want (as-cell v) λ b. when-some (held b (s .cells)) (
 apply-unary i new v s = create i v s
 
 -- `quotZ` drops the fraction toward zero
+unfoldable pub quotient : ℕ → ℤ → ℤ → State → Outcome
+quotient i x y s = choose (is-zero y) (λ _. stop zero-divisor i s) λ _. fit i (quotZ x y) s
+
+-- A float's operation is the one 64-bit operation that the logic names: rounded once, and never a stop (R08.4, R08.5).
 unfoldable pub apply-binary : ℕ → Binary → Value → Value → State → Outcome
-apply-binary i add v w s = want (as-int v) λ x. want (as-int w) λ y. fit i (x +ℤ y) s
-apply-binary i sub v w s = want (as-int v) λ x. want (as-int w) λ y. fit i (x -ℤ y) s
-apply-binary i mul v w s = want (as-int v) λ x. want (as-int w) λ y. fit i (x *ℤ y) s
-apply-binary i div v w s =
-    want (as-int v) λ x. want (as-int w) λ y. choose (is-zero y) (λ _. stop zero-divisor i s) λ _. fit i (quotZ x y) s
-apply-binary i less v w s = want (as-int v) λ x. want (as-int w) λ y. value (flag (ltZ x y)) s
+apply-binary i add v w s = alike v w (λ x y. fit i (x +ℤ y) s) λ x y. value (float (Ieee.add binary64 x y)) s
+apply-binary i sub v w s = alike v w (λ x y. fit i (x -ℤ y) s) λ x y. value (float (Ieee.sub binary64 x y)) s
+apply-binary i mul v w s = alike v w (λ x y. fit i (x *ℤ y) s) λ x y. value (float (Ieee.mul binary64 x y)) s
+apply-binary i div v w s = alike v w (λ x y. quotient i x y s) λ x y. value (float (Ieee.div binary64 x y)) s
+apply-binary i less v w s = alike v w (λ x y. value (flag (ltZ x y)) s) λ x y. value (flag (Ieee.lt x y)) s
 apply-binary i equal v w s = want (as-int v) λ x. want (as-int w) λ y. value (flag (same-int x y)) s
 apply-binary i and v w s = want (as-bool v) λ x. want (as-bool w) λ y. value (flag y) s
 apply-binary i or v w s = want (as-bool v) λ x. want (as-bool w) λ y. value (flag y) s
@@ -97,6 +102,7 @@ unfoldable pub literal-value : Literal → Value
 literal-value (whole n) = number (pos n)
 literal-value (truth b) = flag b
 literal-value trivial = nothing
+literal-value (decimal x) = float x
 
 -- ---- what a node does, once begun
 
@@ -176,6 +182,8 @@ run p allowance room =
 
 unfoldable pub value-number : Value → ℤ
 value-number (number z) = z
+-- R08.7: its 64 bits; the one not-a-number there is has those that are asked for
+value-number (float x) = pos (toBits binary64 x)
 value-number (flag true) = pos 1
 value-number (flag false) = pos 0
 value-number nothing = pos 0
@@ -185,4 +193,5 @@ unfoldable pub type-number : Ty → ℕ
 type-number int = 1
 type-number bool = 2
 type-number unit = 3
+type-number Ty.float = 4
 type-number (ref t) = 8 + type-number t

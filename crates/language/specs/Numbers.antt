@@ -1,7 +1,7 @@
 -- The table of numbers (S068 to S090, R01.2, R03.5): what an answer tells, and the number of it. 21 stood for too many
 -- nodes, which no reading has; it is not used again (R02.4).
 use Prim.Native.Nat.{ℕ}
-use Rattle.language.specs.Text.{Flaw, strange-byte, open-comment, large-number, many-tokens}
+use Rattle.language.specs.Text.{Flaw, strange-byte, open-comment, large-number, many-tokens, long-float}
 use Rattle.language.specs.Faults.{Reason, no-binding, no-function, wrong-number, wrong-argument, wrong-operand}
 use Rattle.language.specs.Faults.{wrong-operands, not-unit, not-bool, branches-differ, wrong-body, too-many-refs}
 use Rattle.language.specs.Faults.{too-many-functions, too-many-parameters, function-twice, parameter-twice}
@@ -28,6 +28,7 @@ flaw-number strange-byte = 11
 flaw-number open-comment = 12
 flaw-number large-number = 13
 flaw-number many-tokens = 14
+flaw-number long-float = 15
 
 abbrev pub reason-number : Reason → ℕ
 reason-number too-many-functions = 30

@@ -42,6 +42,10 @@ WORK = 16384
 abbrev pub LARGEST : ℕ
 LARGEST = 2147483647
 
+-- the digits of a float number (R08.2)
+abbrev pub DIGITS : ℕ
+DIGITS = 15
+
 -- the largest value of a byte
 abbrev pub BYTE : ℕ
 BYTE = 255

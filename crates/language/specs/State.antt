@@ -5,12 +5,14 @@ use mathlib.Core.Option.{Option, none, some}
 use Prim.Native.Nat.{ℕ, suc}
 use lib.Dec.{eqb, leb}
 use lib.IntN.{ℤ}
+use lib.Ieee.{Float}
 
 -- ---- values and cells
 
 -- a reference is the birth number of its cell (S062)
 pub data Value : Type 0 where
   number : ℤ → Value
+  float : Float → Value
   flag : Bool → Value
   nothing : Value
   cell : ℕ → Value
@@ -18,24 +20,35 @@ pub data Value : Type 0 where
 -- A value by its kind: what it carries if it is of the kind, else none. All that comes after goes by these.
 abbrev pub as-int : Value → Option ℤ
 as-int (number z) = some z
+as-int (float x) = none
 as-int (flag b) = none
 as-int nothing = none
 as-int (cell b) = none
 
+abbrev pub as-float : Value → Option Float
+as-float (number z) = none
+as-float (float x) = some x
+as-float (flag b) = none
+as-float nothing = none
+as-float (cell b) = none
+
 abbrev pub as-bool : Value → Option Bool
 as-bool (number z) = none
+as-bool (float x) = none
 as-bool (flag b) = some b
 as-bool nothing = none
 as-bool (cell b) = none
 
 abbrev pub as-unit : Value → Option (Unit {0})
 as-unit (number z) = none
+as-unit (float x) = none
 as-unit (flag b) = none
 as-unit nothing = some tt
 as-unit (cell b) = none
 
 abbrev pub as-cell : Value → Option ℕ
 as-cell (number z) = none
+as-cell (float x) = none
 as-cell (flag b) = none
 as-cell nothing = none
 as-cell (cell b) = some b
@@ -103,7 +116,8 @@ with-byte n left s = record {
   births = s .births;
   room = left;
   cells = s .cells;
-  printed = n ∷ s .printed;
+  printed = n
+      ∷ s .printed;
 }
 
 -- ---- how a node ends
@@ -138,6 +152,12 @@ when-some (some a) f x = f a
 -- what is wanted goes on; where it is not there, it is stuck
 abbrev pub want : {A : Type 0} → Option A → (A → Outcome) → Outcome
 want o f = when-some o f λ _. stuck
+
+-- two ints, or else two floats
+unfoldable pub alike : Value → Value → (ℤ → ℤ → Outcome) → (Float → Float → Outcome) → Outcome
+alike v w f g =
+    when-some (as-int v) (λ x. want (as-int w) λ y. f x y) λ _.
+    want (as-float v) λ x. want (as-float w) λ y. g x y
 
 -- of one value that value
 unfoldable pub only : List Value → Option Value

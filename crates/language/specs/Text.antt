@@ -1,5 +1,5 @@
--- How the bytes of a text split into tokens by a vocabulary, and the four things that stop a split (S009 to S021; rows
--- 11 to 14). Places are byte offsets. What a piece of text may be is said by its form; that the longest form counts is
+-- How the bytes of a text split into tokens by a vocabulary, and the five things that stop a split (S009 to S021; rows
+-- 11 to 15). Places are byte offsets. What a piece of text may be is said by its form; that the longest form counts is
 -- said once.
 use mathlib.Core.Bool.{Bool, true, cond, _&&_, _||_, not}
 use mathlib.Core.List.{List, [], _∷_, _++_}
@@ -10,8 +10,8 @@ use Prim.Native.Nat.{ℕ, _+_, _*_, _-_, _≤_, _<_}
 use lib.Dec.{eqb, leb, ltb}
 use lib.ListN.{length, getD}
 use lib.Seq.{slice}
-use Rattle.language.specs.Sizes.{TOKENS, LARGEST}
-use Rattle.language.specs.Tokens.{Spelling, spell, Vocabulary, Token, NAME, NUMBER, spelled}
+use Rattle.language.specs.Sizes.{TOKENS, LARGEST, DIGITS}
+use Rattle.language.specs.Tokens.{Spelling, spell, Vocabulary, Token, NAME, NUMBER, FLOAT-NUMBER, spelled}
 
 -- ---- bytes
 
@@ -86,9 +86,10 @@ pub record Comment (t : List ℕ) (p q : ℕ) : Type 0 where
 
 -- ---- pieces
 
--- what a piece of text comes to: no token, a comment that is still open, or a token with its kind and value
+-- what a piece of text comes to: no token, a comment that is still open, a float number of too many digits, or a token
+-- with its kind and value
 pub data Content : Type 0 where
-  space unclosed : Content
+  space unclosed overlong : Content
   token : (kind value : ℕ) → Content
 
 -- S012: a name that is a reserved word has the word's kind
@@ -101,6 +102,10 @@ unfoldable pub number-from : (base : ℕ) → ℕ → Spelling → ℕ
 number-from base n [] = n
 number-from base n (d ∷ s) = number-from base (n * base + worth d) s
 
+-- R08.2: a float number of n bytes, of which the point is no digit; what it is worth is said by its spelling
+abbrev pub float-content : ℕ → Content
+float-content n = cond (leb n (DIGITS + 1)) (token FLOAT-NUMBER 0) overlong
+
 -- the bytes from p up to q are there, one at least
 pub record Within (t : List ℕ) (p q : ℕ) : Type 0 where
   pub some : p < q
@@ -109,9 +114,9 @@ pub record Within (t : List ℕ) (p q : ℕ) : Type 0 where
 abbrev pub token-of : List ℕ → ℕ → ℕ → ℕ → ℕ → Token
 token-of t p q k v = record { kind = k; value = v; spelling = slice p q t; place = p }
 
--- what stops a split (rows 11 to 14)
+-- what stops a split (rows 11 to 15)
 pub data Flaw : Type 0 where
-  strange-byte open-comment large-number many-tokens : Flaw
+  strange-byte open-comment large-number many-tokens long-float : Flaw
 
 module _ (voc : Vocabulary) where
   unfoldable pub word-kind : Spelling → ℕ
@@ -129,6 +134,10 @@ module _ (voc : Vocabulary) where
     -- R06.2, R06.4: its first two bytes tell the base, and a digit follows them
     based : {base : ℕ} → spelled (voc .bases) (slice p (p + 2) t) ≡ some base → Within t (p + 2) q
         → Each (is-digit-of base) t (p + 2) q → Form t p q (token NUMBER (number-from base 0 (slice (p + 2) q t)))
+    -- R08.2: digits, a point at m, and any digits
+    float : {m : ℕ} → voc .points ≡ true → Within t p m → Each is-digit t p m → byte t m ≡ code "." → m < q
+        → q ≤ length t
+        → Each is-digit t (m + 1) q → Form t p q (float-content (q - p))
     mark : {k : ℕ} → Within t p q → spelled (voc .marks) (slice p q t) ≡ some k → Form t p q (token k 0)
 
   -- S010: and no form at p is longer
@@ -152,6 +161,7 @@ module _ (voc : Vocabulary) where
   pub data Wrong (t : List ℕ) (p : ℕ) (ts : List Token) : Flaw → Type 0 where
     strange : p < length t → ((q : ℕ) (c : Content) → Form t p q c → ⊥) → Wrong t p ts strange-byte
     opened : {q : ℕ} → Piece t p q unclosed → Wrong t p ts open-comment
+    long : {q : ℕ} → Piece t p q overlong → Wrong t p ts long-float
     large : {q k v : ℕ} → Piece t p q (token k v) → LARGEST < v → Wrong t p ts large-number
     many : {q k v : ℕ} → Piece t p q (token k v) → v ≤ LARGEST → length ts ≡ TOKENS → Wrong t p ts many-tokens
 

@@ -148,6 +148,10 @@ LBRACE = 37
 abbrev pub RBRACE : ℕ
 RBRACE = 38
 
+-- a number with a point (R08.2); `float` is the word
+abbrev pub FLOAT-NUMBER : ℕ
+FLOAT-NUMBER = 39
+
 -- a row of a table: this stands for that
 infix 70 _is_
 pub data Entry (A B : Type 0) : Type 0 where
@@ -171,15 +175,17 @@ marks =
 abbrev pub bases : List (Entry String ℕ)
 bases = "0x" is 16 ∷ "0b" is 2 ∷ []
 
--- An edition of the language is a vocabulary: tables of its words, of its marks and of its bases. All else that is said
--- of texts is the same in every edition.
+-- An edition of the language is a vocabulary: tables of its words, of its marks and of its bases, and whether it has
+-- points. All else that is said of texts is the same in every edition.
 pub record Vocabulary : Type 0 where
   pub words : List (Entry String ℕ)
   pub marks : List (Entry String ℕ)
   pub bases : List (Entry String ℕ)
+  -- whether a number may have a point
+  pub points : Bool
 
 abbrev pub EDITION-1 : Vocabulary
-EDITION-1 = record { words = words; marks = marks; bases = bases }
+EDITION-1 = record { words = words; marks = marks; bases = bases; points = true }
 
 -- the kind that a table of spellings gives
 unfoldable pub spelled : List (Entry String ℕ) → Spelling → Option ℕ

@@ -3,6 +3,7 @@ use mathlib.Core.Bool.{Bool, cond}
 use mathlib.Core.List.{List, [], _∷_}
 use mathlib.Core.Option.{Option, none, some}
 use Prim.Native.Nat.{ℕ, suc, _+_}
+use lib.Ieee.{Float}
 use Rattle.language.specs.Tokens.{Spelling, spell, same}
 
 abbrev pub Name : Type 0
@@ -11,7 +12,7 @@ Name = Spelling
 -- ---- types
 
 pub data Ty : Type 0 where
-  int bool unit : Ty
+  int bool unit float : Ty
   ref : Ty → Ty
   deriving Discrete as Ty-discrete
 
@@ -20,6 +21,7 @@ unfoldable pub refs : Ty → ℕ
 refs int = 0
 refs bool = 0
 refs unit = 0
+refs float = 0
 refs (ref t) = suc (refs t)
 
 -- ---- expressions
@@ -28,6 +30,8 @@ pub data Literal : Type 0 where
   whole : ℕ → Literal
   truth : Bool → Literal
   trivial : Literal
+  -- a float number, by what it is worth
+  decimal : Float → Literal
 
 -- - not ! ref
 pub data Unary : Type 0 where

@@ -4,11 +4,13 @@ use mathlib.Core.List.{List, [], _∷_, map}
 use mathlib.Core.Option.{none, some}
 use mathlib.Core.Path.{_≡_}
 use Prim.Native.Nat.{ℕ, _≤_, _<_}
+use lib.Ieee.{Float}
 use Rattle.language.specs.Sizes.{FUNCTIONS, PARAMETERS, REFS}
-use Rattle.language.specs.Trees.{Name, Ty, int, bool, unit, ref, refs, whole, truth, trivial, Unary, minus, not}
-use Rattle.language.specs.Trees.{fetch, new, Binary, add, sub, mul, div, less, equal, and, or, assign, Exp, name}
-use Rattle.language.specs.Trees.{literal, unary, binary, follow, group, block, call, bind, branch, loop, Exps}
-use Rattle.language.specs.Trees.{last, more, Param, Def, Program, Scope, empty, push, nearest, size, PUTCHAR}
+use Rattle.language.specs.Trees.{Name, Ty, int, bool, unit, float, ref, refs, whole, truth, trivial}
+use Rattle.language.specs.Trees.{decimal, Unary, minus, not, fetch, new, Binary, add, sub, mul, div}
+use Rattle.language.specs.Trees.{less, equal, and, or, assign, Exp, name, literal, unary, binary}
+use Rattle.language.specs.Trees.{follow, group, block, call, bind, branch, loop, Exps, last, more}
+use Rattle.language.specs.Trees.{Param, Def, Program, Scope, empty, push, nearest, size, PUTCHAR}
 
 -- ---- operators (003's unoptype and binoptype; S052)
 
@@ -18,12 +20,17 @@ pub data UnopType : Unary → Ty → Ty → Type 0 where
   u-fetch : {t : Ty} → UnopType fetch (ref t) t
   u-new : {t : Ty} → refs t < REFS → UnopType new t (ref t)
 
+-- 003's arithmetic types (R08.4)
+pub data Arithmetic : Ty → Type 0 where
+  of-int : Arithmetic int
+  of-float : Arithmetic float
+
 pub data BinopType : Binary → Ty → Ty → Ty → Type 0 where
-  b-add : BinopType add int int int
-  b-sub : BinopType sub int int int
-  b-mul : BinopType mul int int int
-  b-div : BinopType div int int int
-  b-less : BinopType less int int bool
+  b-add : {t : Ty} → Arithmetic t → BinopType add t t t
+  b-sub : {t : Ty} → Arithmetic t → BinopType sub t t t
+  b-mul : {t : Ty} → Arithmetic t → BinopType mul t t t
+  b-div : {t : Ty} → Arithmetic t → BinopType div t t t
+  b-less : {t : Ty} → Arithmetic t → BinopType less t t bool
   b-equal : BinopType equal int int bool
   b-and : BinopType and bool bool bool
   b-or : BinopType or bool bool bool
@@ -45,6 +52,7 @@ module _ (Δ : Scope Sig) where
       -- S046
       t-truth : {Γ : Scope Ty} {i : ℕ} {b : Bool} → Typed Γ (literal i (truth b)) bool
       t-trivial : {Γ : Scope Ty} {i : ℕ} → Typed Γ (literal i trivial) unit
+      t-decimal : {Γ : Scope Ty} {i : ℕ} {x : Float} → Typed Γ (literal i (decimal x)) float
       t-unary : {Γ : Scope Ty} {i : ℕ} {o : Unary} {e : Exp} {t u : Ty}
           → Typed Γ e t → UnopType o t u → Typed Γ (unary i o e) u
       t-binary : {Γ : Scope Ty} {i : ℕ} {o : Binary} {e f : Exp} {t u v : Ty}

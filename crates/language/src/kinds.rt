@@ -80,3 +80,6 @@ pub const RPAR: u32 = 36;
 pub const LBRACE: u32 = 37;
 
 pub const RBRACE: u32 = 38;
+
+// A number with a point; FLOAT is the word.
+pub const FLOAT_NUMBER: u32 = 39;

@@ -33,3 +33,6 @@ pub const WORK: usize = 16384;
 pub const LARGEST: u64 = 2147483647;
 
 pub const BYTE: i32 = 255;
+
+// The most digits of a float number.
+pub const DIGITS: usize = 15;

@@ -9,7 +9,7 @@ use Rattle.language.specs.Grammar.{Sym, program, def, formals, params, type, se
 use Rattle.language.specs.Grammar.{Reads, Reading, program-seq, program-def, def-is, formals-none, formals-some, params-one, params-more}
 use Rattle.language.specs.Grammar.{type-basic, type-ref, seq-tail, seq-item, seq-more, tail-let, tail-if, let-in, item-if, item-while, item-assign, assign-one}
 use Rattle.language.specs.Grammar.{assign-to, chain-one, chain-more, cmp-one, cmp-two, un-prefix, un-atom, atom-name, atom-call}
-use Rattle.language.specs.Grammar.{atom-number, atom-constant, atom-group, atom-block, actuals-none, actuals-some, args-one, args-more}
+use Rattle.language.specs.Grammar.{atom-number, atom-float, atom-constant, atom-group, atom-block, actuals-none, actuals-some, args-one, args-more}
 use Rattle.layout.specs.Rows.{below, under, def-rows, defs-rows}
 
 -- the rows of what a symbol is read as; one less for arguments, as the mark before the first is not among their tokens
@@ -77,6 +77,7 @@ module _ (ts : List Token) where
   few (atom-name a) = omega arith
   few (atom-call a b p) = omega (arith, few p)
   few (atom-number a) = omega arith
+  few (atom-float a) = omega arith
   few (atom-constant a) = omega arith
   few (atom-group a p b) = omega (arith, few p)
   few (atom-block a p b) = omega (arith, few p)

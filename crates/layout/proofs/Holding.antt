@@ -6,7 +6,7 @@ use Prim.Native.Nat.{ℕ, zero, suc, _+_, _≤_, _<_}
 use native.Mathlib.Omega.{arith}
 use borrow.Author.Tests.{ne-eqb}
 use Rattle.language.specs.Sizes.{NODES}
-use Rattle.language.specs.Tokens.{Token, At, NAME, NUMBER, LET}
+use Rattle.language.specs.Tokens.{Token, At, NAME, NUMBER, FLOAT-NUMBER, LET}
 use Rattle.language.specs.Trees.{Exp, Exps, last, more}
 use Rattle.layout.specs.Rows.{CALL}
 use Rattle.layout.specs.Decode.{Shape, a-call, shape-of, children, build, build-if, tree-at, args-at, Part, Right, RightArgs}
@@ -28,13 +28,20 @@ module _ (ts : List Token) (ls : List ℕ) where
   pub record Tokens (k t : ℕ) : Type 0 where
     pub named : k ≡ NAME → At ts t NAME
     pub valued : k ≡ NUMBER → At ts t NUMBER
+    pub pointed : k ≡ FLOAT-NUMBER → At ts t FLOAT-NUMBER
     pub called : k ≡ CALL → At ts t NAME
     pub bound : k ≡ LET → At ts (t + 1) NAME
 
   -- nothing, where k is none of these
-  pub no-tokens : (k t : ℕ) → (k ≡ NAME → ⊥) → (k ≡ NUMBER → ⊥) → (k ≡ CALL → ⊥) → (k ≡ LET → ⊥) → Tokens k t
-  no-tokens k t a b c d =
-      record { named = λ e. absurd (a e); valued = λ e. absurd (b e); called = λ e. absurd (c e); bound = λ e. absurd (d e) }
+  pub no-tokens : (k t : ℕ) → (k ≡ NAME → ⊥) → (k ≡ NUMBER → ⊥) → (k ≡ FLOAT-NUMBER → ⊥) → (k ≡ CALL → ⊥) → (k ≡ LET → ⊥)
+      → Tokens k t
+  no-tokens k t a b p c d = record {
+    named = λ e. absurd (a e);
+    valued = λ e. absurd (b e);
+    pointed = λ e. absurd (p e);
+    called = λ e. absurd (c e);
+    bound = λ e. absurd (d e);
+  }
 
   module _ (n i k t a b c : ℕ) (s : Shape) (v : Five ls i k t a b c) (h : i < NODES) (y : shape-of k ≡ some s) where
     row-tree : tree-at (suc n) ts ls i ≡ build ts s t (tree-at n ts ls a) (tree-at n ts ls b) (tree-at n ts ls c) (args-at n ts ls a)
@@ -50,6 +57,7 @@ module _ (ts : List Token) (ls : List ℕ) where
       known = rw (v .kind) y;
       named = λ e. rw (v .own) (o .named (sym (v .kind) ∙ e));
       valued = λ e. rw (v .own) (o .valued (sym (v .kind) ∙ e));
+      pointed = λ e. rw (v .own) (o .pointed (sym (v .kind) ∙ e));
       called = λ e. rw (v .own) (o .called (sym (v .kind) ∙ e));
       bound = λ e. rw (v .own) (o .bound (sym (v .kind) ∙ e));
       first = λ l. rw (v .first) (p l);
@@ -99,7 +107,13 @@ module _ (ts : List Token) (ls : List ℕ) where
       → Back (suc n) i (build ts a-call t (tree-at n ts ls a) (tree-at n ts ls b) (tree-at n ts ls c) es)
   call-back n i k t a b c es z v h y o l p = record {
     right = row-right n i k t a b c a-call v h y
-        record { named = λ _. o; valued = λ e. absurd (omega arith); called = λ _. o; bound = λ e. absurd (omega arith) }
+        record {
+          named = λ _. o;
+          valued = λ e. absurd (omega arith);
+          pointed = λ e. absurd (omega arith);
+          called = λ _. o;
+          bound = λ e. absurd (omega arith);
+        }
         (λ m. absurd (omega arith)) (λ m. absurd (omega arith)) (λ m. absurd (omega arith)) (λ _. (l, p .right));
     tree = row-tree n i k t a b c a-call v h y
         ∙ ap (λ (z : Exps). build ts a-call t (tree-at n ts ls a) (tree-at n ts ls b) (tree-at n ts ls c) z) (p .args);

@@ -6,19 +6,20 @@ use mathlib.Core.Path.{_≡_, refl, sym, ap, subst, _∙_}
 use Prim.Native.Nat.{ℕ, zero, suc, _+_, _*_, _≤_, _<_}
 use native.Mathlib.Omega.{arith}
 use lib.Dec.{eqb}
+use lib.Ieee.{Float}
 use lib.ListN.{length, getD}
 use Rattle.language.specs.Sizes.{NODES}
-use Rattle.language.specs.Tokens.{Token, entry, NAME, NUMBER, TRUE, FALSE, TT, LET, SEMI, LPAR, LBRACE, IF, WHILE}
-use Rattle.language.specs.Trees.{Literal, whole, truth, trivial, Unary, minus, not, fetch, new, Binary, add, sub, mul, div, less, equal, and, or}
+use Rattle.language.specs.Tokens.{Token, entry, NAME, NUMBER, FLOAT-NUMBER, TRUE, FALSE, TT, LET, SEMI, LPAR, LBRACE, IF, WHILE}
+use Rattle.language.specs.Trees.{Literal, whole, truth, trivial, decimal, Unary, minus, not, fetch, new, Binary, add, sub, mul, div, less, equal, and, or}
 use Rattle.language.specs.Trees.{assign, Exp, name, literal, unary, binary, follow, group, block, call, bind, branch, loop, Exps, last, more}
 use Rattle.layout.specs.Table.{ROWS-AT, put-row}
 use Rattle.layout.specs.Rows.{CALL, ARGUMENT, literal-kind, unary-kind, binary-kind, below, under, head, lay, lay-all}
-use Rattle.layout.specs.Decode.{Shape, a-name, a-number, a-follow, a-group, a-block, a-let, an-if}
+use Rattle.layout.specs.Decode.{Shape, a-name, a-number, a-float, a-follow, a-group, a-block, a-let, an-if}
 use Rattle.layout.specs.Decode.{a-while, a-constant, a-unary, a-binary, shape-of, children, build}
 use Rattle.layout.proofs.Shapes.{unary-high, binary-between}
 use Rattle.layout.proofs.TableLaws.{Five, put-row-five, put-row-before}
 use Rattle.layout.proofs.LayLaws.{length-lay, length-lay-all, lay-before, lay-all-before}
-use Rattle.layout.proofs.Owned.{Owned, OwnedLiteral, owned-whole, owned-name, owned-literal, owned-unary, owned-binary, owned-follow}
+use Rattle.layout.proofs.Owned.{Owned, OwnedLiteral, owned-whole, owned-decimal, owned-name, owned-literal, owned-unary, owned-binary, owned-follow}
 use Rattle.layout.proofs.Owned.{owned-group, owned-block, owned-call, owned-bind, owned-branch, owned-loop, OwnedAll, owned-last, owned-more}
 use Rattle.layout.proofs.Holding.{Back, BackAll, Tokens, no-tokens, leaf-back, one-back, two-back, three-back, call-back, none-back, argument-back}
 
@@ -58,7 +59,7 @@ head-less (more e es) f h = omega arith
 -- ---- kinds whose token is asked for
 
 abbrev asks : ℕ → Bool
-asks k = eqb k NAME || eqb k NUMBER || eqb k CALL || eqb k LET
+asks k = eqb k NAME || eqb k NUMBER || eqb k FLOAT-NUMBER || eqb k CALL || eqb k LET
 
 asked : (k c : ℕ) → asks k ≡ false → asks c ≡ true → k ≡ c → ⊥
 asked k c p q e = let z : _≡_ {A = ℕ} 0 1 = cc (ap asks e) in omega arith
@@ -141,14 +142,21 @@ module _ (ts : List Token) (ls : List ℕ) where
 
   -- a kind that asks nothing of the tokens
   plain : (k t : ℕ) → asks k ≡ false → Tokens ts ls k t
-  plain k t q = no-tokens ts ls k t (asked k NAME q refl) (asked k NUMBER q refl) (asked k CALL q refl) (asked k LET q refl)
+  plain k t q =
+      no-tokens ts ls k t (asked k NAME q refl) (asked k NUMBER q refl) (asked k FLOAT-NUMBER q refl) (asked k CALL q refl) (asked k LET q refl)
 
   constant-laid : (i : ℕ) (x : Literal) (w : List ℕ) (f m : ℕ) → OwnedLiteral ts i x → f < NODES → ROWS-AT + 5 * NODES ≤ length w
       → Agree ls (put-row w f (literal-kind x) i 0 0 0) f (f + 1) → Back ts ls (suc m) f (literal i x)
   unfolding build shape-of entry literal-kind
   constant-laid i (whole n) w f m (owned-whole a y) h l g =
       none-laid NUMBER i a-number _ w f m refl (λ e. omega arith)
-      record { named = λ e. absurd (omega arith); valued = λ _. a; called = λ e. absurd (omega arith); bound = λ e. absurd (omega arith) }
+      record {
+        named = λ e. absurd (omega arith);
+        valued = λ _. a;
+        pointed = λ e. absurd (omega arith);
+        called = λ e. absurd (omega arith);
+        bound = λ e. absurd (omega arith);
+      }
       l refl (λ _ _ _ _. ap (λ (z : ℕ). literal i (whole z)) (sym y)) h g
   constant-laid i (truth true) w f m o h l g =
       none-laid TRUE i (a-constant (truth true)) _ w f m refl (λ e. omega arith)
@@ -159,6 +167,16 @@ module _ (ts : List Token) (ls : List ℕ) where
   constant-laid i trivial w f m o h l g =
       none-laid TT i (a-constant trivial) _ w f m refl (λ e. omega arith)
       (plain _ _ refl) l refl (λ _ _ _ _. refl) h g
+  constant-laid i (decimal n) w f m (owned-decimal a y) h l g =
+      none-laid FLOAT-NUMBER i a-float _ w f m refl (λ e. omega arith)
+      record {
+        named = λ e. absurd (omega arith);
+        valued = λ e. absurd (omega arith);
+        pointed = λ _. a;
+        called = λ e. absurd (omega arith);
+        bound = λ e. absurd (omega arith);
+      }
+      l refl (λ _ _ _ _. ap (λ (z : Float). literal i (decimal z)) (sym y)) h g
 
   unary-plain : (o : Unary) (t : ℕ) → Tokens ts ls (unary-kind o) t
   unfolding unary-kind
@@ -170,7 +188,7 @@ module _ (ts : List Token) (ls : List ℕ) where
   binary-plain : (o : Binary) (t : ℕ) → Tokens ts ls (binary-kind o) t
   binary-plain o t =
       let r = binary-between o in
-      no-tokens ts ls _ t (λ e. omega arith) (λ e. omega arith) (λ e. omega arith) λ e. omega arith
+      no-tokens ts ls _ t (λ e. omega arith) (λ e. omega arith) (λ e. omega arith) (λ e. omega arith) λ e. omega arith
 
   -- ---- every tree
 
@@ -182,7 +200,13 @@ module _ (ts : List Token) (ls : List ℕ) where
     laid-back (name i x) w f m d h l (owned-name a y) g =
         to {j = f} (omega arith)
         (none-laid NAME i a-name _ w f m refl (λ e. omega arith)
-        record { named = λ _. a; valued = λ e. absurd (omega arith); called = λ e. absurd (omega arith); bound = λ e. absurd (omega arith) }
+        record {
+          named = λ _. a;
+          valued = λ e. absurd (omega arith);
+          pointed = λ e. absurd (omega arith);
+          called = λ e. absurd (omega arith);
+          bound = λ e. absurd (omega arith);
+        }
         l refl (λ _ _ _ _. ap (λ (z : List ℕ). name i z) (sym y)) (omega arith) (λ j p q. g j p (omega arith)))
     laid-back (literal i x) w f m d h l (owned-literal o) g =
         to {j = f} (omega arith) (constant-laid i x w f m o (omega arith) l (λ j p q. g j p (omega arith)))
@@ -228,7 +252,13 @@ module _ (ts : List Token) (ls : List ℕ) where
     laid-back (bind i n a b) w f (suc m) d h l (owned-bind k z x y) g =
         to {j = f + below a + 1 + below b + 1} (omega arith)
         (two-laid LET i a-let _ w f (suc m) refl (λ e. omega arith)
-        (record { named = λ e. absurd (omega arith); valued = λ e. absurd (omega arith); called = λ e. absurd (omega arith); bound = λ _. k })
+        (record {
+          named = λ e. absurd (omega arith);
+          valued = λ e. absurd (omega arith);
+          pointed = λ e. absurd (omega arith);
+          called = λ e. absurd (omega arith);
+          bound = λ _. k;
+        })
         l a b (f + below a + 1) _ refl refl refl (λ _ _. ap (λ (u : List ℕ). bind i u a b) (sym z)) (omega arith)
         (laid-back a w f m (omega arith) (omega arith) l x)
         (laid-back b (lay w f a) (f + below a + 1) m (omega arith) (omega arith) (rw (length-lay a w f) l) y)

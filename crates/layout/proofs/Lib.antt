@@ -1,5 +1,6 @@
 pub mod Signed
 pub mod Clearing
+pub mod Nans
 pub mod Packed
 pub mod Shapes
 pub mod TableLaws
@@ -8,6 +9,7 @@ pub mod Owned
 pub mod Holding
 pub mod Laid
 pub mod FewRows
+pub mod FloatWords
 pub mod HeldPrograms
 pub mod Wiped
 pub mod NameLaws

@@ -1,24 +1,28 @@
--- A reading's nodes own tokens of the right kinds: a name's token is a name and spelled so, a number's is a number.
+-- A reading's nodes own tokens of the right kinds: a name's token is a name and spelled so, a number's is a number, with a point or without.
 use mathlib.Core.Bool.{Bool, true, false, cond}
 use mathlib.Core.List.{List, [], _∷_}
 use mathlib.Core.Option.{Option, none, some}
 use mathlib.Core.Path.{_≡_, refl, subst}
 use Prim.Native.Nat.{ℕ, _+_}
 use lib.Dec.{eqb}
-use Rattle.language.specs.Tokens.{Token, At, kind-at, entry, value-at, spelling-at, NAME, NUMBER, TRUE, FALSE, TT}
-use Rattle.language.specs.Trees.{Literal, whole, truth, trivial, Exp, name, literal, unary, binary, follow}
+use lib.Ieee.{Float}
+use Rattle.language.specs.Tokens.{Token, At, kind-at, entry, value-at, spelling-at}
+use Rattle.language.specs.Tokens.{NAME, NUMBER, FLOAT-NUMBER, TRUE, FALSE, TT}
+use Rattle.language.specs.Decimals.{float-of}
+use Rattle.language.specs.Trees.{Literal, whole, truth, trivial, decimal, Exp, name, literal, unary, binary, follow}
 use Rattle.language.specs.Trees.{group, block, call, bind, branch, loop, Exps, last, more, Param, Def, Program}
 use Rattle.language.specs.Grammar.{Sym, program, def, formals, params, type, seq, tail, bound, item, assign, atom, actuals, args, tier, Of}
 use Rattle.language.specs.Grammar.{constants, Reads, Reading, program-seq, program-def, def-is, formals-none, formals-some, params-one}
 use Rattle.language.specs.Grammar.{params-more, type-basic, type-ref, seq-tail, seq-item, seq-more, tail-let, tail-if, let-in, item-if, item-while, item-assign}
 use Rattle.language.specs.Grammar.{assign-one, assign-to, chain-one, chain-more, cmp-one, cmp-two, un-prefix, un-atom, atom-name, atom-call}
-use Rattle.language.specs.Grammar.{atom-number, atom-constant, atom-group, atom-block, actuals-none, actuals-some, args-one, args-more}
+use Rattle.language.specs.Grammar.{atom-number, atom-float, atom-constant, atom-group, atom-block, actuals-none, actuals-some, args-one, args-more}
 
 -- a literal at token i
 pub data OwnedLiteral (ts : List Token) (i : ℕ) : Literal → Type 0 where
   owned-whole : {n : ℕ} → At ts i NUMBER → n ≡ value-at ts i → OwnedLiteral ts i (whole n)
   owned-truth : {b : Bool} → OwnedLiteral ts i (truth b)
   owned-trivial : OwnedLiteral ts i trivial
+  owned-decimal : {x : Float} → At ts i FLOAT-NUMBER → x ≡ float-of (spelling-at ts i) → OwnedLiteral ts i (decimal x)
 
 mutual
   pub data Owned (ts : List Token) : Exp → Type 0 where
@@ -133,6 +137,7 @@ module _ (ts : List Token) where
   owns (atom-name a) = owned-name a refl
   owns (atom-call a b p) = owned-call a refl (owns p)
   owns (atom-number a) = owned-literal (owned-whole a refl)
+  owns (atom-float a) = owned-literal (owned-decimal a refl)
   owns (atom-constant {i} {l} h) = owned-literal (of-plain (subst Plain h (plain (kind-at ts i))))
   owns (atom-group a p b) = owned-group (owns p)
   owns (atom-block a p b) = owned-block (owns p)

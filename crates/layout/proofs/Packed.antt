@@ -6,11 +6,12 @@ use native.Mathlib.Nat.{mul-add-div, add-mul-mod-self-left, div-eq-of-lt, mod-eq
 use Rattle.layout.specs.Slots.{TAGS}
 use Rattle.layout.specs.Values.{tag-of}
 use Rattle.layout.specs.declared.values.Value.{Value}
-use Rattle.layout.specs.declared.values.Value.the-variants.{Int, Flag, Nothing, Cell}
+use Rattle.layout.specs.declared.values.Value.the-variants.{Int, Float, Flag, Nothing, Cell}
 
 -- every tag is less than the number of tags
 pub tag-small : (v : Value) → tag-of v < TAGS
 tag-small (Int z) = omega arith
+tag-small (Float x) = omega arith
 tag-small (Flag b) = omega arith
 tag-small Nothing = omega arith
 tag-small (Cell n) = omega arith

@@ -5,11 +5,11 @@ use mathlib.Core.Path.{_≡_, refl, sym, subst}
 use Prim.Native.Nat.{ℕ, _≤_}
 use native.Mathlib.Omega.{arith}
 use lib.Dec.{T, eqb, leb, leb→le}
-use Rattle.language.specs.Tokens.{entry, NAME, NUMBER, LET, WHILE, IF, PLUS, BECOMES, SEMI, LPAR, LBRACE}
+use Rattle.language.specs.Tokens.{entry, NAME, NUMBER, FLOAT-NUMBER, LET, WHILE, IF, PLUS, BECOMES, SEMI, LPAR, LBRACE}
 use Rattle.language.specs.Trees.{Literal, Unary, minus, not, fetch, new, Binary, add, sub, mul, div, less, equal, and, or, assign}
 use Rattle.language.proofs.Grammar.Entries.{every, entry-passes, by-entries}
 use Rattle.layout.specs.Rows.{PREFIX, CALL, literal-kind, unary-kind, binary-kind}
-use Rattle.layout.specs.Decode.{Shape, a-name, a-number, a-follow, a-group, a-block, a-call, a-let, an-if}
+use Rattle.layout.specs.Decode.{Shape, a-name, a-number, a-float, a-follow, a-group, a-block, a-call, a-let, an-if}
 use Rattle.layout.specs.Decode.{a-while, a-constant, a-unary, a-binary, shapes, shape-of, children}
 
 -- ---- kinds
@@ -18,6 +18,7 @@ use Rattle.layout.specs.Decode.{a-while, a-constant, a-unary, a-binary, 
 unfoldable pub shape-kind : Shape → ℕ
 shape-kind a-name = NAME
 shape-kind a-number = NUMBER
+shape-kind a-float = FLOAT-NUMBER
 shape-kind a-follow = SEMI
 shape-kind a-group = LPAR
 shape-kind a-block = LBRACE
@@ -72,6 +73,7 @@ children-most k {s} e = leb→le (children s) 3 (entry-passes (λ c s. leb (chil
 pub data Parted : Shape → ℕ → Type 0 where
   is-name : Parted a-name 0
   is-number : Parted a-number 0
+  is-float : Parted a-float 0
   is-constant : {l : Literal} → Parted (a-constant l) 0
   is-call : Parted a-call 0
   is-unary : {o : Unary} → Parted (a-unary o) 1
@@ -86,6 +88,7 @@ pub data Parted : Shape → ℕ → Type 0 where
 parts : (s : Shape) → Parted s (children s)
 parts a-name = is-name
 parts a-number = is-number
+parts a-float = is-float
 parts (a-constant l) = is-constant
 parts a-call = is-call
 parts (a-unary o) = is-unary

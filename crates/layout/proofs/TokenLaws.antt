@@ -9,12 +9,13 @@ use mathlib.Core.Logic.{⊎-elim}
 use mathlib.Core.Path.{_≡_, refl, sym, _∙_, ap}
 use native.Mathlib.Nat.{add-zero, zero-add}
 use native.Mathlib.Omega.{arith}
-use Prim.Native.Nat.{ℕ, zero, suc, _+_, _*_, _≤_, _<_}
+use Prim.Native.Nat.{ℕ, zero, suc, _+_, _*_, _/_, _%_, _≤_, _<_}
 use Rattle.language.proofs.Text.Choices.{either}
 use Rattle.language.specs.Sizes.{TOKENS, TABLE, LARGEST}
 use Rattle.language.specs.Tokens.{Spelling, same, Token, NUMBER, past, kind-at, value-at, spelling-at, place-at, At}
-use Rattle.layout.specs.Names.{first-from, name-number, value-word, lay-tokens, Stand}
-use Rattle.layout.specs.Table.{ROWS-AT, token-place, token-end, token-value, kind-of, put-token}
+use Rattle.layout.specs.Names.{first-from, name-number, value-word, high-word, lay-tokens, Near, Stand}
+use Rattle.layout.specs.Table.{ROWS-AT, SPANS, token-place, token-end, token-high, token-value, kind-of, put-token}
+use Rattle.layout.proofs.Packed.{packed-high, packed-low}
 use Rattle.layout.proofs.TableLaws.{kind-same}
 
 -- a spelling is the same as itself
@@ -74,7 +75,8 @@ lay-append ts w n (u ∷ us) vs =
 -- the table of one token more
 pub lay-more : (ts : List Token) (u : Token) (w : List ℕ)
     → lay-tokens (ts ++ (u ∷ [])) w 0 (ts ++ (u ∷ []))
-    ≡ put-token (lay-tokens ts w 0 ts) (length ts) (u .kind) (u .place) (u .place + length (u .spelling)) (value-word (ts ++ (u ∷ [])) u)
+    ≡ put-token (lay-tokens ts w 0 ts) (length ts) (u .kind) (u .place) (u .place + length (u .spelling)) (high-word u)
+    (value-word (ts ++ (u ∷ [])) u)
 unfolding lay-tokens
 lay-more ts u w =
     let us = ts ++ (u ∷ []) in
@@ -84,43 +86,52 @@ lay-more ts u w =
 -- ---- tokens read back
 
 -- the four words of token i
-pub record Holds (w : List ℕ) (i kind place end value : ℕ) : Type 0 where
+pub record Holds (w : List ℕ) (i kind place end high value : ℕ) : Type 0 where
   pub kinds : getD w (4 * i) 0 ≡ kind
-  pub places : token-place w i ≡ place
-  pub ends : token-end w i ≡ end
+  pub both : getD w (4 * i + 1) 0 ≡ SPANS * end + place
+  pub highs : token-high w i ≡ high
   pub values : token-value w i ≡ value
 
-module _ (w : List ℕ) (i a b c d : ℕ) where
-  put-length : length (put-token w i a b c d) ≡ length w
+-- its place and its end, where one word has room for both
+module _ {w : List ℕ} {i k a b h v : ℕ} (x : Holds w i k a b h v) (l : a < SPANS) where
+  pub place-held : token-place w i ≡ a
+  place-held = ap (λ (n : ℕ). n % SPANS) (x .both) ∙ packed-low SPANS (omega arith) b a l
+
+  pub end-held : token-end w i ≡ b
+  end-held = ap (λ (n : ℕ). n / SPANS) (x .both) ∙ packed-high SPANS (omega arith) b a l
+
+module _ (w : List ℕ) (i a b c d e : ℕ) where
+  put-length : length (put-token w i a b c d e) ≡ length w
   unfolding put-token
   put-length = simp length-set
 
-  put-other : (j : ℕ) → j < 4 * i → getD (put-token w i a b c d) j 0 ≡ getD w j 0
+  put-other : (j : ℕ) → j < 4 * i → getD (put-token w i a b c d e) j 0 ≡ getD w j 0
   unfolding put-token
   put-other j h =
       let w₁ = set w (4 * i) a in
-      let w₂ = set w₁ (4 * i + 1) b in
-      getD-set-other (set w₂ (4 * i + 2) c) (4 * i + 3) j d 0 (omega arith) ∙ getD-set-other w₂ (4 * i + 2) j c 0 (omega arith)
-      ∙ getD-set-other w₁ (4 * i + 1) j b 0 (omega arith) ∙ getD-set-other w (4 * i) j a 0 (omega arith)
+      let w₂ = set w₁ (4 * i + 1) (SPANS * c + b) in
+      getD-set-other (set w₂ (4 * i + 2) d) (4 * i + 3) j e 0 (omega arith) ∙ getD-set-other w₂ (4 * i + 2) j d 0 (omega arith)
+      ∙ getD-set-other w₁ (4 * i + 1) j (SPANS * c + b) 0 (omega arith) ∙ getD-set-other w (4 * i) j a 0 (omega arith)
 
-  put-holds : 4 * i + 4 ≤ length w → Holds (put-token w i a b c d) i a b c d
+  put-holds : 4 * i + 4 ≤ length w → Holds (put-token w i a b c d e) i a b c d e
   unfolding put-token
   put-holds h =
+      let x = SPANS * c + b in
       let w₁ = set w (4 * i) a in
-      let w₂ = set w₁ (4 * i + 1) b in
-      let w₃ = set w₂ (4 * i + 2) c in
+      let w₂ = set w₁ (4 * i + 1) x in
+      let w₃ = set w₂ (4 * i + 2) d in
       let l₁ : length w₁ ≡ length w = length-set w (4 * i) a in
-      let l₂ : length w₂ ≡ length w₁ = length-set w₁ (4 * i + 1) b in
-      let l₃ : length w₃ ≡ length w₂ = length-set w₂ (4 * i + 2) c in
+      let l₂ : length w₂ ≡ length w₁ = length-set w₁ (4 * i + 1) x in
+      let l₃ : length w₃ ≡ length w₂ = length-set w₂ (4 * i + 2) d in
       record {
         kinds =
-            getD-set-other w₃ (4 * i + 3) (4 * i) d 0 (omega arith) ∙ getD-set-other w₂ (4 * i + 2) (4 * i) c 0 (omega arith)
-            ∙ getD-set-other w₁ (4 * i + 1) (4 * i) b 0 (omega arith) ∙ getD-set-same w (4 * i) a 0 (omega arith);
-        places =
-            getD-set-other w₃ (4 * i + 3) (4 * i + 1) d 0 (omega arith) ∙ getD-set-other w₂ (4 * i + 2) (4 * i + 1) c 0 (omega arith)
-            ∙ getD-set-same w₁ (4 * i + 1) b 0 (omega arith);
-        ends = getD-set-other w₃ (4 * i + 3) (4 * i + 2) d 0 (omega arith) ∙ getD-set-same w₂ (4 * i + 2) c 0 (omega arith);
-        values = getD-set-same w₃ (4 * i + 3) d 0 (omega arith);
+            getD-set-other w₃ (4 * i + 3) (4 * i) e 0 (omega arith) ∙ getD-set-other w₂ (4 * i + 2) (4 * i) d 0 (omega arith)
+            ∙ getD-set-other w₁ (4 * i + 1) (4 * i) x 0 (omega arith) ∙ getD-set-same w (4 * i) a 0 (omega arith);
+        both =
+            getD-set-other w₃ (4 * i + 3) (4 * i + 1) e 0 (omega arith) ∙ getD-set-other w₂ (4 * i + 2) (4 * i + 1) d 0 (omega arith)
+            ∙ getD-set-same w₁ (4 * i + 1) x 0 (omega arith);
+        highs = getD-set-other w₃ (4 * i + 3) (4 * i + 2) e 0 (omega arith) ∙ getD-set-same w₂ (4 * i + 2) d 0 (omega arith);
+        values = getD-set-same w₃ (4 * i + 3) e 0 (omega arith);
       }
 
 module _ (ts : List Token) where
@@ -128,23 +139,23 @@ module _ (ts : List Token) where
   pub lay-length : (w : List ℕ) (n : ℕ) (us : List Token) → length (lay-tokens ts w n us) ≡ length w
   unfolding lay-tokens
   lay-length w n [] = refl
-  lay-length w n (u ∷ us) = lay-length _ (n + 1) us ∙ put-length w n _ _ _ _
+  lay-length w n (u ∷ us) = lay-length _ (n + 1) us ∙ put-length w n _ _ _ _ _
 
   lay-other : (w : List ℕ) (n : ℕ) (us : List Token) (j : ℕ) → j < 4 * n → getD (lay-tokens ts w n us) j 0 ≡ getD w j 0
   unfolding lay-tokens
   lay-other w n [] j h = refl
-  lay-other w n (u ∷ us) j h = lay-other _ (n + 1) us j (omega arith) ∙ put-other w n _ _ _ _ j h
+  lay-other w n (u ∷ us) j h = lay-other _ (n + 1) us j (omega arith) ∙ put-other w n _ _ _ _ _ j h
 
   -- the four words of the token u, one of ts
   abbrev pub Token-in : List ℕ → ℕ → Token → Type 0
-  Token-in w i u = Holds w i (u .kind) (u .place) (u .place + length (u .spelling)) (value-word ts u)
+  Token-in w i u = Holds w i (u .kind) (u .place) (u .place + length (u .spelling)) (high-word u) (value-word ts u)
 
   lay-keeps : (w : List ℕ) (n : ℕ) (us : List Token) (u : Token) → Token-in w n u → Token-in (lay-tokens ts w (n + 1) us) n u
   lay-keeps w n us u h =
       record {
         kinds = lay-other w (n + 1) us (4 * n) (omega arith) ∙ h .kinds;
-        places = lay-other w (n + 1) us (4 * n + 1) (omega arith) ∙ h .places;
-        ends = lay-other w (n + 1) us (4 * n + 2) (omega arith) ∙ h .ends;
+        both = lay-other w (n + 1) us (4 * n + 1) (omega arith) ∙ h .both;
+        highs = lay-other w (n + 1) us (4 * n + 2) (omega arith) ∙ h .highs;
         values = lay-other w (n + 1) us (4 * n + 3) (omega arith) ∙ h .values;
       }
 
@@ -152,10 +163,10 @@ module _ (ts : List Token) where
       → (i : ℕ) → i < length us → Token-in (lay-tokens ts w n us) (n + i) (getD us i past)
   unfolding lay-tokens
   lay-from w n [] l i h = absurd (omega arith)
-  lay-from w n (u ∷ us) l zero h = rw (add-zero n) (lay-keeps _ n us u (put-holds w n _ _ _ _ (omega arith)))
+  lay-from w n (u ∷ us) l zero h = rw (add-zero n) (lay-keeps _ n us u (put-holds w n _ _ _ _ _ (omega arith)))
   lay-from w n (u ∷ us) l (suc i) h =
       let z : n + suc i ≡ n + 1 + i = omega arith in
-      let x = put-length w n (u .kind) (u .place) (u .place + length (u .spelling)) (value-word ts u) in
+      let x = put-length w n (u .kind) (u .place) (u .place + length (u .spelling)) (high-word u) (value-word ts u) in
       rw z (lay-from _ (n + 1) us (omega arith) i (omega arith))
 
 -- each token is read back
@@ -164,10 +175,10 @@ pub lay-holds : (ts : List Token) (w : List ℕ) → 4 * length ts ≤ length w
 lay-holds ts w l i h = rw zero-add at (lay-from ts w 0 ts (omega arith) i h)
 
 -- a table laid with tokens stands for them, where their numbers are written ones
-pub lay-stands : (ts : List Token) (w : List ℕ) → length ts ≤ TOKENS → ((i : ℕ) → At ts i NUMBER → value-at ts i ≤ LARGEST) → TABLE ≤ length w
-    → Stand (lay-tokens ts w 0 ts) (length ts) ts
+pub lay-stands : (ts : List Token) (w : List ℕ) → length ts ≤ TOKENS → ((i : ℕ) → At ts i NUMBER → value-at ts i ≤ LARGEST)
+    → Near ts → TABLE ≤ length w → Stand (lay-tokens ts w 0 ts) (length ts) ts
 unfolding kind-at place-at spelling-at kind-of
-lay-stands ts w h n l =
+lay-stands ts w h n near l =
     let holds = lay-holds ts w (omega arith) in
     record {
       long = refl;
@@ -176,20 +187,23 @@ lay-stands ts w h n l =
           ⊎-elim (λ x. rw (lt-ltb i (length ts) x) (sym (holds i x .kinds)))
           (λ x. rw (le-ltb i (length ts) x) (ap (λ u. u .kind) (List·getD-eq-default ts past x)))
           (either i (length ts));
-      places = λ i x. holds i x .places;
-      ends = λ i x. holds i x .ends;
+      places = λ i x. place-held (holds i x) (near i x);
+      ends = λ i x. end-held (holds i x) (near i x);
       values = λ i x. holds i x .values;
+      highs = λ i x. holds i x .highs;
       written = n;
     }
 
 -- words at the tokens that agree stand for the same tokens
-pub stand-same : (v w : List ℕ) (count : ℕ) (ts : List Token) → ((j : ℕ) → j < ROWS-AT → getD v j 0 ≡ getD w j 0) → Stand w count ts → Stand v count ts
+pub stand-same : (v w : List ℕ) (count : ℕ) (ts : List Token) → ((j : ℕ) → j < ROWS-AT → getD v j 0 ≡ getD w j 0)
+    → Stand w count ts → Stand v count ts
 stand-same v w count ts h s = record {
   long = s .long;
   few = s .few;
   kinds = λ i. s .kinds i ∙ kind-same w v count i (λ j l. sym (h j (omega (arith, s .few))));
-  places = λ i l. h _ (omega (arith, s .few)) ∙ s .places i l;
-  ends = λ i l. h _ (omega (arith, s .few)) ∙ s .ends i l;
+  places = λ i l. ap (λ (n : ℕ). n % SPANS) (h _ (omega (arith, s .few))) ∙ s .places i l;
+  ends = λ i l. ap (λ (n : ℕ). n / SPANS) (h _ (omega (arith, s .few))) ∙ s .ends i l;
   values = λ i l. h _ (omega (arith, s .few)) ∙ s .values i l;
+  highs = λ i l. h _ (omega (arith, s .few)) ∙ s .highs i l;
   written = s .written;
 }

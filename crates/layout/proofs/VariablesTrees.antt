@@ -13,7 +13,7 @@ use Rattle.layout.specs.Table.{ROWS-AT, FUNCTIONS-AT, VARIABLES-AT, row-
 use Rattle.layout.proofs.TokenLaws.{stand-same}
 use Rattle.layout.proofs.Shapes.{shape-kind, kind-of-shape}
 use Rattle.layout.proofs.VariablesWords.{length-without, without-before}
-use Rattle.layout.specs.Decode.{Shape, a-name, a-number, a-follow, a-group, a-block, a-call, a-let, an-if, a-while, a-constant}
+use Rattle.layout.specs.Decode.{Shape, a-name, a-number, a-float, a-follow, a-group, a-block, a-call, a-let, an-if, a-while, a-constant}
 use Rattle.layout.specs.Decode.{a-unary, a-binary, children, build, build-if, tree-at, args-at, Right, RightArgs, ParamsAt}
 use Rattle.layout.specs.Decode.{params-none, params-more, FunctionAt, FunctionsAt, functions-none, functions-more, Holds}
 use Rattle.layout.specs.declared.Held.{Held}
@@ -27,6 +27,7 @@ pub build-same : (ts : List Token) (s : Shape) (i : ℕ) (a b c : Exp) (es : Exp
 unfolding build
 build-same ts a-name i a b c es a′ b′ c′ es′ p q r t = refl
 build-same ts a-number i a b c es a′ b′ c′ es′ p q r t = refl
+build-same ts a-float i a b c es a′ b′ c′ es′ p q r t = refl
 build-same ts (a-constant l) i a b c es a′ b′ c′ es′ p q r t = refl
 build-same ts (a-unary o) i a b c es a′ b′ c′ es′ p q r t = cc (p (omega arith))
 build-same ts (a-binary o) i a b c es a′ b′ c′ es′ p q r t = cc (p (omega arith), q (omega arith))
@@ -76,6 +77,7 @@ module _ (v w : List ℕ) (alike : (j : ℕ) → j < VARIABLES-AT → getD v j 0
           known = rw e₀ (r .known);
           named = λ k. rw e₁ (r .named (sym e₀ ∙ k));
           valued = λ k. rw e₁ (r .valued (sym e₀ ∙ k));
+          pointed = λ k. rw e₁ (r .pointed (sym e₀ ∙ k));
           called = λ k. rw e₁ (r .called (sym e₀ ∙ k));
           bound = λ k. rw e₁ (r .bound (sym e₀ ∙ k));
           first = λ k. let p = r .first k in rw e₂ (p .0, right-alike f ts _ (p .1));

@@ -22,9 +22,9 @@ wiped w = zeros w 0 TABLE
 wiped-set : (w : List ℕ) (j x : ℕ) → j < TABLE → wiped (set w j x) ≡ wiped w
 wiped-set w j x h = zeros-set TABLE w 0 j x (omega arith) (omega arith)
 
-wiped-token : (w : List ℕ) (i a b c d : ℕ) → i < TOKENS → wiped (put-token w i a b c d) ≡ wiped w
+wiped-token : (w : List ℕ) (i a b c d e : ℕ) → i < TOKENS → wiped (put-token w i a b c d e) ≡ wiped w
 unfolding put-token
-wiped-token w i a b c d h =
+wiped-token w i a b c d e h =
     wiped-set _ _ _ (omega arith) ∙ wiped-set _ _ _ (omega arith) ∙ wiped-set _ _ _ (omega arith) ∙ wiped-set _ _ _ (omega arith)
 
 wiped-row : (w : List ℕ) (i k t a b c : ℕ) → i < NODES → wiped (put-row w i k t a b c) ≡ wiped w
@@ -53,7 +53,7 @@ wiped-without-variables w = wiped-zeros (2 * TOKENS) w (10 * TOKENS) (omega arit
 pub wiped-tokens : (ts us : List Token) (w : List ℕ) (n : ℕ) → n + length us ≤ TOKENS → wiped (lay-tokens ts w n us) ≡ wiped w
 unfolding lay-tokens
 wiped-tokens ts [] w n h = refl
-wiped-tokens ts (u ∷ us) w n h = wiped-tokens ts us _ (n + 1) (omega arith) ∙ wiped-token w n _ _ _ _ (omega arith)
+wiped-tokens ts (u ∷ us) w n h = wiped-tokens ts us _ (n + 1) (omega arith) ∙ wiped-token w n _ _ _ _ _ (omega arith)
 
 -- ---- readings
 

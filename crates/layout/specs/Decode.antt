@@ -8,10 +8,12 @@ use Prim.Native.Nat.{ℕ, zero, suc, _+_, _≤_, _<_}
 use lib.Dec.{eqb}
 use lib.ListN.{length}
 use Rattle.language.specs.Sizes.{NODES, TABLE}
-use Rattle.language.specs.Tokens.{Token, Entry, _is_, entry, At, value-at, spelling-at, NAME, NUMBER}
+use Rattle.language.specs.Tokens.{Token, Entry, _is_, entry, At, value-at, spelling-at}
+use Rattle.language.specs.Tokens.{NAME, NUMBER, FLOAT-NUMBER}
+use Rattle.language.specs.Decimals.{float-of}
 use Rattle.language.specs.Tokens.{LET, WHILE, IF, REF, NOT, TRUE, FALSE, TT, PLUS, MINUS, STAR}
 use Rattle.language.specs.Tokens.{SLASH, AND, OR, LESS, EQUAL, BECOMES, BANG, SEMI, LPAR, LBRACE}
-use Rattle.language.specs.Trees.{Literal, whole, truth, trivial, Unary, minus, not, fetch, new, Binary, add}
+use Rattle.language.specs.Trees.{Literal, whole, truth, trivial, decimal, Unary, minus, not, fetch, new, Binary, add}
 use Rattle.language.specs.Trees.{sub, mul, div, less, equal, Exp, name, literal, unary, binary, follow, group}
 use Rattle.language.specs.Trees.{block, call, bind, branch, loop, Exps, last, more, Param, Def, Program}
 use Rattle.language.specs.Meaning.{type-number}
@@ -24,14 +26,14 @@ use Rattle.layout.specs.declared.Held.{Held}
 -- ---- what kind of node a row is
 
 pub data Shape : Type 0 where
-  a-name a-number a-follow a-group a-block a-call a-let an-if a-while : Shape
+  a-name a-number a-float a-follow a-group a-block a-call a-let an-if a-while : Shape
   a-constant : Literal → Shape
   a-unary : Unary → Shape
   a-binary : Binary → Shape
 
 abbrev pub shapes : List (Entry ℕ Shape)
 shapes =
-    NAME is a-name ∷ NUMBER is a-number
+    NAME is a-name ∷ NUMBER is a-number ∷ FLOAT-NUMBER is a-float
     ∷ TRUE is a-constant (truth true) ∷ FALSE is a-constant (truth false) ∷ TT is a-constant trivial
     ∷ SEMI is a-follow ∷ LPAR is a-group ∷ LBRACE is a-block ∷ CALL is a-call
     ∷ LET is a-let ∷ IF is an-if ∷ WHILE is a-while
@@ -48,6 +50,7 @@ shape-of k = entry shapes k
 abbrev pub children : Shape → ℕ
 children a-name = 0
 children a-number = 0
+children a-float = 0
 children (a-constant l) = 0
 children a-call = 0
 children (a-unary o) = 1
@@ -65,6 +68,7 @@ children an-if = 3
 unfoldable pub build : List Token → Shape → ℕ → Exp → Exp → Exp → Exps → Exp
 build ts a-name i a b c es = name i (spelling-at ts i)
 build ts a-number i a b c es = literal i (whole (value-at ts i))
+build ts a-float i a b c es = literal i (decimal (float-of (spelling-at ts i)))
 build ts (a-constant l) i a b c es = literal i l
 build ts (a-unary o) i a b c es = unary i o a
 build ts (a-binary o) i a b c es = binary i o a b
@@ -107,6 +111,7 @@ pub record Node (right rights : ℕ → Type 0) (ts : List Token) (w : List ℕ)
   pub known : shape-of (row-word w i KIND) ≡ some shape
   pub named : row-word w i KIND ≡ NAME → At ts (row-word w i OWN) NAME
   pub valued : row-word w i KIND ≡ NUMBER → At ts (row-word w i OWN) NUMBER
+  pub pointed : row-word w i KIND ≡ FLOAT-NUMBER → At ts (row-word w i OWN) FLOAT-NUMBER
   pub called : row-word w i KIND ≡ CALL → At ts (row-word w i OWN) NAME
   pub bound : row-word w i KIND ≡ LET → At ts (row-word w i OWN + 1) NAME
   pub first : 1 ≤ children shape → Part right i (row-word w i FIRST)

@@ -4,9 +4,9 @@ use mathlib.Core.Bool.{true, false}
 use mathlib.Core.List.{List, [], _∷_}
 use Prim.Native.Nat.{ℕ, _+_}
 use lib.ListN.{length}
-use Rattle.language.specs.Tokens.{Token, NAME, NUMBER, DEF, LET, WHILE, IF, REF, NOT, TRUE, FALSE, TT, PLUS}
-use Rattle.language.specs.Tokens.{MINUS, STAR, SLASH, AND, OR, LESS, EQUAL, BECOMES, BANG, SEMI, LPAR, LBRACE}
-use Rattle.language.specs.Trees.{Literal, whole, truth, trivial, Unary, minus, not, fetch, new, Binary, add, sub}
+use Rattle.language.specs.Tokens.{Token, NAME, NUMBER, FLOAT-NUMBER, DEF, LET, WHILE, IF, REF, NOT, TRUE, FALSE, TT}
+use Rattle.language.specs.Tokens.{PLUS, MINUS, STAR, SLASH, AND, OR, LESS, EQUAL, BECOMES, BANG, SEMI, LPAR, LBRACE}
+use Rattle.language.specs.Trees.{Literal, whole, truth, trivial, decimal, Unary, minus, not, fetch, new, Binary, add, sub}
 use Rattle.language.specs.Trees.{mul, div, less, equal, and, or, assign, Exp, name, literal, unary, binary, follow}
 use Rattle.language.specs.Trees.{group, block, call, bind, branch, loop, Exps, last, more, Param, Def, Program}
 use Rattle.language.specs.Meaning.{type-number}
@@ -32,6 +32,7 @@ literal-kind (whole n) = NUMBER
 literal-kind (truth true) = TRUE
 literal-kind (truth false) = FALSE
 literal-kind trivial = TT
+literal-kind (decimal x) = FLOAT-NUMBER
 
 unfoldable pub unary-kind : Unary → ℕ
 unary-kind minus = PREFIX + MINUS

@@ -1,11 +1,11 @@
--- Slots of work memory, for bindings, operands and arguments that wait, and cells: three words each, a key and a tag in one, a
--- word, and one word kept free. A binding's key is the number of its name, a cell's its birth number.
+-- Slots of work memory, for bindings, operands and arguments that wait, and cells: three words each, a key and a tag in one,
+-- and two for the value. A binding's key is the number of its name, a cell's its birth number.
 use mathlib.Core.List.{List}
 use Prim.Native.Nat.{ℕ, _+_, _-_, _*_, _/_, _%_}
 use lib.ListN.{getD, set}
 use Rattle.language.specs.Sizes.{TOKENS, ACTIVE, PARAMETERS}
 use Rattle.language.specs.State as State
-use Rattle.layout.specs.Values.{tag-of, word-of, value-in}
+use Rattle.layout.specs.Values.{tag-of, low-of, high-of, value-in}
 use Rattle.layout.specs.declared.values.Value.{Value}
 
 -- tags are less than this, so a word has room for a key above one; and the largest key for which it has
@@ -32,10 +32,12 @@ abbrev pub key-at : List ℕ → ℕ → ℕ → ℕ
 key-at w base i = getD w (base + 3 * i) 0 / TAGS
 
 abbrev pub value-at : List ℕ → ℕ → ℕ → State.Value
-value-at w base i = value-in (getD w (base + 3 * i) 0 % TAGS) (getD w (base + 3 * i + 1) 0)
+value-at w base i =
+    value-in (getD w (base + 3 * i) 0 % TAGS) (getD w (base + 3 * i + 1) 0) (getD w (base + 3 * i + 2) 0)
 
 unfoldable pub put-slot : List ℕ → ℕ → ℕ → ℕ → Value → List ℕ
-put-slot w base i key v = set (set w (base + 3 * i) (TAGS * key + tag-of v)) (base + 3 * i + 1) (word-of v)
+put-slot w base i key v =
+    set (set (set w (base + 3 * i) (TAGS * key + tag-of v)) (base + 3 * i + 1) (low-of v)) (base + 3 * i + 2) (high-of v)
 
 -- a slot gets a key, and holds what it held
 unfoldable pub name-slot : List ℕ → ℕ → ℕ → ℕ → List ℕ

@@ -2,7 +2,7 @@
 -- This and all of this crate's specs is vocabulary for contracts between layers: the language itself does not know it.
 use mathlib.Core.Bool.{cond}
 use mathlib.Core.List.{List}
-use Prim.Native.Nat.{ℕ, zero, suc, _+_, _*_}
+use Prim.Native.Nat.{ℕ, zero, suc, _+_, _*_, _/_, _%_}
 use lib.Dec.{ltb}
 use lib.ListN.{getD, set}
 use Rattle.language.specs.Sizes.{TOKENS}
@@ -62,12 +62,20 @@ BODY = 4
 abbrev pub token-word : List ℕ → ℕ → ℕ → ℕ
 token-word w i k = getD w (4 * i + k) 0
 
--- behind its kind its place, the byte behind its last, and a number's value or a name's number
+-- places and ends are less than this, so a word has room for both
+abbrev pub SPANS : ℕ
+SPANS = 65536
+
+-- behind its kind its place and the byte behind its last, in one word
 abbrev pub token-place : List ℕ → ℕ → ℕ
-token-place w i = token-word w i 1
+token-place w i = token-word w i 1 % SPANS
 
 abbrev pub token-end : List ℕ → ℕ → ℕ
-token-end w i = token-word w i 2
+token-end w i = token-word w i 1 / SPANS
+
+-- and what it is worth: a number's value, a name's number, or both halves of a float number's bits
+abbrev pub token-high : List ℕ → ℕ → ℕ
+token-high w i = token-word w i 2
 
 abbrev pub token-value : List ℕ → ℕ → ℕ
 token-value w i = token-word w i 3
@@ -78,7 +86,7 @@ kind-of w count i = cond (ltb i count) (getD w (4 * i) 0) 0
 
 -- the place of token i of the first `count`, 0 past the last
 unfoldable pub place-of : List ℕ → ℕ → ℕ → ℕ
-place-of w count i = cond (ltb i count) (getD w (4 * i + 1) 0) 0
+place-of w count i = cond (ltb i count) (token-place w i) 0
 
 -- word k of row i
 abbrev pub row-word : List ℕ → ℕ → ℕ → ℕ
@@ -96,9 +104,9 @@ variable-type w i = getD w (VARIABLES-AT + 2 * i + 1) 0
 
 -- ---- writing
 
-unfoldable pub put-token : List ℕ → ℕ → ℕ → ℕ → ℕ → ℕ → List ℕ
-put-token w i kind place end value =
-    set (set (set (set w (4 * i) kind) (4 * i + 1) place) (4 * i + 2) end) (4 * i + 3) value
+unfoldable pub put-token : List ℕ → ℕ → ℕ → ℕ → ℕ → ℕ → ℕ → List ℕ
+put-token w i kind place end high value =
+    set (set (set (set w (4 * i) kind) (4 * i + 1) (SPANS * end + place)) (4 * i + 2) high) (4 * i + 3) value
 
 unfoldable pub put-row : List ℕ → ℕ → ℕ → ℕ → ℕ → ℕ → ℕ → List ℕ
 put-row w i kind own first second third =

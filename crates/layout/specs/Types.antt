@@ -4,7 +4,7 @@ use Rattle.language.specs.Sizes.{REFS}
 
 -- the largest number of a type without `ref`
 abbrev pub PLAIN : ℕ
-PLAIN = 3
+PLAIN = 4
 
 -- what a `ref` adds
 abbrev pub REF : ℕ

@@ -1,18 +1,24 @@
--- Values in words: a tag and a word, and what they stand for.
+-- Values in words: a tag and two words, and what they stand for.
 use mathlib.Core.Bool.{Bool, true, false, cond}
 use mathlib.Core.Path.{_≡_}
-use Prim.Native.Nat.{ℕ}
+use Prim.Native.Nat.{ℕ, _+_, _*_, _/_, _%_}
 use lib.Dec.{eqb}
+use lib.Ieee.{binary64, ofBits, toBits}
 use mir.Syntax.{w32}
 use mir.Val.{toZ, ofZ}
 use Rattle.language.specs.State as State
-use Rattle.language.specs.State.{number, flag, nothing, cell}
+use Rattle.language.specs.State.{number, float, flag, nothing, cell}
 use Rattle.layout.specs.declared.values.Value.{Value}
-use Rattle.layout.specs.declared.values.Value.the-variants.{Int, Flag, Nothing, Cell}
+use Rattle.layout.specs.declared.values.Value.the-variants.{Int, Float, Flag, Nothing, Cell}
+
+-- one more than the largest word
+abbrev pub HALF : ℕ
+HALF = 4294967296
 
 -- the value of the language that the code's value is
 abbrev pub meant : Value → State.Value
 meant (Int z) = number z
+meant (Float x) = float x
 meant (Flag b) = flag b
 meant Nothing = nothing
 meant (Cell n) = cell n
@@ -21,24 +27,36 @@ abbrev pub tag-of : Value → ℕ
 tag-of (Int z) = 0
 tag-of (Flag b) = 1
 tag-of Nothing = 2
-tag-of (Cell n) = 3
+tag-of (Float x) = 3
+tag-of (Cell n) = 4
 
 abbrev pub bit : Bool → ℕ
 bit true = 1
 bit false = 0
 
-abbrev pub word-of : Value → ℕ
-word-of (Int z) = ofZ w32 z
-word-of (Flag b) = bit b
-word-of Nothing = 0
-word-of (Cell n) = n
+abbrev pub low-of : Value → ℕ
+low-of (Int z) = ofZ w32 z
+low-of (Float x) = toBits binary64 x % HALF
+low-of (Flag b) = bit b
+low-of Nothing = 0
+low-of (Cell n) = n
 
--- the value that two words stand for
-abbrev pub value-in : ℕ → ℕ → State.Value
-value-in tag word =
-    cond (eqb tag 0) (number (toZ w32 word))
-    (cond (eqb tag 1) (flag (eqb word 1)) (cond (eqb tag 2) nothing (cell word)))
+-- only a float needs a second word
+abbrev pub high-of : Value → ℕ
+high-of (Int z) = 0
+high-of (Float x) = toBits binary64 x / HALF
+high-of (Flag b) = 0
+high-of Nothing = 0
+high-of (Cell n) = 0
 
--- the two words of v stand for v
+-- the value that a tag and two words stand for
+abbrev pub value-in : ℕ → ℕ → ℕ → State.Value
+value-in tag low high =
+    cond (eqb tag 0) (number (toZ w32 low))
+    (cond (eqb tag 1) (flag (eqb low 1))
+    (cond (eqb tag 2) nothing
+    (cond (eqb tag 3) (float (ofBits binary64 (HALF * high + low))) (cell low))))
+
+-- the words of v stand for v
 abbrev pub Survives : Value → Type 0
-Survives v = value-in (tag-of v) (word-of v) ≡ meant v
+Survives v = value-in (tag-of v) (low-of v) (high-of v) ≡ meant v

@@ -1,12 +1,13 @@
 // Where tokens, rows, functions and variables lie in table memory, and slots, frames and cells in work
 // memory, with a function for each way to read or write one. `specs/` says the same for contracts.
 //
-// Table memory: a token has four words (kind, place, end, and a number's value or a name's number), a
-// row of the reading five (kind, own token, three more), a function one (its row), a variable of the
+// Table memory: a token has four words (kind, place and end in one, and two for what it is worth: the low
+// one a number's value or a name's number, both together a float number's bits), a row of the reading five (kind, own token, three more), a function one (its row), a variable of the
 // checker two (its name's number, its type's number). Work memory: a slot has three words (a key and a
-// tag in one, the value, and one kept for the high half of a longer value), a frame four (a node's row,
+// tag in one, and two for the value, of which a float alone needs the high one), a frame four (a node's row,
 // its phase, the first slot that it sees, and how many with a mark in one word); cells are slots, too.
 
+pub mod floats;
 pub mod frames;
 pub mod functions;
 pub mod memory;

@@ -33,8 +33,9 @@ pub fn value(work: &[u32], base: usize, i: usize) -> Value
 {
     let at = base + 3 * i;
     let head = work[at];
-    let word = work[at + 1];
-    values::from_words(head % TAGS, word)
+    let low = work[at + 1];
+    let high = work[at + 2];
+    values::from_words(head % TAGS, low, high)
 }
 
 pub fn put(work: &mut [u32], base: usize, i: usize, key: u32, v: Value)
@@ -43,10 +44,12 @@ pub fn put(work: &mut [u32], base: usize, i: usize, key: u32, v: Value)
 {
     let at = base + 3 * i;
     let tag = values::tag(v);
-    let word = values::word(v);
+    let low = values::low(v);
+    let high = values::high(v);
     let head = pack(key, tag);
     work[at] = head;
-    work[at + 1] = word;
+    work[at + 1] = low;
+    work[at + 2] = high;
 }
 
 // A slot gets a key, and holds what it held.

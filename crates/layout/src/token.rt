@@ -1,9 +1,20 @@
 // The tokens of a sheet in table memory.
 ghost use mathlib.Core.Path.{_≡_};
-ghost use Prim.Native.Nat.{ℕ, _≤_, _<_};
+ghost use Prim.Native.Nat.{ℕ, _+_, _*_, _≤_, _<_};
 ghost use lib.ListN.{length};
 ghost use Rattle.language.specs.Sizes.{TOKENS, TABLE};
-ghost use Rattle.layout.specs.Table.{token-end, token-place, token-value, kind-of, place-of, put-token};
+ghost use Rattle.layout.specs.Table.{SPANS, token-end, token-place, token-high, token-value};
+ghost use Rattle.layout.specs.Table.{kind-of, place-of, put-token};
+
+// Where a token begins and where it ends share a word.
+const SPANS: u32 = 65536;
+
+fn pack(place: u32, end: u32) -> u32
+    requires { ⌜ (place < SPANS) × (end < SPANS) ⌝ }
+    ensures { λ r. ⌜ r ≡ SPANS * end + place ⌝ }
+{
+    SPANS * end + place
+}
 
 // The kind of a token, PAST where there is none.
 pub fn kind(table: &[u32], count: usize, at: usize) -> u32
@@ -18,7 +29,8 @@ pub fn place(table: &[u32], at: usize) -> u32
     requires { ⌜ (TABLE ≤ length (now table)) × (at < TOKENS) ⌝ }
     ensures { λ r. ⌜ r ≡ token-place (now (table .entry)) at ⌝ }
 {
-    table[4 * at + 1]
+    let both = table[4 * at + 1];
+    both % SPANS
 }
 
 // The same for any ordinal, 0 where there is no token.
@@ -26,7 +38,7 @@ pub fn place_of(table: &[u32], count: usize, at: usize) -> u32
     requires { ⌜ (TABLE ≤ length (now table)) × (count ≤ TOKENS) ⌝ }
     ensures { λ r. ⌜ r ≡ place-of (now (table .entry)) count at ⌝ }
 {
-    if at < count { table[4 * at + 1] } else { 0 }
+    if at < count { place(table, at) } else { 0 }
 }
 
 // The byte behind a token's last.
@@ -34,10 +46,11 @@ pub fn end(table: &[u32], at: usize) -> u32
     requires { ⌜ (TABLE ≤ length (now table)) × (at < TOKENS) ⌝ }
     ensures { λ r. ⌜ r ≡ token-end (now (table .entry)) at ⌝ }
 {
-    table[4 * at + 2]
+    let both = table[4 * at + 1];
+    both / SPANS
 }
 
-// A number's value, or a name's number.
+// A number's value, a name's number, or the low half of a float number's bits.
 pub fn value(table: &[u32], at: usize) -> u32
     requires { ⌜ (TABLE ≤ length (now table)) × (at < TOKENS) ⌝ }
     ensures { λ r. ⌜ r ≡ token-value (now (table .entry)) at ⌝ }
@@ -45,13 +58,22 @@ pub fn value(table: &[u32], at: usize) -> u32
     table[4 * at + 3]
 }
 
-pub fn put(table: &mut [u32], at: usize, kind: u32, place: u32, end: u32, value: u32)
+// The high half of a float number's bits, else 0.
+pub fn high(table: &[u32], at: usize) -> u32
     requires { ⌜ (TABLE ≤ length (now table)) × (at < TOKENS) ⌝ }
-    ensures { λ _. ⌜ now (table .exit) ≡ put-token (now (table .entry)) at kind place end value ⌝ }
+    ensures { λ r. ⌜ r ≡ token-high (now (table .entry)) at ⌝ }
+{
+    table[4 * at + 2]
+}
+
+pub fn put(table: &mut [u32], at: usize, kind: u32, place: u32, end: u32, high: u32, value: u32)
+    requires { ⌜ (TABLE ≤ length (now table)) × (at < TOKENS) × (place < SPANS) × (end < SPANS) ⌝ }
+    ensures { λ _. ⌜ now (table .exit) ≡ put-token (now (table .entry)) at kind place end high value ⌝ }
 {
     let w = 4 * at;
+    let both = pack(place, end);
     table[w] = kind;
-    table[w + 1] = place;
-    table[w + 2] = end;
+    table[w + 1] = both;
+    table[w + 2] = high;
     table[w + 3] = value;
 }

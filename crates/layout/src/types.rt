@@ -7,6 +7,8 @@ pub const BOOL: u32 = 2;
 
 pub const UNIT: u32 = 3;
 
+pub const FLOAT: u32 = 4;
+
 // What `ref` adds, and `!` takes away.
 pub const REF: u32 = 8;
 

@@ -1,5 +1,6 @@
 mod Applying
 mod CellLaws
+mod Computing
 pub mod Keeping
 mod Literals
 mod Printing

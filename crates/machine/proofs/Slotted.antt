@@ -12,7 +12,7 @@ use lib.Dec.{eqb}
 use borrow.Author.Tests.{eq-eqb, ne-eqb, le-leb, lt-leb}
 use Rattle.language.specs.State.{Value, live, count, held, keep}
 use Rattle.layout.specs.Slots.{TAGS, key-at, value-at, put-slot, name-slot}
-use Rattle.layout.specs.Values.{meant, tag-of, word-of, Survives}
+use Rattle.layout.specs.Values.{meant, tag-of, low-of, high-of, Survives}
 use Rattle.layout.specs.declared.values.Value as Code
 use Rattle.layout.proofs.Packed.{tag-small, packed-key, packed-tag}
 use Rattle.machine.specs.Slots.{Slot, slots, values-from, bound-in, find, cells-of, Same}
@@ -60,15 +60,17 @@ slots-same v w at zero h = refl
 slots-same v w at (suc n) h =
     let e0 : getD v (at + 3 * n) 0 ≡ getD w (at + 3 * n) 0 = h (at + 3 * n) (omega arith) (omega arith) in
     let e1 : getD v (at + 3 * n + 1) 0 ≡ getD w (at + 3 * n + 1) 0 = h (at + 3 * n + 1) (omega arith) (omega arith) in
+    let e2 : getD v (at + 3 * n + 2) 0 ≡ getD w (at + 3 * n + 2) 0 = h (at + 3 * n + 2) (omega arith) (omega arith) in
     let r : slots v at n ≡ slots w at n = slots-same v w at n (λ k l u. h k l (omega arith)) in
-    rw (e0, e1, r) refl
+    rw (e0, e1, e2, r) refl
 
 -- one of them
 pub value-same : (v w : List ℕ) (at i : ℕ) → Same v w (at + 3 * i) (at + 3 * i + 3) → value-at v at i ≡ value-at w at i
 value-same v w at i h =
     let e0 : getD v (at + 3 * i) 0 ≡ getD w (at + 3 * i) 0 = h (at + 3 * i) (omega arith) (omega arith) in
     let e1 : getD v (at + 3 * i + 1) 0 ≡ getD w (at + 3 * i + 1) 0 = h (at + 3 * i + 1) (omega arith) (omega arith) in
-    rw (e0, e1) refl
+    let e2 : getD v (at + 3 * i + 2) 0 ≡ getD w (at + 3 * i + 2) 0 = h (at + 3 * i + 2) (omega arith) (omega arith) in
+    rw (e0, e1, e2) refl
 
 -- what they hold
 pub values-same : (v w : List ℕ) (at k n : ℕ) → Same v w (at + 3 * k) (at + 3 * (k + n)) → values-from v at k n ≡ values-from w at k n
@@ -92,20 +94,35 @@ pub put-other : (w : List ℕ) (at i key : ℕ) (v : Code.Value) (k : ℕ) → (
     → getD (put-slot w at i key v) k 0 ≡ getD w k 0
 unfolding put-slot
 put-other w at i key v k h =
-    getD-set-other (set w (at + 3 * i) (TAGS * key + tag-of v)) (at + 3 * i + 1) k (word-of v) 0 (λ e. h (omega arith) (omega arith))
+    let one = set w (at + 3 * i) (TAGS * key + tag-of v) in
+    let two = set one (at + 3 * i + 1) (low-of v) in
+    getD-set-other two (at + 3 * i + 2) k (high-of v) 0 (λ e. h (omega arith) (omega arith))
+    ∙ getD-set-other one (at + 3 * i + 1) k (low-of v) 0 (λ e. h (omega arith) (omega arith))
     ∙ getD-set-other w (at + 3 * i) k (TAGS * key + tag-of v) 0 (λ e. h (omega arith) (omega arith))
 
 module _ (w : List ℕ) (at i key : ℕ) (v : Code.Value) (room : at + 3 * i + 3 ≤ length w) where
+  abbrev one : List ℕ
+  one = set w (at + 3 * i) (TAGS * key + tag-of v)
+
+  abbrev two : List ℕ
+  two = set one (at + 3 * i + 1) (low-of v)
+
   put-head : getD (put-slot w at i key v) (at + 3 * i) 0 ≡ TAGS * key + tag-of v
   unfolding put-slot
   put-head =
-      getD-set-other (set w (at + 3 * i) (TAGS * key + tag-of v)) (at + 3 * i + 1) (at + 3 * i) (word-of v) 0 (λ e. omega arith)
+      getD-set-other two (at + 3 * i + 2) (at + 3 * i) (high-of v) 0 (λ e. omega arith)
+      ∙ getD-set-other one (at + 3 * i + 1) (at + 3 * i) (low-of v) 0 (λ e. omega arith)
       ∙ getD-set-same w (at + 3 * i) (TAGS * key + tag-of v) 0 (omega arith)
 
-  put-word : getD (put-slot w at i key v) (at + 3 * i + 1) 0 ≡ word-of v
+  put-low : getD (put-slot w at i key v) (at + 3 * i + 1) 0 ≡ low-of v
   unfolding put-slot
-  put-word =
-      getD-set-same (set w (at + 3 * i) (TAGS * key + tag-of v)) (at + 3 * i + 1) (word-of v) 0 (simp length-set (omega arith))
+  put-low =
+      getD-set-other two (at + 3 * i + 2) (at + 3 * i + 1) (high-of v) 0 (λ e. omega arith)
+      ∙ getD-set-same one (at + 3 * i + 1) (low-of v) 0 (simp length-set (omega arith))
+
+  put-high : getD (put-slot w at i key v) (at + 3 * i + 2) 0 ≡ high-of v
+  unfolding put-slot
+  put-high = getD-set-same two (at + 3 * i + 2) (high-of v) 0 (simp length-set (omega arith))
 
   -- its key
   pub put-key : key-at (put-slot w at i key v) at i ≡ key
@@ -116,7 +133,7 @@ module _ (w : List ℕ) (at i key : ℕ) (v : Code.Value) (room : at + 3 * i + 3
 
   -- what it holds
   pub put-value : Survives v → value-at (put-slot w at i key v) at i ≡ meant v
-  put-value h = rw (put-tag, put-word) h
+  put-value h = rw (put-tag, put-low, put-high) h
 
 -- ---- a slot that gets a key
 
@@ -146,7 +163,9 @@ module _ (w : List ℕ) (at i key : ℕ) (room : at + 3 * i + 3 ≤ length w) wh
       ap (λ (n : ℕ). n % TAGS) name-head ∙ packed-tag key (getD w (at + 3 * i) 0 % TAGS) tag-less in
       let b : getD (name-slot w at i key) (at + 3 * i + 1) 0 ≡ getD w (at + 3 * i + 1) 0 =
       name-other w at i key (at + 3 * i + 1) (λ e. omega arith) in
-      rw (a, b) refl
+      let d : getD (name-slot w at i key) (at + 3 * i + 2) 0 ≡ getD w (at + 3 * i + 2) 0 =
+      name-other w at i key (at + 3 * i + 2) (λ e. omega arith) in
+      rw (a, b, d) refl
 
 -- one slot more
 pub slots-put : (w : List ℕ) (at n key : ℕ) (v : Code.Value) → at + 3 * n + 3 ≤ length w → Survives v

@@ -70,8 +70,9 @@ module _ (w : List ℕ) (at key : ℕ) (v : Value) where
     above n m r d =
         let e0 = put-other w at j key v (at + 3 * n) (λ p q. omega arith) in
         let e1 = put-other w at j key v (at + 3 * n + 1) (λ p q. omega arith) in
+        let e2 = put-other w at j key v (at + 3 * n + 2) (λ p q. omega arith) in
         let t = ne-eqb key (key-at w at n) (λ q. d (sym q)) in
-        (rw (e0, e1, t) (ap (λ (l : Cells). live (key-at w at n) (value-at w at n) l) (r .0)), rw t (r .1))
+        (rw (e0, e1, e2, t) (ap (λ (l : Cells). live (key-at w at n) (value-at w at n) l) (r .0)), rw t (r .1))
 
     hits : (n : ℕ) → j < n → at + 3 * n ≤ length w → Passed-by w at key (j + 1) n → Hit n
     hits zero l room h = absurd (omega arith)

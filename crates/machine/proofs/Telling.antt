@@ -4,7 +4,9 @@ use mathlib.Core.Bool.{Bool, true, false}
 use mathlib.Core.Option.{Option, none, some}
 use Prim.Native.Nat.{ℕ}
 use lib.Dec.{T}
-use Rattle.language.specs.State.{Value, as-bool, has, State, Stop, Outcome, value, stop, then, choose, when-some, want}
+use lib.Ieee.{Float}
+use lib.IntN.{ℤ}
+use Rattle.language.specs.State.{Value, as-int, as-float, as-bool, has, State, Stop, Outcome, value, stop, then, choose, when-some, want, alike}
 use Rattle.machine.specs.Operands.{is-true}
 use Rattle.machine.specs.Outcomes.{Tells, tells, anything}
 
@@ -74,6 +76,12 @@ pub when-is : {A : Type 0} {x : Option A} {o : Outcome} (f : A → Outcome) (y :
 unfolding when-some
 when-is f y a e h = rw e h
 
+-- what was looked for is not
+pub when-not : {A : Type 0} {x : Option A} {o : Outcome} (f : A → Outcome) (y : Unit {0} → Outcome) → none ≡ x → Tells o (y tt)
+    → Tells o (when-some x f y)
+unfolding when-some
+when-not f y e h = rw (← e) h
+
 -- what is wanted is there
 pub want-some : {A : Type 0} (x : Option A) {a : A} {o : Outcome} (f : A → Outcome) → some a ≡ x → Tells o (f a) → Tells o (want x f)
 want-some x {a} f e h = when-is f _ a (sym e) h
@@ -88,3 +96,22 @@ pub want-any : {A : Type 0} (x : Option A) {o : Outcome} (f : A → Outcome) →
 unfolding when-some
 want-any none f h = anything
 want-any (some a) f h = h a
+
+-- ---- two that are not alike
+
+module _ (v w : Value) {o : Outcome} (f : ℤ → ℤ → Outcome) (g : Float → Float → Outcome) where
+  -- an int, and no int
+  pub alike-int : {x : ℤ} → some x ≡ as-int v → none ≡ as-int w → Tells o (alike v w f g)
+  unfolding alike
+  alike-int d e = when-is _ _ _ (sym d) (want-none (as-int w) _ e)
+
+  module _ (no : none ≡ as-int v) where
+    -- a float, and no float
+    pub alike-float : {x : Float} → some x ≡ as-float v → none ≡ as-float w → Tells o (alike v w f g)
+    unfolding alike
+    alike-float d e = when-not _ _ no (want-some (as-float v) _ d (want-none (as-float w) _ e))
+
+    -- neither
+    pub alike-neither : none ≡ as-float v → Tells o (alike v w f g)
+    unfolding alike
+    alike-neither e = when-not _ _ no (want-none (as-float v) _ e)

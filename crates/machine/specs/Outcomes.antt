@@ -54,8 +54,8 @@ pub record Room (w : List ℕ) (s : Tally) : Type 0 where
   pub low : (i : ℕ) → i < s .cells → key-at w CELLS-AT i ≤ s .births
   pub rising : Rising w (s .cells)
 
--- From w and s to w′ and t: the words below the cells and those past the ones that are asked for stay; live cells keep their
--- birth numbers, and new ones are born later.
+-- From w and s to w′ and t: the words below the cells and those past the ones that are asked for stay; live cells keep
+-- their birth numbers, and new ones are born later.
 pub record Kept (w w′ : List ℕ) (s t : Tally) : Type 0 where
   pub below : Same w′ w 0 CELLS-AT
   pub beyond : (k : ℕ) → WORK ≤ k → getD w′ k 0 ≡ getD w k 0
@@ -76,6 +76,10 @@ Reckoned m r = (i : ℕ) (σ : M.State) → told i σ r ≡ m i σ
 
 abbrev pub Fitted : ℤ → Outcome → Type 0
 Fitted z r = Reckoned (λ i σ. fit i z σ) r
+
+-- the same where the meaning may be stuck
+abbrev pub Judged : Means → Outcome → Type 0
+Judged m r = (i : ℕ) (σ : M.State) → Tells (told i σ r) (m i σ)
 
 -- nothing is changed in this work memory
 abbrev pub Answered : Means → List ℕ → Tally → Outcome → Type 0
@@ -98,7 +102,8 @@ after-birth (Halts y) s = s
 pub record Created (v : M.Value) (w w′ : List ℕ) (s : Tally) (r : Outcome) : Type 0 where
   pub kept : Kept w w′ s (after-birth r s)
   pub room : Room w′ (after-birth r s)
-  pub right : (i : ℕ) (o : List ℕ) → Tells (told i (memory w′ o (after-birth r s)) r) (apply-unary i new v (memory w o s))
+  pub right : (i : ℕ) (o : List ℕ)
+      → Tells (told i (memory w′ o (after-birth r s)) r) (apply-unary i new v (memory w o s))
 
 -- a byte more
 abbrev pub byte-more : Tally → Tally
@@ -113,4 +118,5 @@ pub record Printed (v : M.Value) (o o′ : List ℕ) (s : Tally) (r : Outcome) :
   pub wide : length o′ ≡ length o
   pub rest : (k : ℕ) → after-byte r s .printed ≤ k → getD o′ k 0 ≡ getD o k 0
   pub fits : after-byte r s .printed ≤ length o
-  pub right : (i : ℕ) (w : List ℕ) → Tells (told i (memory w o′ (after-byte r s)) r) (want (as-int v) λ z. put i z (memory w o s))
+  pub right : (i : ℕ) (w : List ℕ)
+      → Tells (told i (memory w o′ (after-byte r s)) r) (want (as-int v) λ z. put i z (memory w o s))

@@ -4,6 +4,7 @@ ghost use Rattle.language.specs.Meaning.{literal-value};
 ghost use Rattle.layout.specs.Values.{meant};
 ghost use Rattle.machine.specs.Rows.{LiteralRow, literal-of};
 use language::kinds;
+use layout::floats;
 use layout::rows;
 use layout::token;
 use layout::values::Value;
@@ -17,6 +18,13 @@ pub fn literal(table: &[u32], node: usize) -> Value
         let at = rows::link(table, node, rows::OWN);
         let n = token::value(table, at);
         return Value::Int(n as i32);
+    }
+    if kind == kinds::FLOAT_NUMBER {
+        let at = rows::link(table, node, rows::OWN);
+        let high = token::high(table, at);
+        let low = token::value(table, at);
+        let bits = floats::join(high, low);
+        return Value::Float(floats::of_bits(bits));
     }
     if kind == kinds::TRUE {
         return Value::Flag(true);

@@ -1,12 +1,17 @@
 // An operand as the kind of value that an operator asks for, or as none of that kind.
 ghost use mathlib.Core.Path.{_≡_};
-ghost use Rattle.language.specs.State.{as-int, as-bool, as-cell};
+ghost use Rattle.language.specs.State.{as-int, as-float, as-bool, as-cell};
 ghost use Rattle.layout.specs.Values.{meant};
-ghost use Rattle.machine.specs.Operands.{is-true, number-in, truth-in, cell-in};
+ghost use Rattle.machine.specs.Operands.{is-true, number-in, float-in, truth-in, cell-in};
 use layout::values::Value;
 
 pub enum Number {
     Is(i32),
+    Other,
+}
+
+pub enum Float {
+    Is(f64),
     Other,
 }
 
@@ -25,9 +30,22 @@ pub fn int_of(v: Value) -> Number
 {
     match v {
         Value::Int(z) => Number::Is(z),
+        Value::Float(_) => Number::Other,
         Value::Flag(_) => Number::Other,
         Value::Nothing => Number::Other,
         Value::Cell(_) => Number::Other,
+    }
+}
+
+pub fn float_of(v: Value) -> Float
+    ensures { λ r. ⌜ float-in r ≡ as-float (meant v) ⌝ }
+{
+    match v {
+        Value::Int(_) => Float::Other,
+        Value::Float(x) => Float::Is(x),
+        Value::Flag(_) => Float::Other,
+        Value::Nothing => Float::Other,
+        Value::Cell(_) => Float::Other,
     }
 }
 
@@ -36,6 +54,7 @@ pub fn flag_of(v: Value) -> Truth
 {
     match v {
         Value::Int(_) => Truth::Other,
+        Value::Float(_) => Truth::Other,
         Value::Flag(b) => Truth::Is(b),
         Value::Nothing => Truth::Other,
         Value::Cell(_) => Truth::Other,
@@ -47,6 +66,7 @@ pub fn cell_of(v: Value) -> Cell
 {
     match v {
         Value::Int(_) => Cell::Other,
+        Value::Float(_) => Cell::Other,
         Value::Flag(_) => Cell::Other,
         Value::Nothing => Cell::Other,
         Value::Cell(n) => Cell::Is(n),
@@ -58,6 +78,7 @@ pub fn is_true(v: Value) -> bool
 {
     match v {
         Value::Int(_) => false,
+        Value::Float(_) => false,
         Value::Flag(b) => b,
         Value::Nothing => false,
         Value::Cell(_) => false,

@@ -1,17 +1,19 @@
 // What an operator does with operands that are worked out.
+ghost use mathlib.Core.Option.{none};
 ghost use mathlib.Core.Path.{_≡_};
 ghost use Prim.Native.Nat.{ℕ, _≤_};
 ghost use Rattle.language.specs.Sizes.{ALLOWANCE};
 ghost use Rattle.language.specs.Trees.{new};
-ghost use Rattle.language.specs.State.{number};
+ghost use Rattle.language.specs.State.{number, float, as-int};
 ghost use Rattle.language.specs.Meaning.{apply-unary, apply-binary, settles};
 ghost use Rattle.layout.specs.Values.{meant};
 ghost use Rattle.machine.specs.Rows.{unary-of, binary-of, OnNumbers};
-ghost use Rattle.machine.specs.Outcomes.{Room, Answered, Applied, Reckoned};
+ghost use Rattle.machine.specs.Outcomes.{Room, Answered, Applied, Reckoned, Judged};
 use crate::arithmetic;
 use crate::cells;
 use crate::operands;
 use crate::operands::Cell;
+use crate::operands::Float;
 use crate::operands::Number;
 use crate::operands::Truth;
 use crate::state;
@@ -103,6 +105,46 @@ fn reckon(op: u32, a: i32, b: i32) -> Outcome
     Outcome::Gives(Value::Flag(a == b))
 }
 
+// An operator of two floats: a single operation, rounded once (R08.4), and no result of it is a stop. `==` is for
+// ints (R08.5).
+fn compute(op: u32, x: f64, y: f64) -> Outcome
+    requires { ⌜ OnNumbers op ⌝ }
+    ensures { λ r. ⌜ Judged (λ i σ. apply-binary i (binary-of op) (float x) (float y) σ) r ⌝ }
+{
+    if op == kinds::PLUS {
+        return Outcome::Gives(Value::Float(x + y));
+    }
+    if op == kinds::MINUS {
+        return Outcome::Gives(Value::Float(x - y));
+    }
+    if op == kinds::STAR {
+        return Outcome::Gives(Value::Float(x * y));
+    }
+    if op == kinds::SLASH {
+        return Outcome::Gives(Value::Float(x / y));
+    }
+    if op == kinds::LESS {
+        return Outcome::Gives(Value::Flag(x < y));
+    }
+    state::stuck()
+}
+
+// The left side is no int.
+fn on_floats(op: u32, a: Value, b: Value) -> Outcome
+    requires { ⌜ OnNumbers op × (none ≡ as-int (meant a)) ⌝ }
+    ensures { λ r. ⌜ Judged (λ i σ. apply-binary i (binary-of op) (meant a) (meant b) σ) r ⌝ }
+{
+    let x = operands::float_of(a);
+    let y = operands::float_of(b);
+    match x {
+        Float::Is(p) => match y {
+            Float::Is(q) => compute(op, p, q),
+            Float::Other => state::stuck(),
+        },
+        Float::Other => state::stuck(),
+    }
+}
+
 pub fn apply_binary(op: u32, work: &mut [u32], a: Value, b: Value, s: Tally) -> Outcome
     requires { ⌜ Room (now work) s × (s .births ≤ ALLOWANCE) ⌝ }
     ensures { λ r. ⌜ Applied (λ i σ. apply-binary i (binary-of op) (meant a) (meant b) σ) (now (work .entry)) (now (work .exit)) s r ⌝ }
@@ -127,6 +169,6 @@ pub fn apply_binary(op: u32, work: &mut [u32], a: Value, b: Value, s: Tally) -> 
             Number::Is(n) => reckon(op, m, n),
             Number::Other => state::stuck(),
         },
-        Number::Other => state::stuck(),
+        Number::Other => on_floats(op, a, b),
     }
 }

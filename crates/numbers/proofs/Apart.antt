@@ -16,12 +16,14 @@ abbrev pub flaw-of : Text.Flaw → Flaw
 flaw-of Text.strange-byte = Flaw.StrangeByte
 flaw-of Text.open-comment = Flaw.OpenComment
 flaw-of Text.large-number = Flaw.LargeNumber
+flaw-of Text.long-float = Flaw.LongFloat
 flaw-of Text.many-tokens = Flaw.ManyTokens
 
 pub flaw-back : (f : Flaw) → flaw-of (flaw-meant f) ≡ f
 flaw-back Flaw.StrangeByte = refl
 flaw-back Flaw.OpenComment = refl
 flaw-back Flaw.LargeNumber = refl
+flaw-back Flaw.LongFloat = refl
 flaw-back Flaw.ManyTokens = refl
 
 -- two that mean the same are the same

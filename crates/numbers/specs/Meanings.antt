@@ -12,6 +12,7 @@ abbrev pub flaw-meant : Flaw → Text.Flaw
 flaw-meant Flaw.StrangeByte = Text.strange-byte
 flaw-meant Flaw.OpenComment = Text.open-comment
 flaw-meant Flaw.LargeNumber = Text.large-number
+flaw-meant Flaw.LongFloat = Text.long-float
 flaw-meant Flaw.ManyTokens = Text.many-tokens
 
 abbrev pub reason-meant : Reason → Faults.Reason

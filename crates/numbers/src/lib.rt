@@ -10,6 +10,7 @@ pub enum Flaw {
     StrangeByte,
     OpenComment,
     LargeNumber,
+    LongFloat,
     ManyTokens,
 }
 
@@ -63,6 +64,7 @@ pub fn of_flaw(flaw: Flaw) -> u32
         Flaw::StrangeByte => 11,
         Flaw::OpenComment => 12,
         Flaw::LargeNumber => 13,
+        Flaw::LongFloat => 15,
         Flaw::ManyTokens => 14,
     }
 }

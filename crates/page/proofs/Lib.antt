@@ -2,6 +2,8 @@ pub mod Adding
 pub mod Decimals
 pub mod Digits
 pub mod Feeds
+pub mod FloatsTold
+pub mod FloatTexts
 pub mod Letters
 pub mod Negative
 pub mod Returns

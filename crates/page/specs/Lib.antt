@@ -1,5 +1,6 @@
-pub mod Characters
-pub mod Lines
 pub mod Amounts
+pub mod Characters
+pub mod Floats
+pub mod Lines
 pub mod Sheet
 pub mod Text

@@ -1,6 +1,6 @@
 // What the program around the box does with bytes: it reads a number among its arguments, spells the call
-// of a shift, finds the line and the column of a place, puts text behind text so that it can be seen, and takes
-// a number's sign off.
+// of a shift, finds the line and the column of a place, puts text behind text so that it can be seen, writes a
+// float for who reads it, and takes a number's sign off.
 ghost use mathlib.Core.Path.{_≡_};
 ghost use Prim.Native.Nat.{min};
 ghost use lib.IntN.{natAbs};
@@ -10,6 +10,7 @@ ghost use Rattle.page.specs.Lines.{Spotted};
 mod amounts;
 mod bytes;
 mod characters;
+mod floats;
 pub mod lines;
 mod sheet;
 mod text;
@@ -22,6 +23,8 @@ use crate::lines::line_start;
 pub use amounts::Number;
 pub use amounts::up_to;
 pub use characters::readable;
+pub use floats::bits;
+pub use floats::float;
 pub use lines::trimmed;
 pub use sheet::call;
 pub use text::blanks;

@@ -35,7 +35,7 @@ pub fn decimal(out: &mut [u8], at: usize, n: u64) -> usize
     put(out, at, &digits[..k])
 }
 
-fn hex(d: u8) -> u8
+pub fn hex(d: u8) -> u8
     requires { ⌜ d < 16 ⌝ }
     ensures { λ r. ⌜ r ≡ glyph d ⌝ }
 {

@@ -60,6 +60,7 @@ module _ (ts : List Token) (Δ : Scope Sig) (Γ : Scope Ty) (i : ℕ) (a b c : E
   unfolding infer build
   first-wrong a-name l h = absurd (omega arith)
   first-wrong Shape.a-number l h = absurd (omega arith)
+  first-wrong Shape.a-float l h = absurd (omega arith)
   first-wrong a-follow l h = fault-is (after-bad _ (fault-told h))
   first-wrong a-group l h = h
   first-wrong a-block l h = h

@@ -9,7 +9,7 @@ use Rattle.language.specs.Tokens.{Token, entry, NAME, LET, At, spelling-at}
 use Rattle.language.specs.Trees.{Exp, Exps, push}
 use Rattle.layout.specs.Table.{KIND, OWN, FIRST, SECOND, THIRD, token-value, row-word, put-variable, without-variables}
 use Rattle.layout.specs.Rows.{CALL, below, under}
-use Rattle.layout.specs.Decode.{Shape, a-name, a-number, a-follow, a-group, a-block, a-call, a-let, an-if, a-while, a-constant}
+use Rattle.layout.specs.Decode.{Shape, a-name, a-number, a-float, a-follow, a-group, a-block, a-call, a-let, an-if, a-while, a-constant}
 use Rattle.layout.specs.Decode.{a-unary, a-binary, shape-of, children, build, tree-at, args-at, Node, Right, RightArgs}
 use Rattle.layout.specs.Names.{Named}
 use Rattle.layout.proofs.NameLaws.{named-at, name-inside}
@@ -35,6 +35,7 @@ below-parts : (ts : List Token) (s : Shape) (i : ℕ) (a b c : Exp) (es : Exps)
 unfolding below build
 below-parts ts a-name i a b c es = ((λ h. omega arith), (λ h. omega arith), λ h. omega arith)
 below-parts ts a-number i a b c es = ((λ h. omega arith), (λ h. omega arith), λ h. omega arith)
+below-parts ts a-float i a b c es = ((λ h. omega arith), (λ h. omega arith), λ h. omega arith)
 below-parts ts a-follow i a b c es = ((λ h. omega arith), (λ h. omega arith), λ h. omega arith)
 below-parts ts a-group i a b c es = ((λ h. omega arith), (λ h. omega arith), λ h. omega arith)
 below-parts ts a-block i a b c es = ((λ h. omega arith), (λ h. omega arith), λ h. omega arith)

@@ -5,8 +5,9 @@ use mathlib.Core.Option.{none}
 use mathlib.Core.Path.{_≡_, refl, sym, ap, _∙_}
 use Prim.Native.Nat.{ℕ, _+_, _<_}
 use native.Mathlib.Omega.{arith}
-use Rattle.language.specs.Tokens.{Means, kind-at, value-at, NAME, NUMBER, BECOMES, LPAR, RPAR, LBRACE, RBRACE}
-use Rattle.language.specs.Trees.{whole, Binary, literal, unary, binary, group, block}
+use Rattle.language.specs.Tokens.{Means, kind-at, value-at, spelling-at, NAME, NUMBER, FLOAT-NUMBER, BECOMES, LPAR, RPAR, LBRACE, RBRACE}
+use Rattle.language.specs.Decimals.{float-of}
+use Rattle.language.specs.Trees.{whole, decimal, Binary, literal, unary, binary, group, block}
 use Rattle.language.specs.Grammar.{prefixes, constants}
 use Rattle.language.proofs.Executable.SettlesExpressions as S
 use Rattle.layout.specs.Table.{kind-of, put-row}
@@ -76,6 +77,14 @@ module _ {count n f k : ℕ} {w w₁ : List ℕ} (h : k ≡ kind-of w count n) w
   atom-number i l x =
       single NUMBER n (λ ts. literal n (whole (value-at ts n))) (λ ts s. (refl, refl, S.atom-number (at n s (sym h) ∙ i))) x (omega arith) (omega arith)
 
+  -- a float number
+  pub atom-float : {g : Part} → k ≡ FLOAT-NUMBER → n < count → Written f (n + 1) (put-row w f FLOAT-NUMBER n 0 0 0) w g w₁
+      → Yields (Atom n) count w n f g w₁
+  unfolding lay below literal-kind
+  atom-float i l x =
+      single FLOAT-NUMBER n (λ ts. literal n (decimal (float-of (spelling-at ts n))))
+      (λ ts s. (refl, refl, S.atom-float (at n s (sym h) ∙ i))) x (omega arith) (omega arith)
+
   -- `(`, and a Seq with `)` or none
   pub atom-group : {w₂ : List ℕ} {g z : Part} → k ≡ LPAR → Halts (Until RPAR (n + 1)) count w (n + 1) f g w₁
       → Topped (λ u i j. put-row u i LPAR n j 0 0) (λ l. l + 1) g w₁ z w₂ → Yields (Atom n) count w n f z w₂
@@ -95,8 +104,9 @@ module _ {count n f k : ℕ} {w w₁ : List ℕ} (h : k ≡ kind-of w count n) w
       a t (λ j l c o. record { least = omega arith; most = omega arith; owned = omega arith; end = refl })
 
 -- no token that an Atom begins with
-pub atom-other : {count n f k : ℕ} {w : List ℕ} → k ≡ kind-of w count n → in-table constants k ≡ false → (k ≡ NUMBER → ⊥) → (k ≡ NAME → ⊥)
-    → (k ≡ LPAR → ⊥) → (k ≡ LBRACE → ⊥) → Yields (Atom n) count w n f (Part.None n) w
-atom-other {count} {n} {f} {k} {w} h i a b c d = fails (λ ts s.
+pub atom-other : {count n f k : ℕ} {w : List ℕ} → k ≡ kind-of w count n → in-table constants k ≡ false → (k ≡ NUMBER → ⊥)
+    → (k ≡ FLOAT-NUMBER → ⊥) → (k ≡ NAME → ⊥) → (k ≡ LPAR → ⊥) → (k ≡ LBRACE → ⊥) → Yields (Atom n) count w n f (Part.None n) w
+atom-other {count} {n} {f} {k} {w} h i a p b c d = fails (λ ts s.
     let e : kind-at ts n ≡ k = s .kinds n ∙ sym h in
-    S.atom-other (rw e (stands-for-none constants k i)) (λ x. a (sym e ∙ x)) (λ x. b (sym e ∙ x)) (λ x. c (sym e ∙ x)) (λ x. d (sym e ∙ x))) refl
+    S.atom-other (rw e (stands-for-none constants k i)) (λ x. a (sym e ∙ x)) (λ x. p (sym e ∙ x)) (λ x. b (sym e ∙ x)) (λ x. c (sym e ∙ x))
+    (λ x. d (sym e ∙ x))) refl

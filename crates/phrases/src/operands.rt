@@ -126,7 +126,7 @@ fn un(table: &mut [u32], count: usize, at: usize, free: usize) -> Part
     }
 }
 
-// A constant, a number, a name, a call, a Group or a Block.
+// A constant, a number, a float number, a name, a call, a Group or a Block.
 fn atom(table: &mut [u32], count: usize, at: usize, free: usize) -> Part
     requires { ⌜ Room count (now table) at free ⌝ }
     ensures { λ g. ⌜ Yields (Atom at) count (now (table .entry)) at free g (now (table .exit)) ⌝ }
@@ -137,6 +137,7 @@ fn atom(table: &mut [u32], count: usize, at: usize, free: usize) -> Part
     }
     match k {
         kinds::NUMBER => node(table, free, at + 1, kinds::NUMBER, at, 0, 0, 0),
+        kinds::FLOAT_NUMBER => node(table, free, at + 1, kinds::FLOAT_NUMBER, at, 0, 0, 0),
         kinds::NAME => name_or_call(table, count, at, free),
         kinds::LPAR => {
             let inside = until(table, count, at + 1, free, kinds::RPAR);

@@ -6,7 +6,7 @@ use Prim.Native.Nat.{ℕ, zero, suc, _+_, _*_, _≤_, _<_}
 use native.Mathlib.Omega.{arith}
 use lib.Dec.{leb, leb→le}
 use Rattle.language.specs.Tokens.{entry, REF, COLON, LBRACE}
-use Rattle.language.specs.Trees.{Ty, int, bool, unit, ref}
+use Rattle.language.specs.Trees.{Ty, int, bool, unit, float, ref}
 use Rattle.language.specs.Grammar.{basics}
 use Rattle.language.specs.Meaning.{type-number}
 use Rattle.language.proofs.Grammar.Entries.{every, entry-passes}
@@ -52,6 +52,7 @@ unfolding type-number
 positive int = omega arith
 positive bool = omega arith
 positive unit = omega arith
+positive float = omega arith
 positive (ref t) = omega arith
 
 none-of : (o : Option Ty) → number-or o ≡ 0 → o ≡ none
@@ -63,9 +64,9 @@ some-of none h = absurd (h refl)
 some-of (some t) h = (t, refl)
 
 -- a word that stands for a type has a small number, and stands before the end
-word-small : (k : ℕ) {t : Ty} → entry basics k ≡ some t → type-number t ≤ 3
+word-small : (k : ℕ) {t : Ty} → entry basics k ≡ some t → type-number t ≤ Types.PLAIN
 unfolding type-number every
-word-small k {t} e = leb→le (type-number t) 3 (entry-passes (λ c x. leb (type-number x) 3) basics k tt e)
+word-small k {t} e = leb→le (type-number t) Types.PLAIN (entry-passes (λ c x. leb (type-number x) Types.PLAIN) basics k tt e)
 
 word-kind : (k : ℕ) → (basic-number k ≡ 0 → ⊥) → 0 < k
 unfolding entry
@@ -88,7 +89,7 @@ module _ (count n : ℕ) (w : List ℕ) (k b : ℕ) (hk : k ≡ kind-of w count 
     number = hb ∙ ap number-or (word .1)
 
     -- there is room for what is behind it
-    pub type-room : (n < count) × (b ≤ 3)
+    pub type-room : (n < count) × (b ≤ Types.PLAIN)
     type-room = (kind-within w count n (omega (arith, word-kind k (λ e. h (hb ∙ e)), hk)), omega (arith, number, word-small k (word .1)))
 
     -- a word, and what is behind it

@@ -24,6 +24,7 @@ fn basic(k: u32) -> u32
         kinds::INT => types::INT,
         kinds::BOOL => types::BOOL,
         kinds::UNIT => types::UNIT,
+        kinds::FLOAT => types::FLOAT,
         _ => 0,
     }
 }

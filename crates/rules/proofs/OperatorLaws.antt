@@ -6,16 +6,16 @@ use native.Mathlib.Decide.{decLt}
 use native.Mathlib.Omega.{arith}
 use Rattle.language.specs.Sizes.{REFS}
 use Rattle.language.specs.Tokens.{BECOMES}
-use Rattle.language.specs.Trees.{Ty, int, bool, unit, ref, refs, Ty-discrete, Unary, minus, not}
+use Rattle.language.specs.Trees.{Ty, int, bool, unit, float, ref, refs, Ty-discrete, Unary, minus, not}
 use Rattle.language.specs.Trees.{fetch, new, Binary, add, sub, mul, div, less, equal, and, or, assign}
 use Rattle.language.specs.Faults.{unsuited, wrong-operands}
 use Rattle.language.specs.Meaning.{type-number}
 use Rattle.language.proofs.Types.TypeNumbers.{one-number, number-refs}
 use Rattle.language.proofs.Executable.Checks.{ok, bad, told, told-some, told-none}
-use Rattle.language.proofs.Executable.Operators.{if-yes, both, unop, binop}
+use Rattle.language.proofs.Executable.Operators.{if-yes, arithmetic, both, unop, binop}
 use Rattle.layout.specs.Types.{REF, FULL}
 use Rattle.layout.specs.Rows.{unary-kind, binary-kind}
-use Rattle.rules.specs.Asked.{Tells, Prefixed, Between, operand, result, Operand, Result}
+use Rattle.rules.specs.Asked.{Tells, Prefixed, Between, as-arithmetic, operand, result, Operand, Result}
 use Rattle.numbers.specs.declared.Reason.the-variants.{WrongOperands}
 use Rattle.rules.specs.declared.Typing.{Typing}
 use Rattle.rules.specs.declared.Typing.the-variants as Typing
@@ -70,6 +70,7 @@ module _ {n : ℕ} (i : ℕ) (t : Ty) (p : n ≡ type-number t) where
       go int p h = absurd (omega arith)
       go bool p h = absurd (omega arith)
       go unit p h = absurd (omega arith)
+      go float p h = absurd (omega arith)
       go (ref u) p h = type-is u refl (omega arith)
 
   -- and nothing else holds anything
@@ -81,6 +82,7 @@ module _ {n : ℕ} (i : ℕ) (t : Ty) (p : n ≡ type-number t) where
       go int p h = refl
       go bool p h = refl
       go unit p h = refl
+      go float p h = refl
       go (ref u) p h = let k = number-refs u in absurd (omega (arith, k .0))
 
   -- one `ref` more, where there is room for it
@@ -141,6 +143,7 @@ module _ {m n : ℕ} (i : ℕ) (t u : Ty) (p : m ≡ type-number t) (q : n ≡ t
       go int p h e = absurd (omega arith)
       go bool p h e = absurd (omega arith)
       go unit p h e = absurd (omega arith)
+      go float p h e = absurd (omega arith)
       go (ref v) p h e = told-some _ _ (if-is (Ty-discrete v u) unit (one-number v u (omega arith)))
 
   -- and nothing else can be assigned to
@@ -152,19 +155,30 @@ module _ {m n : ℕ} (i : ℕ) (t u : Ty) (p : m ≡ type-number t) (q : n ≡ t
       go int p h = told-none _ _ refl
       go bool p h = told-none _ _ refl
       go unit p h = told-none _ _ refl
+      go float p h = told-none _ _ refl
       go (ref v) p h =
           let k = number-refs v in
           told-none _ _ (if-not (Ty-discrete v u) unit (λ e. h (omega (arith, k .0)) (omega (arith, ap type-number e))))
 
--- every other operator wants one type of both
+-- arithmetic wants one type of both, which the first tells
+arithmetic-both : (t u v : Ty)
+    → both (arithmetic t) (Ty-discrete u t) v ≡ both (Ty-discrete t (as-arithmetic t)) (Ty-discrete u (as-arithmetic t)) v
+unfolding arithmetic both
+arithmetic-both int u v = refl
+arithmetic-both bool u v = refl
+arithmetic-both unit u v = refl
+arithmetic-both float u v = refl
+arithmetic-both (ref t) u v = refl
+
+-- so does every other operator but `:=`
 pub binop-both : (o : Binary) → (o ≡ assign → ⊥) → (t u : Ty)
-    → binop o t u ≡ both (Ty-discrete t (operand o)) (Ty-discrete u (operand o)) (result o)
+    → binop o t u ≡ both (Ty-discrete t (operand o t)) (Ty-discrete u (operand o t)) (result o t)
 unfolding binop
-binop-both add h t u = refl
-binop-both sub h t u = refl
-binop-both mul h t u = refl
-binop-both div h t u = refl
-binop-both less h t u = refl
+binop-both add h t u = arithmetic-both t u t
+binop-both sub h t u = arithmetic-both t u t
+binop-both mul h t u = arithmetic-both t u t
+binop-both div h t u = arithmetic-both t u t
+binop-both less h t u = arithmetic-both t u bool
 binop-both equal h t u = refl
 binop-both and h t u = refl
 binop-both or h t u = refl
@@ -190,19 +204,19 @@ module _ {k m n : ℕ} (i : ℕ) {r : Typing} where
   between-assign e h or t u d p q = absurd (omega arith)
   between-assign e h assign t u d p q = h t u p q
 
-module _ {k m n : ℕ} (i : ℕ) (other : k ≡ BECOMES → ⊥) {v : ℕ} (wants : Operand k v) where
+module _ {k m n : ℕ} (i : ℕ) (other : k ≡ BECOMES → ⊥) {v : ℕ} (wants : Operand k m v) where
   -- both operands of the type that the operator wants
-  pub between-fine : {x : ℕ} → Result k x → m ≡ v → n ≡ v
+  pub between-fine : {x : ℕ} → Result k m x → m ≡ v → n ≡ v
       → Between k m n i (Typing.«Type» x)
   between-fine gives a b o t u d p q =
       let h = not-assign k other o d in
-      let w = wants o h d in
-      type-is (result o) (told-some _ _ (binop-both o h t u
-      ∙ both-are _ _ _ (is-type t (operand o) p w a) (is-type u (operand o) q w b))) (gives o h d)
+      let w = wants o t h d p in
+      type-is (result o t) (told-some _ _ (binop-both o h t u
+      ∙ both-are _ _ _ (is-type t (operand o t) p w a) (is-type u (operand o t) q w b))) (gives o t h d p)
 
   -- or not both
   pub between-other : (m ≡ v → n ≡ v → ⊥) → Between k m n i (Typing.Fault WrongOperands i)
   between-other a o t u d p q =
       let h = not-assign k other o d in
-      let w = wants o h d in
+      let w = wants o t h d p in
       fault-is (told-none _ _ (binop-both o h t u ∙ both-not _ _ _ λ x y. a (p ∙ ap type-number x ∙ sym w) (q ∙ ap type-number y ∙ sym w)))

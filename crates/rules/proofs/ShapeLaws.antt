@@ -4,17 +4,19 @@ use mathlib.Core.Path.{_≡_, refl, sym, ap, subst₂, _∙_}
 use Prim.Native.Nat.{ℕ, _≤_, _<_}
 use native.Mathlib.Omega.{arith}
 use lib.Dec.{eqb, leb, ltb}
-use Rattle.language.specs.Tokens.{NUMBER, TRUE, FALSE, TT, LET, IF, WHILE, SEMI, LPAR, LBRACE, PLUS, AND, OR}
-use Rattle.language.specs.Trees.{Ty, int, bool, unit, add, sub, mul, div, less, equal, and, or, assign, whole, truth, trivial}
+use Rattle.language.specs.Tokens.{NUMBER, FLOAT-NUMBER, TRUE, FALSE, TT, LET, IF, WHILE, SEMI, LPAR, LBRACE, PLUS, AND, OR, EQUAL}
+use Rattle.language.specs.Trees.{Ty, int, bool, unit, float, ref, add, sub, mul, div, less, equal, and, or, assign}
+use Rattle.language.specs.Trees.{whole, truth, trivial, decimal}
 use Rattle.language.specs.Meaning.{type-number}
 use Rattle.language.proofs.Grammar.Entries.{every}
 use Rattle.language.proofs.Executable.Checks.{ok, after-ok}
 use Rattle.language.proofs.Executable.Checker.{literal-type, infer}
 use Rattle.layout.specs.Rows.{PREFIX, CALL, literal-kind, unary-kind, binary-kind}
 use Rattle.layout.specs.Decode.{Shape, shape-of, build}
-use Rattle.layout.proofs.Shapes.{shape-kind, kind-of-shape, unary-high, binary-between, children-by-entries, children-most, Parted, is-name}
-use Rattle.layout.proofs.Shapes.{is-number, is-constant, is-call, is-unary, is-group, is-block, is-binary, is-follow, is-let, is-while, parted}
-use Rattle.rules.specs.Asked.{Tells, Children, Constant, AsksOne, AsksTwo, Prefixed, Between, Follows, Repeats, Operand, Result}
+use Rattle.layout.proofs.Shapes.{shape-kind, kind-of-shape, unary-high, binary-between, children-by-entries, children-most, Parted, is-name, is-number}
+use Rattle.layout.proofs.Shapes.{is-float, is-constant, is-call, is-unary, is-group, is-block, is-binary, is-follow, is-let, is-while, parted}
+use Rattle.rules.specs.Asked.{Tells, Children, Constant, AsksOne, AsksTwo, Prefixed, Between, Follows, Repeats}
+use Rattle.rules.specs.Asked.{as-arithmetic, Operand, Result}
 use Rattle.rules.specs.declared.Typing.{Typing}
 use Rattle.rules.specs.declared.Typing.the-variants as Typing
 use Rattle.rules.proofs.TellLaws.{type-is, tells-from}
@@ -26,12 +28,13 @@ abbrev pub children-by : ℕ → ℕ
 children-by k =
     cond (leb PREFIX k) 1
     (cond (eqb k CALL) 0
+    (cond (eqb k FLOAT-NUMBER) 0
     (cond (eqb k LPAR) 1
     (cond (eqb k LBRACE) 1
     (cond (eqb k IF) 3
     (cond (eqb k LET) 2
     (cond (eqb k WHILE) 2
-    (cond (ltb k PLUS) 0 2)))))))
+    (cond (ltb k PLUS) 0 2))))))))
 
 -- the tests on a kind tell how many children its node has
 pub children-are : (k : ℕ) {n : ℕ} → children-by k ≡ n → Children k n
@@ -48,48 +51,67 @@ children-rest {k} {j} {m} e x y z h s d = let a = h s (ap shape-of e ∙ d) in l
 
 -- ---- the types of operators, by the tests
 
-module _ (k : ℕ) {n : ℕ} where
-  -- `&&` and `||` want bools, the others ints
-  pub operand-is : (k ≡ AND → n ≡ type-number bool) → (k ≡ OR → n ≡ type-number bool) → ((k ≡ AND → ⊥) → (k ≡ OR → ⊥) → n ≡ type-number int)
-      → Operand k n
-  unfolding binary-kind
-  operand-is a b c add x d = c (λ e. omega arith) (λ e. omega arith)
-  operand-is a b c sub x d = c (λ e. omega arith) (λ e. omega arith)
-  operand-is a b c mul x d = c (λ e. omega arith) (λ e. omega arith)
-  operand-is a b c div x d = c (λ e. omega arith) (λ e. omega arith)
-  operand-is a b c less x d = c (λ e. omega arith) (λ e. omega arith)
-  operand-is a b c equal x d = c (λ e. omega arith) (λ e. omega arith)
-  operand-is a b c and x d = a d
-  operand-is a b c or x d = b d
-  operand-is a b c assign x d = absurd (x refl)
+-- the arithmetic type of a float is float
+pub arithmetic-float : {m : ℕ} → m ≡ type-number float → (t : Ty) → m ≡ type-number t → type-number float ≡ type-number (as-arithmetic t)
+unfolding type-number
+arithmetic-float e int p = absurd (omega arith)
+arithmetic-float e bool p = absurd (omega arith)
+arithmetic-float e unit p = absurd (omega arith)
+arithmetic-float e float p = refl
+arithmetic-float e (ref t) p = absurd (omega arith)
 
-  -- + - * / give an int, the others a bool
-  pub result-is : (k < AND → n ≡ type-number int) → (AND ≤ k → n ≡ type-number bool)
-      → Result k n
+-- and of all else int
+pub arithmetic-other : {m : ℕ} → (m ≡ type-number float → ⊥) → (t : Ty) → m ≡ type-number t → type-number int ≡ type-number (as-arithmetic t)
+arithmetic-other h int p = refl
+arithmetic-other h bool p = refl
+arithmetic-other h unit p = refl
+arithmetic-other h float p = absurd (h p)
+arithmetic-other h (ref t) p = refl
+
+module _ (k : ℕ) {m n : ℕ} where
+  -- `&&` and `||` want bools, `==` wants ints, the others the arithmetic type of the first
+  pub operand-is : (k ≡ AND → n ≡ type-number bool) → (k ≡ OR → n ≡ type-number bool) → (k ≡ EQUAL → n ≡ type-number int)
+      → ((k ≡ AND → ⊥) → (k ≡ OR → ⊥) → (k ≡ EQUAL → ⊥) → (t : Ty) → m ≡ type-number t → n ≡ type-number (as-arithmetic t))
+      → Operand k m n
   unfolding binary-kind
-  result-is a b add x d = a (omega arith)
-  result-is a b sub x d = a (omega arith)
-  result-is a b mul x d = a (omega arith)
-  result-is a b div x d = a (omega arith)
-  result-is a b less x d = b (omega arith)
-  result-is a b equal x d = b (omega arith)
-  result-is a b and x d = b (omega arith)
-  result-is a b or x d = b (omega arith)
-  result-is a b assign x d = absurd (x refl)
+  operand-is a b c r add t x d = r (λ e. omega arith) (λ e. omega arith) (λ e. omega arith) t
+  operand-is a b c r sub t x d = r (λ e. omega arith) (λ e. omega arith) (λ e. omega arith) t
+  operand-is a b c r mul t x d = r (λ e. omega arith) (λ e. omega arith) (λ e. omega arith) t
+  operand-is a b c r div t x d = r (λ e. omega arith) (λ e. omega arith) (λ e. omega arith) t
+  operand-is a b c r less t x d = r (λ e. omega arith) (λ e. omega arith) (λ e. omega arith) t
+  operand-is a b c r equal t x d = λ p. c d
+  operand-is a b c r and t x d = λ p. a d
+  operand-is a b c r or t x d = λ p. b d
+  operand-is a b c r assign t x d = absurd (x refl)
+
+  -- + - * / give what they take, the others a bool
+  pub result-is : (k < AND → n ≡ m) → (AND ≤ k → n ≡ type-number bool) → Result k m n
+  unfolding binary-kind
+  result-is a b add t x d p = a (omega arith) ∙ p
+  result-is a b sub t x d p = a (omega arith) ∙ p
+  result-is a b mul t x d p = a (omega arith) ∙ p
+  result-is a b div t x d p = a (omega arith) ∙ p
+  result-is a b less t x d p = b (omega arith)
+  result-is a b equal t x d p = b (omega arith)
+  result-is a b and t x d p = b (omega arith)
+  result-is a b or t x d p = b (omega arith)
+  result-is a b assign t x d p = absurd (x refl)
 
 -- ---- constants
 
--- the four kinds of constants tell the type
-pub constant-is : {k n : ℕ} → (k ≡ NUMBER → n ≡ type-number int) → (k ≡ TRUE → n ≡ type-number bool) → (k ≡ FALSE → n ≡ type-number bool)
-    → (k ≡ TT → n ≡ type-number unit) → Constant k n
+-- the five kinds of constants tell the type
+pub constant-is : {k n : ℕ} → (k ≡ NUMBER → n ≡ type-number int) → (k ≡ FLOAT-NUMBER → n ≡ type-number float)
+    → (k ≡ TRUE → n ≡ type-number bool) → (k ≡ FALSE → n ≡ type-number bool) → (k ≡ TT → n ≡ type-number unit) → Constant k n
 unfolding infer build literal-type shape-kind literal-kind
-constant-is {k} {n} a b c d ts s Δ Γ i x y z es sh ch nn nc = go s (parted s ch) (kind-of-shape k s sh)
+constant-is {k} {n} a f b c d ts s Δ Γ i x y z es sh ch nn nc = go s (parted s ch) (kind-of-shape k s sh)
   where
     go : (s : Shape) → Parted s 0 → k ≡ shape-kind s → (t : Ty) × (infer Δ (build ts s i x y z es) Γ ≡ ok t) × (n ≡ type-number t)
     go s is-name e = absurd (nn e)
     go s is-call e = absurd (nc e)
     go s is-number e = (int, refl, a e)
+    go s is-float e = (float, refl, f e)
     go s (is-constant {l = whole m}) e = (int, refl, a e)
+    go s (is-constant {l = decimal v}) e = (float, refl, f e)
     go s (is-constant {l = truth true}) e = (bool, refl, b e)
     go s (is-constant {l = truth false}) e = (bool, refl, c e)
     go s (is-constant {l = trivial}) e = (unit, refl, d e)

@@ -9,8 +9,8 @@ use native.Mathlib.Decide.{ℕ-discrete}
 use lib.Dec.{eqb}
 use lib.ListN.{length}
 use Rattle.language.specs.Tokens.{Token, NAME, LET}
-use Rattle.language.specs.Trees.{Name, Ty, int, bool, unit, Ty-discrete, Unary, Binary, add, sub, mul, div}
-use Rattle.language.specs.Trees.{less, equal, and, or, assign, Exp, branch, call, Exps, Scope, nearest}
+use Rattle.language.specs.Trees.{Name, Ty, int, bool, unit, float, ref, Ty-discrete, Unary, Binary, add, sub}
+use Rattle.language.specs.Trees.{mul, div, less, equal, and, or, assign, Exp, branch, call, Exps, Scope, nearest}
 use Rattle.language.specs.Types.{Sig}
 use Rattle.language.specs.Faults as Faults
 use Rattle.language.specs.Faults.{unsuited, wrong-operand, wrong-operands}
@@ -101,37 +101,49 @@ Repeats m n i r =
     (t u : Ty) → m ≡ type-number t → n ≡ type-number u
     → Tells r (need (Ty-discrete t bool) not-bool i λ _. need (Ty-discrete u unit) not-unit i λ _. ok unit)
 
--- the type that an operator wants of both operands, and that of its result; `:=`, which wants two types, is kept out
--- where these are used
-abbrev pub operand : Binary → Ty
-operand add = int
-operand sub = int
-operand mul = int
-operand div = int
-operand less = int
-operand equal = int
-operand and = bool
-operand or = bool
-operand assign = unit
+-- the arithmetic type that t is (R08.4), and int where it is none
+abbrev pub as-arithmetic : Ty → Ty
+as-arithmetic int = int
+as-arithmetic bool = int
+as-arithmetic unit = int
+as-arithmetic float = float
+as-arithmetic (ref t) = int
+
+-- the type that an operator wants of both operands, where the first is of type t, and that of its result; `:=`, which
+-- wants two types, is kept out where these are used
+abbrev pub operand : Binary → Ty → Ty
+operand add t = as-arithmetic t
+operand sub t = as-arithmetic t
+operand mul t = as-arithmetic t
+operand div t = as-arithmetic t
+operand less t = as-arithmetic t
+operand equal t = int
+operand and t = bool
+operand or t = bool
+operand assign t = unit
 
 -- the type of the result
-abbrev pub result : Binary → Ty
-result add = int
-result sub = int
-result mul = int
-result div = int
-result less = bool
-result equal = bool
-result and = bool
-result or = bool
-result assign = unit
+abbrev pub result : Binary → Ty → Ty
+result add t = t
+result sub t = t
+result mul t = t
+result div t = t
+result less t = bool
+result equal t = bool
+result and t = bool
+result or t = bool
+result assign t = unit
 
--- and these by the operator's kind
-abbrev pub Operand : ℕ → ℕ → Type 0
-Operand kind n = (o : Binary) → (o ≡ assign → ⊥) → kind ≡ binary-kind o → n ≡ type-number (operand o)
+-- and these by the operator's kind and the number m of the first operand's type
+abbrev pub Operand : ℕ → ℕ → ℕ → Type 0
+Operand kind m n =
+    (o : Binary) (t : Ty) → (o ≡ assign → ⊥) → kind ≡ binary-kind o → m ≡ type-number t
+    → n ≡ type-number (operand o t)
 
-abbrev pub Result : ℕ → ℕ → Type 0
-Result kind n = (o : Binary) → (o ≡ assign → ⊥) → kind ≡ binary-kind o → n ≡ type-number (result o)
+abbrev pub Result : ℕ → ℕ → ℕ → Type 0
+Result kind m n =
+    (o : Binary) (t : Ty) → (o ≡ assign → ⊥) → kind ≡ binary-kind o → m ≡ type-number t
+    → n ≡ type-number (result o t)
 
 -- of an `if`, with the numbers of its condition's and its branches' types
 abbrev pub AsksIf : ℕ → ℕ → ℕ → ℕ → Typing → Type 0

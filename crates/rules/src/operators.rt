@@ -29,6 +29,9 @@ pub fn children(kind: u32) -> usize
     if kind == rows::CALL {
         return 0;
     }
+    if kind == kinds::FLOAT_NUMBER {
+        return 0;
+    }
     if kind == kinds::LPAR {
         return 1;
     }
@@ -50,12 +53,15 @@ pub fn children(kind: u32) -> usize
     2
 }
 
-// The type of a number, `true`, `false` or `tt`.
+// The type of a number, with a point or without, `true`, `false` or `tt`.
 pub fn constant(kind: u32) -> u32
     ensures { λ r. ⌜ Constant kind r ⌝ }
 {
     if kind == kinds::NUMBER {
         return types::INT;
+    }
+    if kind == kinds::FLOAT_NUMBER {
+        return types::FLOAT;
     }
     if kind == kinds::TT {
         return types::UNIT;
@@ -104,9 +110,10 @@ pub fn after_child(kind: u32, found: u32, at: u32) -> Typing
     unary(kind, found, at)
 }
 
-// The type of both operands of an operator; `:=` takes two types.
-fn operand(kind: u32) -> u32
-    ensures { λ r. ⌜ Operand kind r ⌝ }
+// The type of both operands of an operator whose first has this type; `:=` takes two types. Arithmetic and `<`
+// are for ints, and for floats where the first is one, so that no two types mix.
+fn operand(kind: u32, first: u32) -> u32
+    ensures { λ r. ⌜ Operand kind first r ⌝ }
 {
     if kind == kinds::AND {
         return types::BOOL;
@@ -114,15 +121,21 @@ fn operand(kind: u32) -> u32
     if kind == kinds::OR {
         return types::BOOL;
     }
+    if kind == kinds::EQUAL {
+        return types::INT;
+    }
+    if first == types::FLOAT {
+        return types::FLOAT;
+    }
     types::INT
 }
 
-// The type of its result.
-fn result(kind: u32) -> u32
-    ensures { λ r. ⌜ Result kind r ⌝ }
+// The type of its result: arithmetic gives what it takes.
+fn result(kind: u32, first: u32) -> u32
+    ensures { λ r. ⌜ Result kind first r ⌝ }
 {
     if kind < kinds::AND {
-        return types::INT;
+        return first;
     }
     types::BOOL
 }
@@ -146,10 +159,10 @@ fn binary(kind: u32, first: u32, second: u32, at: u32) -> Typing
     if kind == kinds::BECOMES {
         return assigned(first, second, at);
     }
-    let wanted = operand(kind);
+    let wanted = operand(kind, first);
     if first == wanted {
         if second == wanted {
-            return Typing::Type(result(kind));
+            return Typing::Type(result(kind, first));
         }
     }
     Typing::Fault(Reason::WrongOperands, at)

@@ -1,14 +1,15 @@
 -- A value goes to the frame of a `;`, a `let`, an `if` or a `while`, or to the one below all nodes.
 use mathlib.Core.Path.{_≡_, refl, sym, ap, subst, _∙_}
-use mathlib.Core.Bool.{true, false}
+use mathlib.Core.Bool.{Bool, true, false}
 use mathlib.Core.List.{List, _∷_}
+use mathlib.Core.Option.{Option, none, some}
 use Prim.Native.Nat.{ℕ, _+_, _≤_, _<_}
 use native.Mathlib.Omega.{arith}
 use lib.Dec.{T}
 use borrow.Author.Tests.{ne-eqb}
 use Rattle.language.specs.Sizes.{TOKENS, NODES}
 use Rattle.language.specs.State as M
-use Rattle.language.specs.State.{number, flag, nothing, cell, value, then, as-bool, as-unit, when-some, want, choose}
+use Rattle.language.specs.State.{nothing, value, then, as-bool, as-unit, has, when-some, want, choose}
 use Rattle.language.specs.Meaning.{eval}
 use Rattle.language.proofs.Meaning.Spending.{while, while-is}
 use Rattle.layout.specs.Table.{OWN, FIRST, SECOND, THIRD, row-word, token-value}
@@ -34,30 +35,24 @@ use Rattle.runner.proofs.Giving.{waits-at, back, sees, turns, holding, 
 -- ---- a value of a kind that is wanted, where the run is not stuck
 
 module _ (q : Run) (κ : Then) where
-  unit-whole : (x : M.Value) (k : Unit {0} → M.Outcome) → then (want (as-unit x) k) κ ≡ q .whole → then (k tt) κ ≡ q .whole
+  unit-whole : (x : Option (Unit {0})) (k : Unit {0} → M.Outcome) → then (want x k) κ ≡ q .whole → then (k tt) κ ≡ q .whole
   unfolding when-some then
-  unit-whole (number z) k e = absurd (q .safe (sym e))
-  unit-whole (flag b) k e = absurd (q .safe (sym e))
-  unit-whole nothing k e = e
-  unit-whole (cell b) k e = absurd (q .safe (sym e))
+  unit-whole none k e = absurd (q .safe (sym e))
+  unit-whole (some u) k e = e
 
-  true-whole : (x : M.Value) (f g : Unit {0} → M.Outcome) → is-true x ≡ true → then (want (as-bool x) λ b. choose b f g) κ ≡ q .whole
+  true-whole : (x : Option Bool) (f g : Unit {0} → M.Outcome) → has x (λ b. b) ≡ true → then (want x λ b. choose b f g) κ ≡ q .whole
       → then (f tt) κ ≡ q .whole
   unfolding when-some choose then
-  true-whole (number z) f g h e = absurd (q .safe (sym e))
-  true-whole (flag true) f g h e = e
-  true-whole (flag false) f g h e = absurd (subst T (sym h) tt)
-  true-whole nothing f g h e = absurd (q .safe (sym e))
-  true-whole (cell b) f g h e = absurd (q .safe (sym e))
+  true-whole none f g h e = absurd (q .safe (sym e))
+  true-whole (some true) f g h e = e
+  true-whole (some false) f g h e = absurd (subst T (sym h) tt)
 
-  false-whole : (x : M.Value) (f g : Unit {0} → M.Outcome) → is-true x ≡ false → then (want (as-bool x) λ b. choose b f g) κ ≡ q .whole
+  false-whole : (x : Option Bool) (f g : Unit {0} → M.Outcome) → has x (λ b. b) ≡ false → then (want x λ b. choose b f g) κ ≡ q .whole
       → then (g tt) κ ≡ q .whole
   unfolding when-some choose then
-  false-whole (number z) f g h e = absurd (q .safe (sym e))
-  false-whole (flag true) f g h e = absurd (subst T h tt)
-  false-whole (flag false) f g h e = e
-  false-whole nothing f g h e = absurd (q .safe (sym e))
-  false-whole (cell b) f g h e = absurd (q .safe (sym e))
+  false-whole none f g h e = absurd (q .safe (sym e))
+  false-whole (some true) f g h e = absurd (subst T h tt)
+  false-whole (some false) f g h e = e
 
 module _ {q : Run} {t w o : List ℕ} {v : Value} {row phase : ℕ} {p : Spot} {s : Tally} (r : Resumes q t w o v row phase p s) where
   abbrev σ : M.State
@@ -77,7 +72,7 @@ module _ {q : Run} {t w o : List ℕ} {v : Value} {row phase : ℕ} {p : Spot} {
     unfolding Waits which
     resume-before =
         turns r (before .room) LAST (r .κ) (record { deep = omega (arith, before .room); goes = λ x s. refl }) (before .at)
-        (unit-whole q (r .κ) (meant v) (λ _. eval (q .fs) (r .d) (before .f) (r .env) σ) (sym (before .goes (meant v) σ) ∙ r .means))
+        (unit-whole q (r .κ) (as-unit (meant v)) (λ _. eval (q .fs) (r .d) (before .f) (r .env) σ) (sym (before .goes (meant v) σ) ∙ r .means))
 
   -- ---- let
 
@@ -129,7 +124,7 @@ module _ {q : Run} {t w o : List ℕ} {v : Value} {row phase : ℕ} {p : Spot} {
     unfolding Waits which
     resume-then b =
         turns r (condition .room) LAST (r .κ) (record { deep = omega (arith, condition .room); goes = λ x s. refl }) (condition .at-e)
-        (true-whole q (r .κ) (meant v) (λ _. eval (q .fs) (r .d) (condition .e) (r .env) σ) (λ _. eval (q .fs) (r .d) (condition .f) (r .env) σ) b
+        (true-whole q (r .κ) (as-bool (meant v)) (λ _. eval (q .fs) (r .d) (condition .e) (r .env) σ) (λ _. eval (q .fs) (r .d) (condition .f) (r .env) σ) b
         (sym (condition .goes (meant v) σ) ∙ r .means))
 
     pub resume-else : is-true (meant v) ≡ false
@@ -137,7 +132,7 @@ module _ {q : Run} {t w o : List ℕ} {v : Value} {row phase : ℕ} {p : Spot} {
     unfolding Waits which
     resume-else b =
         turns r (condition .room) LAST (r .κ) (record { deep = omega (arith, condition .room); goes = λ x s. refl }) (condition .at-f)
-        (false-whole q (r .κ) (meant v) (λ _. eval (q .fs) (r .d) (condition .e) (r .env) σ) (λ _. eval (q .fs) (r .d) (condition .f) (r .env) σ) b
+        (false-whole q (r .κ) (as-bool (meant v)) (λ _. eval (q .fs) (r .d) (condition .e) (r .env) σ) (λ _. eval (q .fs) (r .d) (condition .f) (r .env) σ) b
         (sym (condition .goes (meant v) σ) ∙ r .means))
 
   -- ---- while
@@ -165,14 +160,14 @@ module _ {q : Run} {t w o : List ℕ} {v : Value} {row phase : ℕ} {p : Spot} {
         (record { c = test .c; e = test .e; inside = test .inside; room = test .room; at-c = test .at-c; at-e = test .at-e; goes = λ x s. refl })
         (test .at-e)
         (sym (then-then (eval (q .fs) (r .d) (test .e) (r .env) σ) again (r .κ))
-        ∙ true-whole q (r .κ) (meant v) (λ _. then (eval (q .fs) (r .d) (test .e) (r .env) σ) again) (λ _. value nothing σ) b test-means)
+        ∙ true-whole q (r .κ) (as-bool (meant v)) (λ _. then (eval (q .fs) (r .d) (test .e) (r .env) σ) again) (λ _. value nothing σ) b test-means)
 
     -- it is not: the end
     pub resume-end : is-true (meant v) ≡ false → Gives q t w o Nothing p s
     unfolding then
     resume-end b =
         back r (omega (arith, test .room)) Nothing
-        (false-whole q (r .κ) (meant v) (λ _. then (eval (q .fs) (r .d) (test .e) (r .env) σ) again) (λ _. value nothing σ) b test-means)
+        (false-whole q (r .κ) (as-bool (meant v)) (λ _. then (eval (q .fs) (r .d) (test .e) (r .env) σ) again) (λ _. value nothing σ) b test-means)
 
   module _ (e : phase ≡ PASS) where
     pass : WaitsPass q t w (r .d) row (p .base) (r .mark) (r .n) (r .b) (r .L) (r .env) (r .κ) (r .κ′) (r .u)
@@ -192,7 +187,7 @@ module _ {q : Run} {t w o : List ℕ} {v : Value} {row phase : ℕ} {p : Spot} {
         (pass .at-c)
         (sym (then-then (eval (q .fs) (r .d) (pass .c) (r .env) σ) k (r .κ))
         ∙ ap (λ (m : M.Outcome). then m (r .κ)) (sym (while-is (q .fs) (r .d) (pass .c) (pass .e) (r .env) σ))
-        ∙ unit-whole q (r .κ) (meant v) (λ _. while (q .fs) (r .d) (pass .c) (pass .e) (r .env) σ) (sym (pass .goes (meant v) σ) ∙ r .means))
+        ∙ unit-whole q (r .κ) (as-unit (meant v)) (λ _. while (q .fs) (r .d) (pass .c) (pass .e) (r .env) σ) (sym (pass .goes (meant v) σ) ∙ r .means))
 
   -- ---- the whole
 

@@ -8,8 +8,10 @@ use native.Mathlib.Omega.{arith}
 use lib.ListN.{length}
 use Rattle.language.specs.Sizes.{PARAMETERS}
 use Rattle.language.specs.Tokens.{same}
-use Rattle.language.specs.Trees.{Name, Ty, Exp, name, literal, unary, binary, follow, group, block, call, bind, branch, loop, Exps, last, more, Param, Def, Scope, empty, push, nearest, size, PUTCHAR}
-use Rattle.language.specs.Types.{Sig, Typed, t-name, t-whole, t-truth, t-trivial, t-unary, t-binary, t-follow, t-group, t-block, t-call, t-bind, t-branch, t-loop, TypedAll, t-last, t-more, Takes, takes-none, takes-more, sig, with-def, given, Fine, fine}
+use Rattle.language.specs.Trees.{Name, Ty, Exp, name, literal, unary, binary, follow, group, block, call, bind, branch}
+use Rattle.language.specs.Trees.{loop, Exps, last, more, Param, Def, Scope, empty, push, nearest, size, PUTCHAR}
+use Rattle.language.specs.Types.{Sig, Typed, t-name, t-whole, t-truth, t-trivial, t-decimal, t-unary, t-binary, t-follow, t-group, t-block, t-call}
+use Rattle.language.specs.Types.{t-bind, t-branch, t-loop, TypedAll, t-last, t-more, Takes, takes-none, takes-more, sig, with-def, given, Fine, fine}
 use Rattle.language.proofs.Meaning.CellTypes.{none-some, some-one}
 use Rattle.runner.specs.Trees.{count}
 
@@ -49,6 +51,7 @@ module _ {Δ : Scope Sig} (small : Small Δ) where
     typed-few t-whole = tt
     typed-few t-truth = tt
     typed-few t-trivial = tt
+    typed-few t-decimal = tt
     typed-few (t-unary a h) = typed-few a
     typed-few (t-binary a b h) = (typed-few a, typed-few b)
     typed-few (t-follow a b) = (typed-few a, typed-few b)

@@ -1,4 +1,4 @@
-mod Unique
+pub mod Unique
 mod RowKinds
 mod Few
 mod Reading

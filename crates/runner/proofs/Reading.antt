@@ -9,38 +9,42 @@ use native.Mathlib.Decide.{ℕ-discrete, decLt}
 use borrow.Author.Tests.{eq-eqb, ne-eqb}
 use lib.ListN.{length, getD, List·getD-eq-default}
 use Rattle.language.specs.Sizes.{TABLE}
-use Rattle.language.specs.Tokens.{Token, At, kind-at, entry, value-at, spelling-at, past, PAST, NAME, NUMBER}
-use Rattle.language.specs.Trees.{Literal, whole, truth, trivial, Exp, Exps, more, literal}
+use Rattle.language.specs.Tokens.{Token, At, kind-at, entry, value-at, spelling-at, past, PAST, NAME, NUMBER, FLOAT-NUMBER}
+use Rattle.language.specs.Decimals.{float-of}
+use Rattle.language.specs.Trees.{Literal, whole, truth, trivial, decimal, Exp, Exps, more, literal}
 use Rattle.layout.specs.Table.{KIND, OWN, FIRST, SECOND, THIRD, EXPRESSION, NEXT, token-value, row-word}
 use Rattle.layout.specs.Names.{value-word, Stand}
 use Rattle.layout.specs.Rows.{literal-kind}
-use Rattle.layout.specs.Decode.{Shape, a-name, a-number, a-follow, a-group, a-block, a-call, a-let, an-if, a-while, a-constant, a-unary, a-binary, shape-of, children, build, build-if, tree-at, args-at, Node, Right, RightArgs}
+use Rattle.layout.specs.Decode.{Shape, a-name, a-number, a-float, a-follow, a-group, a-block, a-call, a-let, an-if, a-while, a-constant}
+use Rattle.layout.specs.Decode.{a-unary, a-binary, shape-of, children, build, build-if, tree-at, args-at, Node, Right, RightArgs}
+use Rattle.layout.proofs.FloatWords.{float-held}
 use Rattle.layout.proofs.NameLaws.{name-inside, named-at}
 use Rattle.layout.proofs.Shapes.{shape-kind, kind-of-shape}
 use Rattle.language.proofs.Meaning.CellTypes.{some-one}
 use Rattle.machine.specs.Rows.{literal-of, LiteralRow}
 use Rattle.runner.specs.Trees as Trees
-use Rattle.runner.specs.Trees.{Head, NameAt, at-name, at-literal, at-unary, at-binary, at-follow, at-group, at-block, at-call, at-bind, at-branch, at-loop, Args, args-last, args-more}
+use Rattle.runner.specs.Trees.{Head, NameAt, at-name, at-literal, at-unary, at-binary, at-follow, at-group}
+use Rattle.runner.specs.Trees.{at-block, at-call, at-bind, at-branch, at-loop, Args, args-last, args-more}
 use Rattle.runner.proofs.Few.{Few, FewAll}
+use Rattle.runner.proofs.RowKinds.{clash}
 
 -- ---- tokens that are numbers
 
--- one of the list's
-number-inside : (ts : List Token) (i : ℕ) → At ts i NUMBER → i < length ts
+-- a token of any kind is one of the list's
+token-inside : (ts : List Token) (i : ℕ) {k : ℕ} → (PAST ≡ k → ⊥) → At ts i k → i < length ts
 unfolding kind-at
-number-inside ts i e = go (decLt i (length ts))
+token-inside ts i d e = go (decLt i (length ts))
   where
     go : Dec (i < length ts) → i < length ts
     go (yes h) = h
     go (no h) =
         let p : getD ts i past ≡ past = List·getD-eq-default ts past (omega (arith, h)) in
-        let z : PAST ≡ NUMBER = sym (ap (λ (t : Token). t .kind) p) ∙ e in
-        absurd (omega arith)
+        absurd (d (sym (ap (λ (t : Token). t .kind) p) ∙ e))
 
 -- its fourth word is its value
 number-at : {w : List ℕ} {count : ℕ} {ts : List Token} → Stand w count ts → (i : ℕ) → At ts i NUMBER → token-value w i ≡ value-at ts i
 unfolding kind-at value-at value-word
-number-at {w} {count} {ts} st i e = let l = number-inside ts i e in st .values i (omega (arith, st .long)) ∙ rw e refl
+number-at {w} {count} {ts} st i e = let l = token-inside ts i (λ z. omega arith) e in st .values i (omega (arith, st .long)) ∙ rw e refl
 
 -- ---- the parts of a row
 
@@ -86,8 +90,14 @@ module _ (ts : List Token) (w : List ℕ) (long : TABLE ≤ length w) (stand : S
     head : (sh : Shape) → shape-of (row-word w i KIND) ≡ some sh → Head w i (shape-kind sh) (row-word w i OWN)
     head sh e = record { inside = n .inside; kind-is = kind-of-shape (row-word w i KIND) sh e; own-is = refl }
 
-    plain-row : {k : ℕ} → row-word w i KIND ≡ k → (k ≡ NUMBER → ⊥) → LiteralRow w i
-    plain-row e h = record { long = long; inside = n .inside; token = λ d. absurd (h (sym e ∙ d)); small = λ d. absurd (h (sym e ∙ d)) }
+    plain-row : {k : ℕ} → row-word w i KIND ≡ k → (k ≡ NUMBER → ⊥) → (k ≡ FLOAT-NUMBER → ⊥) → LiteralRow w i
+    plain-row e h g = record {
+      long = long;
+      inside = n .inside;
+      token = λ d. clash e d h;
+      small = λ d. clash e d h;
+      pointed = λ d. clash e d g;
+    }
 
     module _ (e : row-word w i KIND ≡ NUMBER) where
       number-token : At ts (row-word w i OWN) NUMBER
@@ -97,13 +107,34 @@ module _ (ts : List Token) (w : List ℕ) (long : TABLE ≤ length w) (stand : S
       number-row = record {
         long = long;
         inside = n .inside;
-        token = λ _. let l = number-inside ts _ number-token in omega (arith, stand .few, stand .long);
+        token = λ _. let l = token-inside ts _ (λ z. omega arith) number-token in omega (arith, stand .few, stand .long);
         small = λ _. let l = stand .written _ number-token in omega (arith, number-at stand _ number-token);
+        pointed = λ d. clash e d (λ z. omega arith);
       }
 
       number-literal : literal-of w i ≡ whole (value-at ts (row-word w i OWN))
       unfolding literal-of
       number-literal = rw e (ap whole (number-at stand _ number-token))
+
+    module _ (e : row-word w i KIND ≡ FLOAT-NUMBER) where
+      float-token : At ts (row-word w i OWN) FLOAT-NUMBER
+      float-token = n .pointed e
+
+      float-inside : row-word w i OWN < length ts
+      float-inside = token-inside ts _ (λ z. omega arith) float-token
+
+      float-row : LiteralRow w i
+      float-row = record {
+        long = long;
+        inside = n .inside;
+        token = λ d. clash e d (λ z. omega arith);
+        small = λ d. clash e d (λ z. omega arith);
+        pointed = λ _. omega (arith, float-inside, stand .few);
+      }
+
+      float-literal : literal-of w i ≡ decimal (float-of (spelling-at ts (row-word w i OWN)))
+      unfolding literal-of
+      float-literal = rw e (ap decimal (float-held stand (row-word w i OWN) float-inside float-token))
 
     constant : (l : Literal) → shape-of (row-word w i KIND) ≡ some (a-constant l) → Tree i (literal (row-word w i OWN) l)
     unfolding shape-kind literal-kind literal-of shape-of entry
@@ -111,15 +142,19 @@ module _ (ts : List Token) (w : List ℕ) (long : TABLE ≤ length w) (stand : S
         let k = kind-of-shape (row-word w i KIND) (a-constant (whole m)) e in
         let q : _≡_ {A = Option Shape} (some a-number) (some (a-constant (whole m))) = rw k at e in
         absurd (let z : _≡_ {A = ℕ} 0 1 = cc in omega arith)
+    constant (decimal x) e =
+        let k = kind-of-shape (row-word w i KIND) (a-constant (decimal x)) e in
+        let q : _≡_ {A = Option Shape} (some a-float) (some (a-constant (decimal x))) = rw k at e in
+        absurd (let z : _≡_ {A = ℕ} 0 1 = cc in omega arith)
     constant (truth true) e =
         let k = kind-of-shape (row-word w i KIND) (a-constant (truth true)) e in
-        at-literal {l = truth true} (head _ e) (rw k refl) (plain-row k (λ d. omega arith))
+        at-literal {l = truth true} (head _ e) (rw k refl) (plain-row k (λ d. omega arith) (λ d. omega arith))
     constant (truth false) e =
         let k = kind-of-shape (row-word w i KIND) (a-constant (truth false)) e in
-        at-literal {l = truth false} (head _ e) (rw k refl) (plain-row k (λ d. omega arith))
+        at-literal {l = truth false} (head _ e) (rw k refl) (plain-row k (λ d. omega arith) (λ d. omega arith))
     constant trivial e =
         let k = kind-of-shape (row-word w i KIND) (a-constant trivial) e in
-        at-literal {l = trivial} (head _ e) (rw k refl) (plain-row k (λ d. omega arith))
+        at-literal {l = trivial} (head _ e) (rw k refl) (plain-row k (λ d. omega arith) (λ d. omega arith))
 
     first-part : (sh : Shape) → shape-of (row-word w i KIND) ≡ some sh → 1 ≤ children sh → Few (tree F) → Tree F (tree F)
     first-part sh e l f = ih F (part-first right rights ts w i n sh e l) f
@@ -136,6 +171,9 @@ module _ (ts : List Token) (w : List ℕ) (long : TABLE ≤ length w) (stand : S
     by-shape a-number e f =
         let k = kind-of-shape (row-word w i KIND) a-number e in
         at-literal {l = whole (value-at ts (row-word w i OWN))} (head a-number e) (number-literal k) (number-row k)
+    by-shape a-float e f =
+        let k = kind-of-shape (row-word w i KIND) a-float e in
+        at-literal {l = decimal (float-of (spelling-at ts (row-word w i OWN)))} (head a-float e) (float-literal k) (float-row k)
     by-shape (a-constant l) e f = constant l e
     by-shape (a-unary o) e f = at-unary (head (a-unary o) e) (first-part (a-unary o) e (omega arith) f)
     by-shape a-group e f = at-group (head a-group e) (first-part a-group e (omega arith) f)

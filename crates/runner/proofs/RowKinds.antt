@@ -3,8 +3,8 @@ use mathlib.Core.Path.{_≡_, refl, sym, ap, _∙_}
 use mathlib.Core.Bool.{Bool, true, false}
 use Prim.Native.Nat.{ℕ, _≤_}
 use native.Mathlib.Omega.{arith}
-use Rattle.language.specs.Tokens.{LET, IF, WHILE, SEMI, LPAR, LBRACE}
-use Rattle.language.specs.Trees.{Literal, whole, truth, trivial, Unary, minus, fetch, new, Binary}
+use Rattle.language.specs.Tokens.{NUMBER, FLOAT-NUMBER, LET, IF, WHILE, SEMI, LPAR, LBRACE}
+use Rattle.language.specs.Trees.{Literal, whole, truth, trivial, decimal, Unary, minus, fetch, new, Binary}
 use Rattle.layout.specs.Rows.{CALL, literal-kind, unary-kind, binary-kind}
 use Rattle.runner.specs.Phases.{LAST, UNARY, LEFT, BEFORE, INSIDE, BOUND, CONDITION, TEST, waits, phase-of}
 
@@ -34,13 +34,15 @@ literal-waits (whole n) = refl
 literal-waits (truth true) = refl
 literal-waits (truth false) = refl
 literal-waits trivial = refl
+literal-waits (decimal x) = refl
 
-pub literal-range : (l : Literal) → (2 ≤ literal-kind l) × (literal-kind l ≤ 19)
+pub literal-range : (l : Literal) → (NUMBER ≤ literal-kind l) × (literal-kind l ≤ FLOAT-NUMBER)
 unfolding literal-kind
 literal-range (whole n) = (omega arith, omega arith)
 literal-range (truth true) = (omega arith, omega arith)
 literal-range (truth false) = (omega arith, omega arith)
 literal-range trivial = (omega arith, omega arith)
+literal-range (decimal x) = (omega arith, omega arith)
 
 pub semi-waits : waits SEMI ≡ true
 unfolding waits

@@ -5,25 +5,27 @@ use Prim.Native.Nat.{ℕ}
 use native.Mathlib.Omega.{arith}
 use lib.ListN.{length, drop}
 use Rattle.language.specs.State as M
-use Rattle.language.specs.State.{number, flag, nothing, cell, value, stop}
+use Rattle.language.specs.State.{number, float, flag, nothing, cell, value, stop}
 use Rattle.layout.specs.Values.{meant}
 use Rattle.layout.specs.declared.Held.{Held}
 use Rattle.layout.specs.declared.values.Value.{Value}
-use Rattle.layout.specs.declared.values.Value.the-variants.{Int, Flag, Nothing, Cell}
+use Rattle.layout.specs.declared.values.Value.the-variants.{Int, Float, Flag, Nothing, Cell}
 use Rattle.numbers.proofs.Apart.{same-stop}
 use Rattle.runner.specs.Contract.{spent-of, EndsAs, Loaded, RunsTo}
 use Rattle.runner.specs.declared.Done.{Done}
 
 -- ---- the code's values are told apart by what they stand for
 
-abbrev value-of : M.Value → Value
+abbrev pub value-of : M.Value → Value
 value-of (number z) = Int z
+value-of (float x) = Float x
 value-of (flag b) = Flag b
 value-of nothing = Nothing
 value-of (cell n) = Cell n
 
-value-back : (v : Value) → value-of (meant v) ≡ v
+pub value-back : (v : Value) → value-of (meant v) ≡ v
 value-back (Int z) = refl
+value-back (Float x) = refl
 value-back (Flag b) = refl
 value-back Nothing = refl
 value-back (Cell n) = refl

@@ -1,9 +1,9 @@
 -- The phases of a frame: for which part of its node it waits.
-use mathlib.Core.Bool.{Bool, true, cond}
+use mathlib.Core.Bool.{Bool, true, false, cond}
 use mathlib.Core.Path.{_≡_}
 use Prim.Native.Nat.{ℕ}
 use lib.Dec.{eqb, leb}
-use Rattle.language.specs.Tokens.{LET, WHILE, IF, PLUS, SEMI, LPAR, LBRACE}
+use Rattle.language.specs.Tokens.{FLOAT-NUMBER, LET, WHILE, IF, PLUS, SEMI, LPAR, LBRACE}
 use Rattle.layout.specs.Rows.{PREFIX}
 
 -- the last part, whose value is the node's
@@ -49,12 +49,14 @@ WHOLE = 11
 
 -- a node of this kind waits for its first part, and in which phase
 unfoldable pub waits : ℕ → Bool
-waits k = cond (leb PLUS k) true (cond (eqb k LET) true (cond (eqb k IF) true (eqb k WHILE)))
+waits k =
+    cond (eqb k FLOAT-NUMBER) false
+    (cond (leb PLUS k) true (cond (eqb k LET) true (cond (eqb k IF) true (eqb k WHILE))))
 
 unfoldable pub phase-of : ℕ → ℕ
 phase-of k =
-    cond (eqb k LPAR) LAST (cond (eqb k LBRACE) INSIDE (cond (eqb k SEMI) BEFORE (cond (eqb k LET) BOUND (cond (eqb k IF) CONDITION
-    (cond (eqb k WHILE) TEST (cond (leb PREFIX k) UNARY LEFT))))))
+    cond (eqb k LPAR) LAST (cond (eqb k LBRACE) INSIDE (cond (eqb k SEMI) BEFORE (cond (eqb k LET) BOUND
+    (cond (eqb k IF) CONDITION (cond (eqb k WHILE) TEST (cond (leb PREFIX k) UNARY LEFT))))))
 
 -- none of the phases of operators, `;`, Blocks and calls, nor the last part
 pub record Controls (p : ℕ) : Type 0 where

@@ -66,6 +66,9 @@ pub fn begin(
 fn waits(kind: u32) -> bool
     ensures { λ r. ⌜ r ≡ waits kind ⌝ }
 {
+    if kind == kinds::FLOAT_NUMBER {
+        return false;
+    }
     if kinds::PLUS <= kind {
         return true;
     }

@@ -15,7 +15,7 @@ use Rattle.numbers.specs.Meanings.{reason-meant, refusal-meant}
 use Rattle.numbers.specs.declared.Flaw.{Flaw}
 use Rattle.numbers.specs.declared.Reason.{Reason}
 use Rattle.numbers.specs.declared.Refusal.{Refusal}
-use Rattle.layout.specs.Table.{token-word, without-rows, without-variables}
+use Rattle.layout.specs.Table.{token-place, without-rows, without-variables}
 use Rattle.layout.specs.Names.{Stand, lay-tokens}
 use Rattle.layout.specs.Decode.{Holds}
 use Rattle.layout.specs.declared.Held.{Held}
@@ -46,11 +46,11 @@ unfolding byte-of
 byte-stands {w} {count} {ts} source s i =
     go (ltb i count) refl ∙ ap (λ (n : ℕ). cond (ltb i n) (place-at ts i) (length source)) (sym (s .long))
   where
-    go : (b : Bool) → ltb i count ≡ b → cond b (token-word w i 1) (length source) ≡ cond (ltb i count) (place-at ts i) (length source)
+    go : (b : Bool) → ltb i count ≡ b → cond b (token-place w i) (length source) ≡ cond (ltb i count) (place-at ts i) (length source)
     go true e = rw e (s .places i (ltb-true i count e))
     go false e = rw e refl
 
-pub byte-inside : (w : List ℕ) (count end i x : ℕ) → i < count → x ≡ token-word w i 1 → x ≡ byte-of w count end i
+pub byte-inside : (w : List ℕ) (count end i x : ℕ) → i < count → x ≡ token-place w i → x ≡ byte-of w count end i
 unfolding byte-of
 byte-inside w count end i x h e = rw (lt-ltb i count h) e
 

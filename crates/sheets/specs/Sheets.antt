@@ -14,7 +14,7 @@ use Rattle.language.specs.Meaning.{type-number}
 use Rattle.language.specs.Numbers.{types}
 use Rattle.language.specs.Answers.{at, from-text, Proper, Denied, Passes, Refused}
 use Rattle.numbers.specs.Meanings.{refusal-meant}
-use Rattle.layout.specs.Table.{token-word, zeros}
+use Rattle.layout.specs.Table.{token-place, zeros}
 use Rattle.layout.specs.Names.{Stand}
 use Rattle.layout.specs.Decode.{Holds}
 use Rattle.layout.specs.declared.Held.{Held}
@@ -29,7 +29,7 @@ wiped w = zeros w 0 TABLE
 
 -- the byte of an ordinal, from the words of a table; the source ends at `end`
 unfoldable pub byte-of : List ℕ → ℕ → ℕ → ℕ → ℕ
-byte-of w count end i = cond (ltb i count) (token-word w i 1) end
+byte-of w count end i = cond (ltb i count) (token-place w i) end
 
 -- ---- a program that the table holds
 

@@ -18,7 +18,7 @@ use Rattle.language.proofs.Text.Tables.{same-one}
 use Rattle.language.specs.Text.{byte}
 use Rattle.language.specs.Tokens.{Spelling, same}
 use Rattle.layout.proofs.TokenLaws.{same-self}
-use Rattle.layout.specs.Table.{token-word}
+use Rattle.layout.specs.Table.{token-place, token-end}
 use Rattle.tokens.specs.Found.{bytes-of, First}
 
 -- ---- bytes that are given
@@ -146,7 +146,7 @@ module _ {t w : List ℕ} {count i : ℕ} {s : Spelling} (g : Unlike t w count s
   unlike-all h = record { within = g .within; before = g .before; here = λ l. absurd (omega arith) }
 
   -- token i compared, with the outcome r
-  module _ {a b : ℕ} {r : Bool} (e : a ≡ token-word w i 1) (f : b ≡ token-word w i 2) (z : r ≡ same (slice a b t) s) where
+  module _ {a b : ℕ} {r : Bool} (e : a ≡ token-place w i) (f : b ≡ token-end w i) (z : r ≡ same (slice a b t) s) where
     outcome-of : r ≡ same (bytes-of t w i) s
     outcome-of = z ∙ ap₂ (λ x y. same (slice x y t) s) e f
 

@@ -4,6 +4,8 @@ pub mod WordRows
 pub mod FirstBytes
 pub mod MarkBytes
 pub mod Digits
+pub mod Decimals
+pub mod FoundTokens
 pub mod Written
 pub mod Splitting
 pub mod OneAnswer

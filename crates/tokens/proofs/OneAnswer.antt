@@ -15,6 +15,7 @@ use Rattle.language.specs.Tokens.{EDITION-1}
 use Rattle.numbers.proofs.Apart.{same-flaw}
 use Rattle.layout.proofs.TokenLaws.{lay-stands}
 use Rattle.layout.specs.Names.{lay-tokens, Stand}
+use Rattle.tokens.proofs.Written.{reached-near}
 use Rattle.tokens.specs.Answer.{Laid, IsSplit}
 use Rattle.tokens.specs.declared.answer.Split as split
 use Rattle.tokens.specs.declared.answer.Split.the-variants.{Tokens, Stopped, TooLong}
@@ -51,4 +52,4 @@ split-stands t w v n ts room a s =
     let e : a .tokens ≡ ts = one-split laws-1 (a .splits) s in
     let x : v ≡ lay-tokens ts w 0 ts = a .laid ∙ ap (λ us. lay-tokens us w 0 us) e in
     let y : n ≡ length ts = a .count ∙ ap length e in
-    rw (x, y) (lay-stands ts w (s .few) (λ i _. split-small s i) room)
+    rw (x, y) (lay-stands ts w (s .few) (λ i _. split-small s i) (reached-near (s .whole) (a .short)) room)

@@ -4,21 +4,22 @@ use lib.Seq.{slice}
 use mathlib.Core.List.{List, [], _∷_, _++_}
 use mathlib.Core.Path.{_≡_, refl, sym, _∙_, ap, subst, subst₂}
 use native.Mathlib.Omega.{arith}
-use Prim.Native.Nat.{ℕ, _+_, _*_, _≤_, _<_}
+use Prim.Native.Nat.{ℕ, _+_, _*_, _/_, _%_, _≤_, _<_}
 use Rattle.language.proofs.Text.OnePiece.{form-bounds}
 use Rattle.language.proofs.Text.Spots.{token-end}
-use Rattle.language.specs.Sizes.{SOURCE, TOKENS, TABLE, LARGEST}
+use Rattle.language.specs.Sizes.{SOURCE, TOKENS, TABLE}
 use Rattle.language.specs.Text as Text
 use Rattle.language.specs.Text.{Piece, Reaches, Wrong, token-of}
 use Rattle.language.specs.Text.Content.{space, token}
 use Rattle.language.specs.Text.Reaches.{start, skip, next}
 use Rattle.language.specs.Tokens.{EDITION-1, Token}
 use Rattle.layout.proofs.TokenLaws.{lay-length, lay-more}
-use Rattle.layout.specs.Names.{lay-tokens, value-word}
+use Rattle.layout.specs.Names.{lay-tokens}
 use Rattle.layout.specs.Table.{put-token}
-use Rattle.tokens.proofs.Written.{table-spans, value-word-found}
+use Rattle.layout.specs.Values.{HALF}
+use Rattle.tokens.proofs.Written.{reached-near, table-spans, words-found}
 use Rattle.tokens.specs.Answer.{Laid, Whole, Broken}
-use Rattle.tokens.specs.Found.{Spans, ValueWord}
+use Rattle.tokens.specs.Found.{Spans, IsToken, TableWorth}
 
 -- the split comes as far as p with n tokens, which lie in the table: w₀ before, w now
 pub record Reached (t w₀ w : List ℕ) (p n : ℕ) : Type 0 where
@@ -64,31 +65,31 @@ module _ {t w₀ w : List ℕ} {p n : ℕ} (r : Reached t w₀ w p n) where
         laid = r .laid;
       }
 
-  module _ (room : TABLE ≤ length w₀) where
+  module _ (room : TABLE ≤ length w₀) (short : length t ≤ SOURCE) where
     fits : 4 * length (r .tokens) ≤ length w₀
     fits = omega (arith, r .count, r .few)
 
     -- the bytes of each token in the table lie in the text
     pub reached-spans : Spans t w n
     reached-spans =
-        subst₂ (λ v m. Spans t v m) (sym (r .laid)) (sym (r .count)) (table-spans t w₀ (r .tokens) (r .reaches) fits)
+        subst₂ (λ v m. Spans t v m) (sym (r .laid)) (sym (r .count)) (table-spans t w₀ (r .tokens) (r .reaches) fits (reached-near (r .reaches) short))
 
     -- a token is written behind the others
-    pub reached-next : {q k v m : ℕ} {w′ : List ℕ} → n < TOKENS → Piece EDITION-1 t p q (token k v) → v ≤ LARGEST
-        → ValueWord t w n k (slice p q t) v m → w′ ≡ put-token w n k p q m → Reached t w₀ w′ q (n + 1)
-    reached-next {q} {k} {v} {m} l x h y z =
+    pub reached-next : {q k x m high low : ℕ} {w′ : List ℕ} → n < TOKENS → IsToken t p k q x → TableWorth t w n k (slice p q t) x m
+        → high ≡ m / HALF → low ≡ m % HALF → w′ ≡ put-token w n k p q high low → Reached t w₀ w′ q (n + 1)
+    reached-next {q} {k} {x} {m} l y z g h e =
         let ts = r .tokens in
-        let u = token-of t p q k v in
-        let b = form-bounds t p q (token k v) (x .form) in
+        let u = token-of t p q k (y .value) in
+        let b = form-bounds t p q (token k (y .value)) (y .piece .form) in
         let c = r .count in
         let d = r .laid in
-        let e : p + length (slice p q t) ≡ q = token-end t p q (omega (arith, b .0)) (b .1) in
-        let y′ = subst₂ (λ a i. ValueWord t a i k (slice p q t) v m) d c y in
-        let f : value-word (ts ++ (u ∷ [])) u ≡ m = value-word-found t w₀ ts (r .reaches) fits p q k v m (x .form) y′ in
+        let ends : p + length (slice p q t) ≡ q = token-end t p q (omega (arith, b .0)) (b .1) in
+        let z′ = subst₂ (λ a i. TableWorth t a i k (slice p q t) x m) d c z in
+        let f = words-found t w₀ ts (r .reaches) fits (reached-near (r .reaches) short) y (omega arith) z′ in
         record {
           tokens = ts ++ (u ∷ []);
-          reaches = next (r .reaches) x h refl;
+          reaches = next (r .reaches) (y .piece) (y .small) refl;
           count = simp length-append (omega arith);
           few = omega arith;
-          laid = z ∙ sym (lay-more ts u w₀ ∙ rw (e, f, ← c, ← d));
+          laid = e ∙ sym (lay-more ts u w₀ ∙ rw (ends, f .0 ∙ sym h, f .1 ∙ sym g, ← c, ← d));
         }

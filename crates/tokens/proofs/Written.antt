@@ -1,27 +1,32 @@
--- The tokens of a text in a table: each is read back with its spelling, and the fourth word that the code finds for the next
--- token is the one that the layout says.
+-- The tokens of a text in a table: each is read back with its spelling, and what the code finds the next token to be worth there
+-- is what the layout says.
 use borrow.Author.Tests.{ne-eqb, eqb-true, eqb-false}
-use lib.Dec.{eqb}
+use lib.Dec.{eqb, leb}
 use lib.ListN.{length, getD}
 use lib.Seq.{slice}
-use mathlib.Core.Bool.{true, false}
+use mathlib.Core.Bool.{Bool, true, false, cond}
 use mathlib.Core.List.{List, [], _∷_, _++_}
 use mathlib.Core.Logic.{⊎-elim}
-use mathlib.Core.Path.{_≡_, refl, sym, _∙_, ap, ap₂, subst}
+use mathlib.Core.Path.{_≡_, refl, sym, _∙_, ap₂, subst}
 use native.Mathlib.Nat.{zero-add}
 use native.Mathlib.Omega.{arith}
-use Prim.Native.Nat.{ℕ, _+_, _*_, _-_, _≤_, _<_}
+use Prim.Native.Nat.{ℕ, _+_, _*_, _-_, _/_, _%_, _≤_, _<_}
 use Rattle.language.proofs.Text.Choices.{outcome}
 use Rattle.language.proofs.Text.Spots.{reached-spot}
+use Rattle.language.specs.Sizes.{SOURCE, TOKENS, LARGEST, DIGITS}
 use Rattle.language.specs.Text.{Content, Form, token-of, Reaches}
-use Rattle.language.specs.Text.Content.{token}
-use Rattle.language.specs.Text.Form.{blank, line, comment, unended, name, number, mark, based}
-use Rattle.language.specs.Text.Reaches.{start, skip, next}
-use Rattle.language.specs.Tokens.{same, Vocabulary, Token, NAME, NUMBER, past}
+use Rattle.language.specs.Text.Content.{token, overlong}
+use Rattle.language.specs.Text.Form.{blank, line, comment, unended, name, number, mark, based, float}
+use Rattle.language.specs.Tokens.{same, Vocabulary, Token, NAME, NUMBER, FLOAT-NUMBER, past, place-at}
 use Rattle.language.specs.Trees.{PUTCHAR}
-use Rattle.layout.proofs.TokenLaws.{same-self, first-is, lay-holds}
-use Rattle.layout.specs.Names.{first-from, name-number, value-word, lay-tokens}
-use Rattle.tokens.specs.Found.{Spans, bytes-of, First, Numbered, ValueWord}
+use Rattle.layout.proofs.TokenLaws.{same-self, first-is, lay-holds, place-held, end-held}
+use Rattle.layout.specs.Names.{first-from, name-number, float-bits, value-word, high-word, lay-tokens, Near}
+use Rattle.layout.specs.Values.{HALF}
+use Rattle.tokens.specs.Found.{Spans, bytes-of, First, Numbered, IsToken, TableWorth}
+
+float-value : (few : Bool) (k v : ℕ) → cond few (token FLOAT-NUMBER 0) overlong ≡ token k v → v ≡ 0
+float-value true k v z = cc
+float-value false k v z = absurd (let y : _≡_ {A = ℕ} 0 1 = cc in omega arith)
 
 -- what is no number has no value
 no-value : {voc : Vocabulary} (t : List ℕ) (p q : ℕ) (c : Content) → Form voc t p q c
@@ -33,23 +38,58 @@ no-value t p q c (unended s m e) k v z n = absurd (let y : _≡_ {A = ℕ} 0 1 =
 no-value t p q c (name w l e) k v z n = cc
 no-value t p q c (number w e) k v z n = absurd (n (let y : k ≡ NUMBER = cc in y))
 no-value t p q c (based s w e) k v z n = absurd (n (let y : k ≡ NUMBER = cc in y))
+no-value t p q c (float h w e b l i g) k v z n = float-value (leb (q - p) (DIGITS + 1)) k v z
 no-value t p q c (mark w e) k v z n = cc
+
+-- ---- the words of a token
+
+-- the two words of the token u, one of ts, are the halves of n
+abbrev pub Halves : List Token → Token → ℕ → Type 0
+Halves ts u n = (value-word ts u ≡ n % HALF) × (high-word u ≡ n / HALF)
+
+module _ (ts : List Token) (u : Token) (n : ℕ) where
+  name-halves : u .kind ≡ NAME → n ≤ TOKENS → name-number ts (u .spelling) ≡ n → Halves ts u n
+  unfolding value-word high-word
+  name-halves e l f = (rw (e, f) (omega arith), rw e (omega arith))
+
+  float-halves : u .kind ≡ FLOAT-NUMBER → n ≡ float-bits (u .spelling) → Halves ts u n
+  unfolding value-word high-word
+  float-halves e f = (rw (e, f), rw (e, f))
+
+  value-halves : (u .kind ≡ NAME → ⊥) → (u .kind ≡ FLOAT-NUMBER → ⊥) → ((u .kind ≡ NUMBER → ⊥) → u .value ≡ 0)
+      → u .value ≤ LARGEST → n ≡ u .value → Halves ts u n
+  unfolding value-word high-word
+  value-halves a b c l e =
+      let name = ne-eqb (u .kind) NAME a in
+      let float = ne-eqb (u .kind) FLOAT-NUMBER b in (
+        ⊎-elim (λ x. rw x (omega arith)) (λ x. rw x (rw (name, float) (omega (arith, c (eqb-false (u .kind) NUMBER x)))))
+            (outcome (eqb (u .kind) NUMBER)),
+        rw float (omega arith),
+      )
+
+-- the tokens of a text that is not too long can be written into a table
+pub reached-near : {voc : Vocabulary} {t : List ℕ} {ts : List Token} {p : ℕ} → Reaches voc t p ts → length t ≤ SOURCE → Near ts
+unfolding place-at
+reached-near r short i h = omega (arith, reached-spot r i h .inside)
 
 -- ---- the table of the tokens that are reached
 
-module _ {voc : Vocabulary} (t w₀ : List ℕ) (ts : List Token) {p : ℕ} (r : Reaches voc t p ts) (room : 4 * length ts ≤ length w₀) where
+module _ {voc : Vocabulary} (t w₀ : List ℕ) (ts : List Token) {p : ℕ} (r : Reaches voc t p ts) (room : 4 * length ts ≤ length w₀)
+    (near : Near ts) where
   -- token i of the table is token i of the list
   read-back : (i : ℕ) → i < length ts → bytes-of t (lay-tokens ts w₀ 0 ts) i ≡ getD ts i past .spelling
+  unfolding place-at
   read-back i h =
       let z = lay-holds ts w₀ room i h in
-      ap₂ (λ a b. slice a b t) (z .places) (z .ends) ∙ reached-spot r i h .spells
+      ap₂ (λ a b. slice a b t) (place-held z (near i h)) (end-held z (near i h)) ∙ reached-spot r i h .spells
 
   -- the bytes of each token lie in the text
   pub table-spans : Spans t (lay-tokens ts w₀ 0 ts) (length ts)
+  unfolding place-at
   table-spans i h =
       let z = lay-holds ts w₀ room i h in
-      let a = z .places in
-      let b = z .ends in
+      let a = place-held z (near i h) in
+      let b = end-held z (near i h) in
       let c = reached-spot r i h .inside in
       (omega arith, omega arith)
 
@@ -68,17 +108,22 @@ module _ {voc : Vocabulary} (t w₀ : List ℕ) (ts : List Token) {p : ℕ} (r :
   name-numbered u n m =
       ⊎-elim (λ e. rw e (sym (m .putchar e))) (λ e. rw e (first-number u n (m .first e))) (outcome (same (u .spelling) PUTCHAR))
 
-  -- the fourth word of the next token
-  pub value-word-found : (q e k v n : ℕ) → Form voc t q e (token k v)
-      → ValueWord t (lay-tokens ts w₀ 0 ts) (length ts) k (slice q e t) v n
-      → value-word (ts ++ (token-of t q e k v ∷ [])) (token-of t q e k v) ≡ n
-  unfolding value-word
-  value-word-found q e k v n f m =
-      ⊎-elim
-      (λ x. let y : k ≡ NAME = eqb-true k NAME x in
-      rw (ne-eqb k NUMBER (λ z. omega arith), x) (name-numbered (token-of t q e k v) n (m .name y)))
-      (λ x. let y = eqb-false k NAME x in
-      ⊎-elim (λ z. rw z (sym (m .other y)))
-      (λ z. rw z (rw x (sym (no-value t q e (token k v) f k v refl (eqb-false k NUMBER z)) ∙ sym (m .other y))))
-      (outcome (eqb k NUMBER)))
+  small-number : (u : Token) (n : ℕ) → length ts ≤ TOKENS → Numbered t (lay-tokens ts w₀ 0 ts) (length ts) (u .spelling) n → n ≤ TOKENS
+  small-number u n few m =
+      ⊎-elim (λ e. omega (arith, m .putchar e)) (λ e. omega (arith, m .first e .within)) (outcome (same (u .spelling) PUTCHAR))
+
+  -- the words of the next token
+  pub words-found : {q k e x n : ℕ} (y : IsToken t q k e x) → length ts ≤ TOKENS
+      → TableWorth t (lay-tokens ts w₀ 0 ts) (length ts) k (slice q e t) x n
+      → Halves (ts ++ (token-of t q e k (y .value) ∷ [])) (token-of t q e k (y .value)) n
+  words-found {q} {k} {e} {x} {n} y few m =
+      let u = token-of t q e k (y .value) in
+      let us = ts ++ (u ∷ []) in
+      ⊎-elim (λ a. let z = eqb-true k NAME a in
+      name-halves us u n z (small-number u n few (m .name z)) (name-numbered u n (m .name z)))
+      (λ a. let z = eqb-false k NAME a in
+      ⊎-elim (λ b. let f = eqb-true k FLOAT-NUMBER b in float-halves us u n f (m .other z ∙ y .float f))
+      (λ b. let f = eqb-false k FLOAT-NUMBER b in
+      value-halves us u n z f (no-value t q e (token k (y .value)) (y .piece .form) k (y .value) refl) (y .small) (m .other z ∙ y .other f))
+      (outcome (eqb k FLOAT-NUMBER)))
       (outcome (eqb k NAME))

@@ -2,18 +2,24 @@
 -- of the tokens that a table w holds. Vocabulary for contracts between the functions; the language does not know it.
 use lib.ListN.{length}
 use lib.Seq.{slice}
-use mathlib.Core.Bool.{Bool, true, false}
+use mathlib.Core.Bool.{Bool, true, false, _&&_}
 use mathlib.Core.List.{List}
 use mathlib.Core.Option.{Option, none, some}
 use mathlib.Core.Path.{_≡_}
-use Prim.Native.Nat.{ℕ, _+_, _≤_, _<_}
-use Rattle.language.specs.Sizes.{TOKENS, TABLE, LARGEST}
+use lib.Dec.{eqb}
+use Prim.Native.Char.{code}
+use Prim.Native.Nat.{ℕ, _+_, _-_, _≤_, _<_}
+use Rattle.language.proofs.Text.Runs.{Run}
+use Rattle.language.specs.Sizes.{TOKENS, TABLE, LARGEST, DIGITS}
 use Rattle.language.specs.Text as Text
-use Rattle.language.specs.Text.{is-digit-of, is-name-byte, is-in-line, Comment, Content, Form}
-use Rattle.language.specs.Text.Content.{space, unclosed, token}
-use Rattle.language.specs.Tokens.{EDITION-1, Spelling, same, spelled, PAST, NAME, NUMBER}
+use Rattle.language.specs.Text.{byte, is-digit, is-digit-of, is-name-byte, is-in-line, Comment, Content, Form}
+use Rattle.language.specs.Text.Content.{space, token}
+use Rattle.language.specs.Tokens as Tokens
+use Rattle.language.specs.Tokens.{EDITION-1, Spelling, same, spelled, PAST, NAME, FLOAT-NUMBER}
 use Rattle.language.specs.Trees.{PUTCHAR}
-use Rattle.layout.specs.Table.{token-word}
+use Rattle.layout.specs.Names.{float-bits}
+use Rattle.layout.specs.Table.{token-place, token-end}
+use Rattle.numbers.specs.Meanings.{flaw-meant}
 use Rattle.tokens.specs.declared.bytes.Class as class
 use Rattle.tokens.specs.declared.bytes.Class.the-variants.{NameByte, DigitOf, InLine}
 use Rattle.tokens.specs.declared.comments.Close as close
@@ -22,10 +28,8 @@ use Rattle.tokens.specs.declared.comments.Pair as pair
 use Rattle.tokens.specs.declared.comments.Pair.the-variants.{Opens, Closes, Neither}
 use Rattle.tokens.specs.declared.marks.Mark as mark
 use Rattle.tokens.specs.declared.marks.Mark.the-variants.{None}
-use Rattle.tokens.specs.declared.worth.Worth as worth
-use Rattle.tokens.specs.declared.worth.Worth.the-variants.{TooLarge}
 use Rattle.tokens.specs.declared.pieces.Piece as piece
-use Rattle.tokens.specs.declared.pieces.Piece.the-variants.{Space, Token, OpenComment, LargeNumber, Nothing}
+use Rattle.tokens.specs.declared.pieces.Piece.the-variants.{Space, Token, Wrong}
 
 -- ---- classes of bytes
 
@@ -41,9 +45,24 @@ is-of InLine = is-in-line
 abbrev pub Formless : List ℕ → ℕ → Type 0
 Formless t p = (q : ℕ) (c : Content) → Form EDITION-1 t p q c → ⊥
 
-abbrev pub IsNumber : List ℕ → ℕ → worth.Worth → Type 0
-IsNumber t p (worth.the-variants.Is q v) = Text.Piece EDITION-1 t p q (token NUMBER v) × (v ≤ LARGEST)
-IsNumber t p TooLarge = (q : ℕ) × (v : ℕ) × Text.Piece EDITION-1 t p q (token NUMBER v) × (LARGEST < v)
+-- the number at p, whose digits stand from `from` up to q, goes on with a point
+unfoldable pub has-point : List ℕ → (p from q : ℕ) → Bool
+has-point t p from q = eqb from p && eqb (byte t q) (code ".")
+
+-- all digits from p on, up to the point at m
+pub record PointAt (t : List ℕ) (p m : ℕ) : Type 0 where
+  pub some : p < m
+  pub digits : Run is-digit t p m
+  pub point : byte t m ≡ code "."
+
+-- a float number from p up to q, with its point at m and no more digits than it may have
+pub record Decimal (t : List ℕ) (p m q : ℕ) : Type 0 where
+  pub before : p < m
+  pub behind : m < q
+  pub inside : q ≤ length t
+  pub few : q - p ≤ DIGITS + 1
+  pub point : byte t m ≡ code "."
+  pub digits : (i : ℕ) → p ≤ i → i < q → (i ≡ m → ⊥) → is-digit (byte t i) ≡ true
 
 abbrev pub IsPair : List ℕ → ℕ → pair.Pair → Type 0
 IsPair t p Opens = Text.Opens t p
@@ -66,18 +85,24 @@ abbrev pub IsMark : List ℕ → ℕ → mark.Mark → Type 0
 IsMark t p (mark.the-variants.Is k n) = Text.Piece EDITION-1 t p (p + n) (token k 0)
 IsMark t p None = Formless t p
 
+-- a token of this kind from p up to q, and what it is worth: of a float number the bits, of any other its value
+pub record IsToken (t : List ℕ) (p kind q worth : ℕ) : Type 0 where
+  pub value : ℕ
+  pub piece : Text.Piece EDITION-1 t p q (token kind value)
+  pub small : value ≤ LARGEST
+  pub float : kind ≡ FLOAT-NUMBER → worth ≡ float-bits (slice p q t)
+  pub other : (kind ≡ FLOAT-NUMBER → ⊥) → worth ≡ value
+
 abbrev pub IsPiece : List ℕ → ℕ → piece.Piece → Type 0
 IsPiece t p (Space q) = Text.Piece EDITION-1 t p q space
-IsPiece t p (Token k q v) = Text.Piece EDITION-1 t p q (token k v) × (v ≤ LARGEST)
-IsPiece t p OpenComment = (q : ℕ) × Text.Piece EDITION-1 t p q unclosed
-IsPiece t p LargeNumber = (q : ℕ) × (k : ℕ) × (v : ℕ) × Text.Piece EDITION-1 t p q (token k v) × (LARGEST < v)
-IsPiece t p Nothing = Formless t p
+IsPiece t p (Token k q x) = IsToken t p k q x
+IsPiece t p (Wrong f) = (ts : List Tokens.Token) → Text.Wrong EDITION-1 t p ts (flaw-meant f)
 
 -- ---- spellings by a table
 
 -- the bytes of each of the first `count` tokens lie in the text
 abbrev pub Spans : List ℕ → List ℕ → ℕ → Type 0
-Spans t w count = (i : ℕ) → i < count → (token-word w i 1 ≤ token-word w i 2) × (token-word w i 2 ≤ length t)
+Spans t w count = (i : ℕ) → i < count → (token-place w i ≤ token-end w i) × (token-end w i ≤ length t)
 
 -- the bytes from p up to q can be compared with the spellings of the first `count` tokens
 pub record Comparable (t w : List ℕ) (count p q : ℕ) : Type 0 where
@@ -89,7 +114,7 @@ pub record Comparable (t w : List ℕ) (count p q : ℕ) : Type 0 where
 
 -- the spelling of token i
 abbrev pub bytes-of : List ℕ → List ℕ → ℕ → Spelling
-bytes-of t w i = slice (token-word w i 1) (token-word w i 2) t
+bytes-of t w i = slice (token-place w i) (token-end w i) t
 
 -- r is the ordinal of the first of `count` tokens that is spelled s; where there is none, the count
 pub record First (t w : List ℕ) (count : ℕ) (s : Spelling) (r : ℕ) : Type 0 where
@@ -102,7 +127,7 @@ pub record Numbered (t w : List ℕ) (count : ℕ) (s : Spelling) (r : ℕ) : Ty
   pub putchar : same s PUTCHAR ≡ true → r ≡ TOKENS
   pub first : same s PUTCHAR ≡ false → First t w count s r
 
--- r is the fourth word of a token with this kind, spelling and value
-pub record ValueWord (t w : List ℕ) (count kind : ℕ) (s : Spelling) (value r : ℕ) : Type 0 where
+-- r is what a token of this kind and spelling, itself worth so much, is worth in the table as token `count`
+pub record TableWorth (t w : List ℕ) (count kind : ℕ) (s : Spelling) (worth r : ℕ) : Type 0 where
   pub name : kind ≡ NAME → Numbered t w count s r
-  pub other : (kind ≡ NAME → ⊥) → r ≡ value
+  pub other : (kind ≡ NAME → ⊥) → r ≡ worth

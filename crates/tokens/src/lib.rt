@@ -4,13 +4,14 @@ ghost use Prim.Native.Nat.{_≤_};
 ghost use lib.ListN.{length};
 ghost use lib.Seq.{slice};
 ghost use Rattle.language.specs.Sizes.{TABLE};
-ghost use Rattle.tokens.specs.Found.{Comparable, ValueWord};
+ghost use Rattle.tokens.specs.Found.{Comparable, TableWorth};
 ghost use Rattle.tokens.specs.Answer.{IsSplit};
 ghost use Rattle.tokens.specs.Shown.{text-of};
 
 pub mod answer;
 pub mod bytes;
 mod comments;
+mod floats;
 mod marks;
 mod names;
 mod pieces;
@@ -27,8 +28,8 @@ use language::TOKENS;
 use language::kinds;
 use numbers::Flaw;
 
-// The fourth word of the token that is to be the next one of the table.
-fn value_word(
+// What a token is worth in the table whose next one it is to be: a name its number.
+fn table_worth(
     first: &[u8],
     second: &[u8],
     view: View,
@@ -37,17 +38,17 @@ fn value_word(
     kind: u32,
     p: usize,
     q: usize,
-    value: u32,
-) -> u32
+    worth: u64,
+) -> u64
     requires { ⌜ Comparable (text-of first second view) (now table) count p q ⌝ }
     ensures { λ r.
-        ⌜ ValueWord (text-of (first .entry) (second .entry) view) (now (table .entry)) count kind
-        (slice p q (text-of (first .entry) (second .entry) view)) value r ⌝ }
+        ⌜ TableWorth (text-of (first .entry) (second .entry) view) (now (table .entry)) count kind
+        (slice p q (text-of (first .entry) (second .entry) view)) worth r ⌝ }
 {
     if kind == kinds::NAME {
-        return names::name_number(first, second, view, table, count, p, q);
+        return names::name_number(first, second, view, table, count, p, q) as u64;
     }
-    value
+    worth
 }
 
 // Splits the text into tokens and writes them into the table, as far as the first flaw. All other
@@ -68,23 +69,19 @@ pub fn split(first: &[u8], second: &[u8], view: View, table: &mut [u32]) -> Spli
             Piece::Space(end) => {
                 at = end;
             }
-            Piece::Token(kind, end, value) => {
+            Piece::Token(kind, end, worth) => {
                 if count == TOKENS {
                     return Split::Stopped(Flaw::ManyTokens, at);
                 }
-                let word = value_word(first, second, view, table, count, kind, at, end, value);
-                layout::token::put(table, count, kind, at as u32, end as u32, word);
+                let both = table_worth(first, second, view, table, count, kind, at, end, worth);
+                let high = layout::floats::high(both);
+                let low = layout::floats::low(both);
+                layout::token::put(table, count, kind, at as u32, end as u32, high, low);
                 count += 1;
                 at = end;
             }
-            Piece::OpenComment => {
-                return Split::Stopped(Flaw::OpenComment, at);
-            }
-            Piece::LargeNumber => {
-                return Split::Stopped(Flaw::LargeNumber, at);
-            }
-            Piece::Nothing => {
-                return Split::Stopped(Flaw::StrangeByte, at);
+            Piece::Wrong(flaw) => {
+                return Split::Stopped(flaw, at);
             }
         }
     }

@@ -16,18 +16,16 @@ use crate::marks::mark_at;
 use crate::view::View;
 use crate::view::byte;
 use crate::words::word;
-use crate::worth::Worth;
 use crate::worth::number;
-use language::kinds;
+use numbers::Flaw;
 
 pub enum Piece {
     // A blank or a comment, up to this place.
     Space(usize),
-    // A token: its kind, its end, and of a number its value, else 0.
-    Token(u32, usize, u32),
-    OpenComment,
-    LargeNumber,
-    Nothing,
+    // A token: its kind, its end, and what it is worth: of a number its value, of a float number its bits,
+    // else 0.
+    Token(u32, usize, u64),
+    Wrong(Flaw),
 }
 
 // The longest piece at a place. What begins there is settled by its first two bytes.
@@ -44,10 +42,7 @@ pub fn piece_at(first: &[u8], second: &[u8], view: View, at: usize) -> Piece
         return Piece::Token(word(first, second, view, at, end), end, 0);
     }
     if is_digit(here) {
-        return match number(first, second, view, at) {
-            Worth::Is(end, value) => Piece::Token(kinds::NUMBER, end, value),
-            Worth::TooLarge => Piece::LargeNumber,
-        };
+        return number(first, second, view, at);
     }
     if stands_at(first, second, view, at, b"//") {
         return Piece::Space(line_end(first, second, view, at + 2));
@@ -55,11 +50,11 @@ pub fn piece_at(first: &[u8], second: &[u8], view: View, at: usize) -> Piece
     if stands_at(first, second, view, at, b"/*") {
         return match comment_end(first, second, view, at) {
             Close::At(end) => Piece::Space(end),
-            Close::Never => Piece::OpenComment,
+            Close::Never => Piece::Wrong(Flaw::OpenComment),
         };
     }
     match mark_at(first, second, view, at) {
         Mark::Is(kind, size) => Piece::Token(kind, at + size, 0),
-        Mark::None => Piece::Nothing,
+        Mark::None => Piece::Wrong(Flaw::StrangeByte),
     }
 }

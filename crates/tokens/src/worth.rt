@@ -8,15 +8,20 @@ ghost use Rattle.language.proofs.Text.Bases as Bases;
 ghost use Rattle.language.proofs.Text.Bases.{base-told};
 ghost use Rattle.language.specs.Text as Text;
 ghost use Rattle.language.specs.Text.{is-digit};
-ghost use Rattle.tokens.specs.Found.{IsNumber};
+ghost use Rattle.tokens.specs.Found.{IsPiece, PointAt, has-point};
 ghost use Rattle.tokens.specs.Shown.{text-of};
 use crate::bytes::digits_end;
 use crate::bytes::is_digit_of;
 use crate::bytes::worth;
+use crate::floats;
+use crate::pieces::Piece;
 use crate::view::View;
 use crate::view::ahead;
 use crate::view::byte;
+use language::DIGITS;
 use language::LARGEST;
+use language::kinds;
+use numbers::Flaw;
 
 // Where the digits of a number begin, and their base.
 pub struct Digits {
@@ -43,7 +48,8 @@ fn base_of(a: u8, b: u8) -> u64
 fn digits_at(first: &[u8], second: &[u8], view: View, at: usize) -> Digits
     requires { ⌜ (at < length (text-of first second view))
         × (is-digit (Text.byte (text-of first second view) at) ≡ true) ⌝ }
-    ensures { λ r. ⌜ Bases.Digits (text-of (first .entry) (second .entry) view) at (r .from) (r .base) ⌝ }
+    ensures { λ r. ⌜ Bases.Digits (text-of (first .entry) (second .entry) view) at (r .from) (r .base)
+        × (r .from ≡ at → r .base ≡ 10) ⌝ }
 {
     let base = base_of(
         byte(first, second, view, at),
@@ -58,31 +64,51 @@ fn digits_at(first: &[u8], second: &[u8], view: View, at: usize) -> Digits
     Digits { from: at, base: 10 }
 }
 
-pub enum Worth {
-    // The end of the number, and its value.
-    Is(usize, u32),
-    TooLarge,
+// Whether the number at a place goes on with a point where its digits end. Those behind a base take none.
+fn takes_point(first: &[u8], second: &[u8], view: View, at: usize, from: usize, end: usize) -> bool
+    ensures { λ r. ⌜ r ≡ has-point (text-of (first .entry) (second .entry) view) at from end ⌝ }
+{
+    if from != at {
+        return false;
+    }
+    byte(first, second, view, end) == b'.'
+}
+
+// The float number at a place, with its point where the digits there end.
+fn float_number(first: &[u8], second: &[u8], view: View, at: usize, point: usize) -> Piece
+    requires { ⌜ PointAt (text-of first second view) at point ⌝ }
+    ensures { λ r. ⌜ IsPiece (text-of (first .entry) (second .entry) view) at r ⌝ }
+{
+    let end = digits_end(first, second, view, point + 1, 10);
+    if DIGITS + 1 < end - at {
+        return Piece::Wrong(Flaw::LongFloat);
+    }
+    let bits = floats::bits(first, second, view, at, point, end);
+    Piece::Token(kinds::FLOAT_NUMBER, end, bits)
 }
 
 // The number that begins with the digit at a place. No digit is read once the value is too large, and
 // so no product can wrap.
-pub fn number(first: &[u8], second: &[u8], view: View, at: usize) -> Worth
+pub fn number(first: &[u8], second: &[u8], view: View, at: usize) -> Piece
     requires { ⌜ (at < length (text-of first second view))
         × (is-digit (Text.byte (text-of first second view) at) ≡ true) ⌝ }
-    ensures { λ r. ⌜ IsNumber (text-of (first .entry) (second .entry) view) at r ⌝ }
+    ensures { λ r. ⌜ IsPiece (text-of (first .entry) (second .entry) view) at r ⌝ }
 {
     let digits = digits_at(first, second, view, at);
     let from = digits.from;
     let base = digits.base;
     let end = digits_end(first, second, view, from, base);
+    if takes_point(first, second, view, at, from, end) {
+        return float_number(first, second, view, at, end);
+    }
     let mut value: u64 = 0;
     let mut i = from;
     while i < end {
         value = value * base + worth(byte(first, second, view, i));
         if LARGEST < value {
-            return Worth::TooLarge;
+            return Piece::Wrong(Flaw::LargeNumber);
         }
         i += 1;
     }
-    Worth::Is(end, value as u32)
+    Piece::Token(kinds::NUMBER, end, value)
 }

@@ -1,9 +1,5 @@
 -- `report_pair_ran` tells an answer in words.
 use borrow.Author.Needs.{needs}
-use mathlib.Core.Path.{ap, _∙_}
-use mir.Facts.{toZ-ofZ}
-use mir.Syntax.{w64}
-use mir.Val.{ofZ, SFits}
 use Rattle.grumpy_c.proofs.ToldPairs.{told-value, told-stopped, told-not-run}
 use Rattle.grumpy_c.proofs.report_pair_ran.Statement.{statement}
 use Rattle.grumpy_c.proofs.report_pair_ran.Tie as tie
@@ -11,8 +7,8 @@ use Rattle.grumpy_c.proofs.report_pair_ran.Tie as tie
 enum-known-answer : tie.Need-enum-known-answer
 enum-known-answer c = search needs
 
-complement-requires : tie.Need-complement-requires
-complement-requires c κs = search needs
+word-requires : tie.Need-word-requires
+word-requires c κs = search needs
 
 front-requires : tie.Need-front-requires
 front-requires c κs = search needs
@@ -44,11 +40,9 @@ same-length c = search needs
 returns : tie.Need-returns
 returns c =
     let at-front = c .before .before .before in
-    let at-complement = at-front .before .before in
-    let at-answer = at-complement .before .before in
-    let f : SFits w64 (at-answer .answer .given .0 .1 .0) = search needs in let bits = at-complement .complement .ensures
-    ∙ ap (ofZ w64) (toZ-ofZ {w = w64} f) in told-value _ _ _ _ _ _ _ _ (at-front .front .result) (at-answer .answer .given .1) bits (at-front .front .ensures)
-    (c .before .before .write-pair-run-report .ensures)
+    let at-word = at-front .before .before in
+    told-value _ _ _ _ _ _ _ _ (at-front .front .result) (at-word .before .before .answer .given .1) (at-word .word .ensures)
+    (at-front .front .ensures) (c .before .before .write-pair-run-report .ensures)
 
 same-length-2 : tie.Need-same-length-2
 same-length-2 c = search needs
@@ -73,7 +67,7 @@ report-pair-ran-spec =
     tie.close
     (tie.spec
     enum-known-answer
-    complement-requires
+    word-requires
     front-requires
     write-pair-run-report-requires
     enum-known-answer-2

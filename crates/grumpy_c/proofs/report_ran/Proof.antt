@@ -1,8 +1,4 @@
 use borrow.Author.Needs.{needs}
-use mathlib.Core.Path.{ap, _∙_}
-use mir.Facts.{toZ-ofZ}
-use mir.Syntax.{w64}
-use mir.Val.{ofZ, SFits}
 use Rattle.grumpy_c.proofs.Told.{told-value, told-stopped, told-not-run}
 use Rattle.grumpy_c.proofs.report_ran.Statement.{statement}
 use Rattle.grumpy_c.proofs.report_ran.Tie as tie
@@ -10,8 +6,8 @@ use Rattle.grumpy_c.proofs.report_ran.Tie as tie
 enum-known-answer : tie.Need-enum-known-answer
 enum-known-answer c = search needs
 
-complement-requires : tie.Need-complement-requires
-complement-requires c κs = search needs
+word-requires : tie.Need-word-requires
+word-requires c κs = search needs
 
 write-run-report-requires : tie.Need-write-run-report-requires
 write-run-report-requires c κs = search needs
@@ -40,11 +36,8 @@ same-length c = search needs
 returns : tie.Need-returns
 returns c =
     let written = c .before .before in
-    let complement = written .before .before in
-    let answer = complement .before .before in
-    let f : SFits w64 (answer .answer .given .0 .1 .0) = search needs in
-    let bits = complement .complement .ensures ∙ ap (ofZ w64) (toZ-ofZ {w = w64} f) in
-    told-value _ _ _ _ _ _ _ _ (answer .answer .given .1) bits (written .write-run-report .ensures)
+    let word = written .before .before in
+    told-value _ _ _ _ _ _ _ _ (word .before .before .answer .given .1) (word .word .ensures) (written .write-run-report .ensures)
 
 same-length-2 : tie.Need-same-length-2
 same-length-2 c = search needs
@@ -71,7 +64,7 @@ report-ran-spec =
     tie.close
     (tie.spec
     enum-known-answer
-    complement-requires
+    word-requires
     write-run-report-requires
     enum-known-answer-2
     of-stop-requires

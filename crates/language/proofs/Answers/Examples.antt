@@ -8,22 +8,24 @@ use Prim.Native.String.{String}
 use native.Mathlib.Decide.{decLe, decLt, ℕ-discrete}
 use native.Mathlib.Omega.{arith}
 use lib.Dec.{leb}
+use lib.Ieee as Ieee
 use lib.IntN.{ℤ, pos, negsuc}
 use lib.ListN.{length}
 use borrow.Author.Tests.{leb-true}
 use Rattle.language.specs.Sizes.{ALLOWANCE, TABLE, WORK}
 use Rattle.language.specs.Tokens.{spell, same, spelled, entry, kind-at, value-at, spelling-at, place-at, Token}
+use Rattle.language.specs.Decimals.{digits-from, behind-point, float-of}
 use Rattle.language.specs.Trees.{Ty, refs, size, nearest, own}
-use Rattle.language.specs.State.{count, held, store, keep, then, choose, when-some, only}
-use Rattle.language.specs.Meaning.{charge, begin, in-range, fit, is-zero, same-int, create, apply-unary, apply-binary, settles, emit, put}
-use Rattle.language.specs.Meaning.{literal-value, enter, arguments, invoke, passes, step, eval, functions, run, value-number, type-number}
+use Rattle.language.specs.State.{count, held, store, keep, then, choose, when-some, alike, only}
+use Rattle.language.specs.Meaning.{charge, begin, in-range, fit, is-zero, same-int, create, apply-unary, quotient, apply-binary, settles, emit}
+use Rattle.language.specs.Meaning.{put, literal-value, enter, arguments, invoke, passes, step, eval, functions, run, value-number, type-number}
 use Rattle.language.specs.Faults.{unsuited}
 use Rattle.language.specs.Numbers.{short-memory, number}
 use Rattle.language.specs.Answers.{from-text, Ending, ending, RunReport, Lent, refusal, after-run, Ran, run-refused, run-ended}
 use Rattle.language.proofs.Executable.Parses as Parses
 use Rattle.language.proofs.Executable.Parser as Parser
 use Rattle.language.proofs.Executable.Checks as Types
-use Rattle.language.proofs.Executable.Operators.{unop, binop, if-yes, both}
+use Rattle.language.proofs.Executable.Operators.{arithmetic, unop, binop, if-yes, both}
 use Rattle.language.proofs.Executable.Checker.{check, check-from, check-def, take-params, infer, literal-type, unbound, same-types, join}
 use Rattle.language.proofs.Answers.Verdict.{verdict}
 use Rattle.language.proofs.Answers.Origins.{text-lawful, Fate, fails, Comes, fate, fate-comes}
@@ -78,7 +80,7 @@ figures r = record {
   number = number (r .told);
   place = r .place;
   type = r .type;
-  value = r .value;
+  value = value-number (r .value);
   units = r .units;
   printed = r .printed;
 }
@@ -143,8 +145,10 @@ unfolding worked answered at-end ending fate text-lawful decLe decLt ℕ-discret
     Parses.then Parses.test Parses.look Parses.need kind-at value-at spelling-at place-at entry same spelled check
     check-from check-def take-params infer literal-type unbound same-types join unop binop if-yes both nearest size
     refs Types.after Types.told Types.need type-number unsuited run eval begin charge functions step then choose
-    settles apply-binary apply-unary only when-some literal-value in-range fit create held store keep count put emit
-    enter arguments invoke passes is-zero same-int own value-number
+    settles alike quotient arithmetic apply-binary apply-unary only
+    when-some literal-value in-range fit create held store keep count put emit
+    enter arguments invoke passes is-zero same-int own value-number float-of digits-from behind-point Ieee.add Ieee.sub Ieee.mul Ieee.div
+    Ieee.lt Ieee.ofInt Ieee.toBits
 worked-out [] = []
 worked-out (e ∷ es) = record { report = figures (worked e .report); printed = worked e .printed } ∷ worked-out es
 

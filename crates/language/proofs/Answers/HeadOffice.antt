@@ -11,7 +11,7 @@ use Rattle.language.specs.Trees.{Ty, Program}
 use Rattle.language.specs.Grammar.{Reading}
 use Rattle.language.specs.Types.{HasType}
 use Rattle.language.specs.State.{Stop, no-unit, Value, State, Outcome, value, stop, stuck}
-use Rattle.language.specs.Meaning.{run, value-number, type-number}
+use Rattle.language.specs.Meaning.{run, type-number}
 use Rattle.language.specs.Numbers.{Told, passed, refused, stopped, number, stop-number}
 use Rattle.language.specs.Answers.{Origin, nowhere, at, Passes, Ending, ended, ending, CheckReport, Checked, check-short, check-refused}
 use Rattle.language.specs.Answers.{check-passed, Check, Lent, Enough, RunReport, after-run, Ran, run-short, run-large, run-refused, run-ended, Run}
@@ -30,7 +30,7 @@ use Rattle.language.proofs.Answers.OneAnswer.{one-ran, one-run}
 -- How the run of the program p, which has the type t and was read from the tokens ts, ended, and that it is reported so.
 pub data Ends {P : Type 0} (o : Origin P) (ts : List Token) (p : Program) (t : Ty) (allowance room : ℕ) (r : RunReport P) : Type 0 where
   -- with a value of the type
-  with-value : {v : Value} {s : State} → run p allowance room ≡ value v s → OfType s t v → r .told ≡ passed → r .value ≡ value-number v
+  with-value : {v : Value} {s : State} → run p allowance room ≡ value v s → OfType s t v → r .told ≡ passed → r .value ≡ v
       → Ends o ts p t allowance room r
   -- or with one of the listed stops, at a token of the sheet
   with-stop : {w : Stop} {i : ℕ} {s : State} → run p allowance room ≡ stop w i s → i < length ts → r .told ≡ stopped w → r .place ≡ o .at ts i
@@ -141,7 +141,7 @@ module _ (p : Program) (few room k : ℕ) where
   unfolding ending
   more-ending (value v s) x y h =
       ap (ending (few + k)) (same-value p few room k v s x)
-      ∙ ap some (same-ended few k (ended few passed nowhere (value-number v) s) (s .units) (omega arith)) ∙ y
+      ∙ ap some (same-ended few k (ended few passed nowhere v s) (s .units) (omega arith)) ∙ y
   more-ending (stop w i s) x y h =
       let n : w ≡ no-unit → ⊥ = λ q. h (sym (ap (λ (e : Ending). number (e .told)) (some-one y)) ∙ ap stop-number q) in
       ap (ending (few + k)) (same-stop p few room k w i s x n)

@@ -21,11 +21,12 @@ use Rattle.language.proofs.Answers.Origins.{Lawful}
 abbrev pub GONE : ℕ
 GONE = 21
 
-flaw-not : (f : Text.Flaw) → flaw-number f ≤ 14
+flaw-not : (f : Text.Flaw) → flaw-number f ≤ 15
 flaw-not Text.Flaw.strange-byte = omega arith
 flaw-not Text.Flaw.open-comment = omega arith
 flaw-not Text.Flaw.large-number = omega arith
 flaw-not Text.Flaw.many-tokens = omega arith
+flaw-not Text.Flaw.long-float = omega arith
 
 reason-not : (r : Faults.Reason) → 30 ≤ reason-number r
 reason-not Faults.Reason.too-many-functions = omega arith

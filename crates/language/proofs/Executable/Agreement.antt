@@ -4,9 +4,10 @@ use mathlib.Core.List.{List, [], _∷_}
 use Prim.Native.Nat.{ℕ, zero, suc, _+_, _*_, _≤_}
 use native.Mathlib.Omega.{arith}
 use lib.ListN.{length}
-use Rattle.language.specs.Tokens.{Token, NAME, NUMBER, DEF, LET, IN, WHILE, IF, THEN, ELSE, REF}
-use Rattle.language.specs.Tokens.{BECOMES, IS, SEMI, COMMA, COLON, LPAR, RPAR, LBRACE, RBRACE}
-use Rattle.language.specs.Trees.{ref, whole, name, literal, binary, block, call, bind}
+use Rattle.language.specs.Tokens.{Token, NAME, NUMBER, FLOAT-NUMBER, DEF, LET, IN, WHILE, IF, THEN, ELSE}
+use Rattle.language.specs.Tokens.{REF, BECOMES, IS, SEMI, COMMA, COLON, LPAR, RPAR, LBRACE, RBRACE}
+use Rattle.language.specs.Decimals.{float-of}
+use Rattle.language.specs.Trees.{ref, whole, decimal, name, literal, binary, block, call, bind}
 use Rattle.language.specs.Grammar.{Tier, Level, or, and, sum, prod, cmp, un, chain, Sym, tier, program, def, formals, params, type, seq}
 use Rattle.language.specs.Grammar.{tail, bound, item, assign, atom, actuals, args, part, operators, comparisons, prefixes, constants, basics}
 use Rattle.language.proofs.Executable.Parser.{Goal, read, rest, refs, clause, until, closed, result, entire, step, parse}
@@ -177,6 +178,8 @@ module _ (ts us : List Token) where
         from-look _ _ _ _ _ (means-same i constants) (λ x a. from-got (omega arith) λ z. refl) λ _.
         from-test _ _ _ _ _ (is-same i NUMBER)
         (λ a. from-got (omega arith) λ z. ap (λ (n : ℕ). literal i (whole n)) (same-value z i (omega arith))) λ _.
+        from-test _ _ _ _ _ (is-same i FLOAT-NUMBER)
+        (λ a. from-got (omega arith) λ z. ap (λ (s : List ℕ). literal i (decimal (float-of s))) (same-spelling z i (omega arith))) λ _.
         from-test _ _ _ _ _ (is-same i NAME)
         (λ a.
         from-down (omega arith) (from-test {i = i + 1} _ _ _ _ _ (is-same (i + 1) LPAR)

@@ -6,8 +6,9 @@ use Prim.Native.Nat.{ℕ}
 use native.Mathlib.Decide.{decLt, decLe, ℕ-discrete}
 use lib.ListN.{length}
 use Rattle.language.specs.Sizes.{REFS, PARAMETERS, FUNCTIONS}
-use Rattle.language.specs.Trees.{Ty, int, bool, unit, refs, Ty-discrete, Literal, whole, truth, trivial, Exp, name, literal, unary, binary, follow}
-use Rattle.language.specs.Trees.{group, block, call, bind, branch, loop, Exps, last, more, Param, Def, Program, Scope, empty, push, nearest, size}
+use Rattle.language.specs.Trees.{Ty, int, bool, unit, float, refs, Ty-discrete, Literal, whole, truth, trivial}
+use Rattle.language.specs.Trees.{decimal, Exp, name, literal, unary, binary, follow, group, block, call, bind, branch}
+use Rattle.language.specs.Trees.{loop, Exps, last, more, Param, Def, Program, Scope, empty, push, nearest, size}
 use Rattle.language.specs.Types.{Sig, with-def, given}
 use Rattle.language.specs.Faults.{Reason, no-binding, no-function, wrong-number, wrong-argument, wrong-operands, not-unit, not-bool, branches-differ}
 use Rattle.language.specs.Faults.{wrong-body, too-many-refs, too-many-functions, too-many-parameters, function-twice, parameter-twice, unsuited}
@@ -39,6 +40,7 @@ unfoldable pub literal-type : Literal → Ty
 literal-type (whole n) = int
 literal-type (truth b) = bool
 literal-type trivial = unit
+literal-type (decimal x) = float
 
 -- what a name that must be new is bound to
 unfoldable pub unbound : {A B : Type 0} → Option A → Reason → ℕ → (Unit {0} → Res B) → Res B

@@ -5,9 +5,9 @@ use mathlib.Core.Option.{Option, none, some}
 use Prim.Native.Nat.{ℕ}
 use native.Mathlib.Omega.{arith}
 use Rattle.language.specs.Trees.{Ty, Exp, Exps, Param, Def, Program, Scope}
-use Rattle.language.specs.Types.{Sig, Typed, t-name, t-whole, t-truth, t-trivial, t-unary, t-binary, t-follow, t-group}
-use Rattle.language.specs.Types.{t-block, t-call, t-bind, t-branch, t-loop, TypedAll, t-last, t-more, Takes, takes-none}
-use Rattle.language.specs.Types.{takes-more, with-def, Fine, fine, TypedFrom, typed-main, typed-def, HasType}
+use Rattle.language.specs.Types.{Sig, Typed, t-name, t-whole, t-truth, t-trivial, t-decimal, t-unary, t-binary, t-follow}
+use Rattle.language.specs.Types.{t-group, t-block, t-call, t-bind, t-branch, t-loop, TypedAll, t-last, t-more, Takes}
+use Rattle.language.specs.Types.{takes-none, takes-more, with-def, Fine, fine, TypedFrom, typed-main, typed-def, HasType}
 use Rattle.language.specs.Faults.{Reason, Fault, f-name, f-unary, f-unary-here, f-left, f-right, f-binary-here, f-first, f-second}
 use Rattle.language.specs.Faults.{f-follow-here, f-group, f-block, f-arguments, f-no-function, f-wrong-number, f-wrong-argument}
 use Rattle.language.specs.Faults.{f-bound, f-inside, f-if, f-then, f-else, f-if-here, f-branches-here, f-while, f-do, f-while-here}
@@ -34,6 +34,7 @@ module _ (Δ : Scope Sig) where
     infer-complete t-whole = refl
     infer-complete t-truth = refl
     infer-complete t-trivial = refl
+    infer-complete t-decimal = refl
     infer-complete (t-unary {o = o} {t = t} {u = u} p h) = after-ok _ (infer-complete p) (told-some _ _ (decided u (unop-is o t) h))
     infer-complete (t-binary {o = o} {t = t} {u = u} {v = v} p q h) =
         after-ok _ (infer-complete p) (after-ok _ (infer-complete q) (told-some _ _ (decided v (binop-is o t u) h)))

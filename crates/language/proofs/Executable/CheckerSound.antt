@@ -4,9 +4,9 @@ use mathlib.Core.List.{List, [], _∷_}
 use mathlib.Core.Option.{Option, none, some}
 use Prim.Native.Nat.{ℕ}
 use native.Mathlib.Omega.{arith}
-use Rattle.language.specs.Trees.{Ty, Unary, Binary, Literal, whole, truth, trivial, Exp, name, literal, unary, binary, follow, group}
-use Rattle.language.specs.Trees.{block, call, bind, branch, loop, Exps, last, more, Param, Def, Program, Scope, empty, push, nearest}
-use Rattle.language.specs.Types.{Sig, UnopType, BinopType, Typed, t-name, t-whole, t-truth, t-trivial, t-unary, t-binary}
+use Rattle.language.specs.Trees.{Ty, Unary, Binary, Literal, whole, truth, trivial, decimal, Exp, name, literal, unary, binary, follow}
+use Rattle.language.specs.Trees.{group, block, call, bind, branch, loop, Exps, last, more, Param, Def, Program, Scope, empty, push, nearest}
+use Rattle.language.specs.Types.{Sig, UnopType, BinopType, Typed, t-name, t-whole, t-truth, t-trivial, t-decimal, t-unary, t-binary}
 use Rattle.language.specs.Types.{t-follow, t-group, t-block, t-call, t-bind, t-branch, t-loop, TypedAll, t-last, t-more, Takes}
 use Rattle.language.specs.Types.{takes-none, takes-more, with-def, Fine, fine, TypedFrom, typed-main, typed-def, given, HasType}
 use Rattle.language.specs.Faults.{Reason, Fault, f-name, f-unary, f-unary-here, f-left, f-right, f-binary-here, f-first, f-second}
@@ -23,6 +23,7 @@ unfolding literal-type
 literal-sound Δ Γ i (whole n) = t-whole
 literal-sound Δ Γ i (truth b) = t-truth
 literal-sound Δ Γ i trivial = t-trivial
+literal-sound Δ Γ i (decimal x) = t-decimal
 
 unop-some : (o : Unary) (t u : Ty) → unop o t ≡ some u → UnopType o t u
 unop-some o t u e = decides-some (subst (Decides (UnopType o t)) e (unop-is o t))

@@ -21,6 +21,7 @@ module _ (ts : List Token) (h : ℕ) (ih : Able ts h) where
   at-atom i l =
       fails-look _ _ _ (λ _ _. fine) λ _.
       fails-test _ _ _ (λ _. fine) λ _.
+      fails-test _ _ _ (λ _. fine) λ _.
       fails-test _ _ _
       (λ d.
       fails-test _ _ _

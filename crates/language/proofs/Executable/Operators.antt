@@ -4,9 +4,10 @@ use mathlib.Core.Option.{Option, none, some}
 use Prim.Native.Nat.{_<_}
 use native.Mathlib.Decide.{decLt}
 use Rattle.language.specs.Sizes.{REFS}
-use Rattle.language.specs.Trees.{Ty, int, bool, unit, ref, refs, Ty-discrete, Unary, minus, not}
+use Rattle.language.specs.Trees.{Ty, int, bool, unit, float, ref, refs, Ty-discrete, Unary, minus, not}
 use Rattle.language.specs.Trees.{fetch, new, Binary, add, sub, mul, div, less, equal, and, or, assign}
-use Rattle.language.specs.Types.{UnopType, u-minus, u-not, u-fetch, u-new, BinopType, b-add, b-sub, b-mul, b-div, b-less, b-equal, b-and, b-or, b-assign}
+use Rattle.language.specs.Types.{UnopType, u-minus, u-not, u-fetch, u-new, Arithmetic, of-int, of-float}
+use Rattle.language.specs.Types.{BinopType, b-add, b-sub, b-mul, b-div, b-less, b-equal, b-and, b-or, b-assign}
 
 -- t if the statement holds
 unfoldable pub if-yes : {A : Type 0} → Dec A → Ty → Option Ty
@@ -43,8 +44,27 @@ unop not t = if-yes (Ty-discrete t bool) bool
 unop fetch int = none
 unop fetch bool = none
 unop fetch unit = none
+unop fetch float = none
 unop fetch (ref t) = some t
 unop new t = if-yes (decLt (refs t) REFS) (ref t)
+
+abbrev pub IsArithmetic : Ty → Type 0
+IsArithmetic int = Unit {0}
+IsArithmetic bool = ⊥
+IsArithmetic unit = ⊥
+IsArithmetic float = Unit {0}
+IsArithmetic (ref t) = ⊥
+
+pub is-arithmetic : {t : Ty} → Arithmetic t → IsArithmetic t
+is-arithmetic of-int = tt
+is-arithmetic of-float = tt
+
+unfoldable pub arithmetic : (t : Ty) → Dec (Arithmetic t)
+arithmetic int = yes of-int
+arithmetic bool = no λ a. is-arithmetic a
+arithmetic unit = no λ a. is-arithmetic a
+arithmetic float = yes of-float
+arithmetic (ref t) = no λ a. is-arithmetic a
 
 unfoldable pub both : {A B : Type 0} → Dec A → Dec B → Ty → Option Ty
 both (yes p) e t = if-yes e t
@@ -58,17 +78,18 @@ decides-both (yes p) (no q) t f g = lacks λ u r. q ((g u r) .1)
 decides-both (no p) e t f g = lacks λ u r. p ((g u r) .0)
 
 unfoldable pub binop : Binary → Ty → Ty → Option Ty
-binop add t u = both (Ty-discrete t int) (Ty-discrete u int) int
-binop sub t u = both (Ty-discrete t int) (Ty-discrete u int) int
-binop mul t u = both (Ty-discrete t int) (Ty-discrete u int) int
-binop div t u = both (Ty-discrete t int) (Ty-discrete u int) int
-binop less t u = both (Ty-discrete t int) (Ty-discrete u int) bool
+binop add t u = both (arithmetic t) (Ty-discrete u t) t
+binop sub t u = both (arithmetic t) (Ty-discrete u t) t
+binop mul t u = both (arithmetic t) (Ty-discrete u t) t
+binop div t u = both (arithmetic t) (Ty-discrete u t) t
+binop less t u = both (arithmetic t) (Ty-discrete u t) bool
 binop equal t u = both (Ty-discrete t int) (Ty-discrete u int) bool
 binop and t u = both (Ty-discrete t bool) (Ty-discrete u bool) bool
 binop or t u = both (Ty-discrete t bool) (Ty-discrete u bool) bool
 binop assign int u = none
 binop assign bool u = none
 binop assign unit u = none
+binop assign float u = none
 binop assign (ref t) u = if-yes (Ty-discrete t u) unit
 
 -- what the rules say of each operator
@@ -85,22 +106,22 @@ unop-form u-fetch = refl
 unop-form (u-new h) = (h, refl)
 
 abbrev Binop : Binary → Ty → Ty → Ty → Type 0
-Binop add t u v = (t ≡ int) × (u ≡ int) × (int ≡ v)
-Binop sub t u v = (t ≡ int) × (u ≡ int) × (int ≡ v)
-Binop mul t u v = (t ≡ int) × (u ≡ int) × (int ≡ v)
-Binop div t u v = (t ≡ int) × (u ≡ int) × (int ≡ v)
-Binop less t u v = (t ≡ int) × (u ≡ int) × (bool ≡ v)
+Binop add t u v = Arithmetic t × (u ≡ t) × (t ≡ v)
+Binop sub t u v = Arithmetic t × (u ≡ t) × (t ≡ v)
+Binop mul t u v = Arithmetic t × (u ≡ t) × (t ≡ v)
+Binop div t u v = Arithmetic t × (u ≡ t) × (t ≡ v)
+Binop less t u v = Arithmetic t × (u ≡ t) × (bool ≡ v)
 Binop equal t u v = (t ≡ int) × (u ≡ int) × (bool ≡ v)
 Binop and t u v = (t ≡ bool) × (u ≡ bool) × (bool ≡ v)
 Binop or t u v = (t ≡ bool) × (u ≡ bool) × (bool ≡ v)
 Binop assign t u v = (t ≡ ref u) × (unit ≡ v)
 
 binop-form : {o : Binary} {t u v : Ty} → BinopType o t u v → Binop o t u v
-binop-form b-add = (refl, refl, refl)
-binop-form b-sub = (refl, refl, refl)
-binop-form b-mul = (refl, refl, refl)
-binop-form b-div = (refl, refl, refl)
-binop-form b-less = (refl, refl, refl)
+binop-form (b-add a) = (a, refl, refl)
+binop-form (b-sub a) = (a, refl, refl)
+binop-form (b-mul a) = (a, refl, refl)
+binop-form (b-div a) = (a, refl, refl)
+binop-form (b-less a) = (a, refl, refl)
 binop-form b-equal = (refl, refl, refl)
 binop-form b-and = (refl, refl, refl)
 binop-form b-or = (refl, refl, refl)
@@ -110,6 +131,7 @@ abbrev IsRef : Ty → Type 0
 IsRef int = ⊥
 IsRef bool = ⊥
 IsRef unit = ⊥
+IsRef float = ⊥
 IsRef (ref t) = Unit {0}
 
 fetches : {t u : Ty} → UnopType fetch t u → IsRef t
@@ -131,20 +153,22 @@ unop-is not t = decides-if (Ty-discrete t bool) bool (λ p. rw p u-not) (λ u q.
 unop-is fetch int = lacks λ u q. fetches q
 unop-is fetch bool = lacks λ u q. fetches q
 unop-is fetch unit = lacks λ u q. fetches q
+unop-is fetch float = lacks λ u q. fetches q
 unop-is fetch (ref t) = finds u-fetch λ u q. fetched q
 unop-is new t = decides-if (decLt (refs t) REFS) (ref t) (λ p. u-new p) (λ u q. (unop-form q) .1) (λ u q. (unop-form q) .0)
 
 pub binop-is : (o : Binary) (t u : Ty) → Decides (BinopType o t u) (binop o t u)
 unfolding binop
-binop-is add t u = decides-both (Ty-discrete t int) (Ty-discrete u int) int (λ p q. rw (p, q) b-add) λ v q. binop-form q
-binop-is sub t u = decides-both (Ty-discrete t int) (Ty-discrete u int) int (λ p q. rw (p, q) b-sub) λ v q. binop-form q
-binop-is mul t u = decides-both (Ty-discrete t int) (Ty-discrete u int) int (λ p q. rw (p, q) b-mul) λ v q. binop-form q
-binop-is div t u = decides-both (Ty-discrete t int) (Ty-discrete u int) int (λ p q. rw (p, q) b-div) λ v q. binop-form q
-binop-is less t u = decides-both (Ty-discrete t int) (Ty-discrete u int) bool (λ p q. rw (p, q) b-less) λ v q. binop-form q
+binop-is add t u = decides-both (arithmetic t) (Ty-discrete u t) t (λ p q. rw q (b-add p)) λ v q. binop-form q
+binop-is sub t u = decides-both (arithmetic t) (Ty-discrete u t) t (λ p q. rw q (b-sub p)) λ v q. binop-form q
+binop-is mul t u = decides-both (arithmetic t) (Ty-discrete u t) t (λ p q. rw q (b-mul p)) λ v q. binop-form q
+binop-is div t u = decides-both (arithmetic t) (Ty-discrete u t) t (λ p q. rw q (b-div p)) λ v q. binop-form q
+binop-is less t u = decides-both (arithmetic t) (Ty-discrete u t) bool (λ p q. rw q (b-less p)) λ v q. binop-form q
 binop-is equal t u = decides-both (Ty-discrete t int) (Ty-discrete u int) bool (λ p q. rw (p, q) b-equal) λ v q. binop-form q
 binop-is and t u = decides-both (Ty-discrete t bool) (Ty-discrete u bool) bool (λ p q. rw (p, q) b-and) λ v q. binop-form q
 binop-is or t u = decides-both (Ty-discrete t bool) (Ty-discrete u bool) bool (λ p q. rw (p, q) b-or) λ v q. binop-form q
 binop-is assign int u = lacks λ v q. assigns q
 binop-is assign bool u = lacks λ v q. assigns q
 binop-is assign unit u = lacks λ v q. assigns q
+binop-is assign float u = lacks λ v q. assigns q
 binop-is assign (ref t) u = decides-if (Ty-discrete t u) unit (λ p. rw p b-assign) (λ v q. (assigned q) .1) (λ v q. (assigned q) .0)

@@ -6,10 +6,11 @@ use mathlib.Core.Option.{Option}
 use Prim.Native.Nat.{ℕ, zero, suc, _+_, _*_}
 use lib.ListN.{length}
 use lib.Dec.{eqb}
-use Rattle.language.specs.Tokens.{Token, Entry, kind-at, value-at, spelling-at, entry, NAME, NUMBER, DEF, LET, IN, WHILE}
-use Rattle.language.specs.Tokens.{IF, THEN, ELSE, REF, BECOMES, IS, SEMI, COMMA, COLON, LPAR, RPAR, LBRACE, RBRACE}
-use Rattle.language.specs.Trees.{Ty, ref, whole, Binary, Exp, name, literal, unary, binary, follow}
-use Rattle.language.specs.Trees.{group, block, call, bind, branch, loop, Exps, last, more, Program}
+use Rattle.language.specs.Tokens.{Token, Entry, kind-at, value-at, spelling-at, entry, NAME, NUMBER, FLOAT-NUMBER, DEF, LET, IN, WHILE, IF, THEN}
+use Rattle.language.specs.Tokens.{ELSE, REF, BECOMES, IS, SEMI, COMMA, COLON, LPAR, RPAR, LBRACE, RBRACE}
+use Rattle.language.specs.Decimals.{float-of}
+use Rattle.language.specs.Trees.{Ty, ref, whole, decimal, Binary, Exp, name, literal, unary, binary, follow, group, block, call, bind, branch}
+use Rattle.language.specs.Trees.{loop, Exps, last, more, Program}
 use Rattle.language.specs.Grammar.{Level, or, sum, cmp, un, chain, Sym, Of, tier, program, def, formals, params, type, seq, tail, bound, item}
 use Rattle.language.specs.Grammar.{assign, atom, actuals, args, part, operators, comparisons, prefixes, constants, basics, param, define, before}
 use Rattle.language.proofs.Executable.Parses.{Result, failed, got, made, made-past, then, test, look, need}
@@ -101,6 +102,7 @@ module _ (ts : List Token) where
   step r (read atom) i =
       look (means i constants) (λ l. got (literal i l) (i + 1)) λ _.
       test (is i NUMBER) (λ _. got (literal i (whole (value-at ts i))) (i + 1)) λ _.
+      test (is i FLOAT-NUMBER) (λ _. got (literal i (decimal (float-of (spelling-at ts i)))) (i + 1)) λ _.
       test (is i NAME) (λ _.
       test (is (i + 1) LPAR) (λ _. made (r (read actuals) (i + 2)) (call i (spelling-at ts i))) λ _.
       got (name i (spelling-at ts i)) (i + 1)) λ _.

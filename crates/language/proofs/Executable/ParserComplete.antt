@@ -7,9 +7,9 @@ use Rattle.language.specs.Tokens.{Token, At, entry, kind-at, IN, DEF, LE
 use Rattle.language.specs.Trees.{Exp, Def}
 use Rattle.language.specs.Grammar.{cmp, un, Of, tier, Sym, program, def, formals, params, type, seq, bound, assign, atom, actuals, args, chain}
 use Rattle.language.specs.Grammar.{Reads, program-seq, program-def, def-is, formals-none, formals-some, params-one, params-more, type-basic}
-use Rattle.language.specs.Grammar.{type-ref, seq-tail, seq-item, seq-more, tail-let, tail-if, let-in, item-if, item-while, item-assign}
-use Rattle.language.specs.Grammar.{assign-one, assign-to, chain-one, chain-more, cmp-one, cmp-two, un-prefix, un-atom, atom-name, atom-call}
-use Rattle.language.specs.Grammar.{atom-number, atom-constant, atom-group, atom-block, actuals-none, actuals-some, args-one, args-more}
+use Rattle.language.specs.Grammar.{type-ref, seq-tail, seq-item, seq-more, tail-let, tail-if, let-in, item-if, item-while, item-assign, assign-one}
+use Rattle.language.specs.Grammar.{assign-to, chain-one, chain-more, cmp-one, cmp-two, un-prefix, un-atom, atom-name, atom-call, atom-number}
+use Rattle.language.specs.Grammar.{atom-float, atom-constant, atom-group, atom-block, actuals-none, actuals-some, args-one, args-more}
 use Rattle.language.proofs.Executable.Parses.{then, test, look, need}
 use Rattle.language.proofs.Executable.Parser.{read, rest, refs, clause, step}
 use Rattle.language.proofs.Grammar.FirstTokens.{pull, opens, ends-part, operator-pulls, comparison-pulls}
@@ -140,6 +140,9 @@ module _ (ts : List Token) where
       run ts (read atom) i f _ (omega (arith, grows ts p)) λ n z.
       rw (a, b, p′ (omega arith) n (omega arith))
   complete (atom-number {i} a) = λ stop f e.
+      run ts (read atom) i f _ (omega arith) λ n z.
+      rw a
+  complete (atom-float {i} a) = λ stop f e.
       run ts (read atom) i f _ (omega arith) λ n z.
       rw a
   complete (atom-constant {i} a) = λ stop f e.

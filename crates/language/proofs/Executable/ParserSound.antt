@@ -11,7 +11,7 @@ use Rattle.language.specs.Grammar.{cmp, un, tier, or, sum, program, def,
 use Rattle.language.specs.Grammar.{args, chain, part, Reads, program-seq, program-def, def-is, formals-none, formals-some, params-one, params-more}
 use Rattle.language.specs.Grammar.{type-basic, type-ref, seq-tail, seq-item, seq-more, tail-let, tail-if, let-in, item-if, item-while, item-assign}
 use Rattle.language.specs.Grammar.{assign-one, assign-to, chain-one, cmp-one, cmp-two, un-prefix, un-atom, atom-name, atom-call, atom-number}
-use Rattle.language.specs.Grammar.{atom-constant, atom-group, atom-block, actuals-none, actuals-some, args-one, args-more, Reading}
+use Rattle.language.specs.Grammar.{atom-float, atom-constant, atom-group, atom-block, actuals-none, actuals-some, args-one, args-more, Reading}
 use Rattle.language.proofs.Grammar.Association.{on-the-left}
 use Rattle.language.proofs.Executable.Parses.{Result, got, All, nothing, this, all-got, all-same, all-made}
 use Rattle.language.proofs.Executable.Parses.{all-made-past, all-then, all-test, all-look, all-need}
@@ -125,6 +125,7 @@ module _ (ts : List Token) where
     step-sound (read atom) i =
         all-look _ _ _ (λ l a. this (atom-constant a)) λ _.
         all-test _ _ _ (λ a. this (atom-number (at i _ a))) λ _.
+        all-test _ _ _ (λ a. this (atom-float (at i _ a))) λ _.
         all-test _ _ _ (λ a.
         all-test _ _ _ (λ b. all-made _ (ok (read actuals) (i + 2)) λ es j p. atom-call (at i _ a) (at (i + 1) _ b) p) λ _.
         this (atom-name (at i _ a))) λ _.

@@ -7,10 +7,11 @@ use mathlib.Core.Option.{none}
 use Prim.Native.Nat.{ℕ, zero, suc, _+_, _≤_}
 use native.Mathlib.Omega.{arith}
 use borrow.Author.Tests.{eq-eqb}
-use Rattle.language.specs.Tokens.{Token, At, Means, entry, kind-at, value-at, spelling-at, NAME, NUMBER, LET, IN}
-use Rattle.language.specs.Tokens.{WHILE, IF, THEN, ELSE, BECOMES, IS, SEMI, COMMA, LPAR, RPAR, LBRACE, RBRACE}
-use Rattle.language.specs.Trees.{Literal, whole, Unary, Binary, Exp, name, literal, unary, binary}
-use Rattle.language.specs.Trees.{follow, group, block, call, bind, branch, loop, Exps, last, more}
+use Rattle.language.specs.Tokens.{Token, At, Means, entry, kind-at, value-at, spelling-at, NAME, NUMBER, FLOAT-NUMBER}
+use Rattle.language.specs.Tokens.{LET, IN, WHILE, IF, THEN, ELSE, BECOMES, IS, SEMI, COMMA, LPAR, RPAR, LBRACE, RBRACE}
+use Rattle.language.specs.Decimals.{float-of}
+use Rattle.language.specs.Trees.{Literal, whole, decimal, Unary, Binary, Exp, name, literal, unary}
+use Rattle.language.specs.Trees.{binary, follow, group, block, call, bind, branch, loop, Exps, last, more}
 use Rattle.language.specs.Grammar.{or, un, chain, tier, seq, bound, assign, atom, actuals, args, prefixes, constants}
 use Rattle.language.proofs.Executable.Parses.{Result, failed, got, made, made-past, then, test, look, need}
 use Rattle.language.proofs.Executable.Parser.{read, clause, until, closed, is, step, parse}
@@ -182,6 +183,11 @@ module _ {ts : List Token} where
   unfolding step look test entry
   atom-number a = settle₀ λ f. rw a
 
+  -- a float number
+  pub atom-float : {i : ℕ} → At ts i FLOAT-NUMBER → Settles ts (read atom) i (got (literal i (decimal (float-of (spelling-at ts i)))) (i + 1))
+  unfolding step look test entry
+  atom-float a = settle₀ λ f. rw a
+
   -- a name, and no `(`
   pub atom-name : {i : ℕ} → At ts i NAME → (At ts (i + 1) LPAR → ⊥) → Settles ts (read atom) i (got (name i (spelling-at ts i)) (i + 1))
   unfolding step look test entry
@@ -206,10 +212,10 @@ module _ {ts : List Token} where
   atom-block a x = settle₁ x λ f p. rw (a, p)
 
   -- no token that an Atom begins with
-  pub atom-other : {i : ℕ} → entry constants (kind-at ts i) ≡ none → (At ts i NUMBER → ⊥) → (At ts i NAME → ⊥) → (At ts i LPAR → ⊥)
+  pub atom-other : {i : ℕ} → entry constants (kind-at ts i) ≡ none → (At ts i NUMBER → ⊥) → (At ts i FLOAT-NUMBER → ⊥) → (At ts i NAME → ⊥) → (At ts i LPAR → ⊥)
       → (At ts i LBRACE → ⊥) → Settles ts (read atom) i (failed i)
   unfolding step look test need
-  atom-other {i} a b c d e = settle₀ λ f. rw (a, other ts i NUMBER b, other ts i NAME c, other ts i LPAR d, other ts i LBRACE e)
+  atom-other {i} a b n c d e = settle₀ λ f. rw (a, other ts i NUMBER b, other ts i FLOAT-NUMBER n, other ts i NAME c, other ts i LPAR d, other ts i LBRACE e)
 
   -- ---- the arguments of a call
 

@@ -9,9 +9,9 @@ use Rattle.language.specs.Tokens.{Token}
 use Rattle.language.specs.Trees.{Program, nodes, all-nodes, def-nodes, program-nodes}
 use Rattle.language.specs.Grammar.{Of, tier, Sym, program, def, formals, params, type, seq, tail, bound, item, assign, atom, actuals, args, Reads}
 use Rattle.language.specs.Grammar.{Reading, program-seq, program-def, def-is, formals-none, formals-some, params-one, params-more, type-basic}
-use Rattle.language.specs.Grammar.{type-ref, seq-tail, seq-item, seq-more, tail-let, tail-if, let-in, item-if, item-while, item-assign}
-use Rattle.language.specs.Grammar.{assign-one, assign-to, chain-one, chain-more, cmp-one, cmp-two, un-prefix, un-atom, atom-name, atom-call}
-use Rattle.language.specs.Grammar.{atom-number, atom-constant, atom-group, atom-block, actuals-none, actuals-some, args-one, args-more}
+use Rattle.language.specs.Grammar.{type-ref, seq-tail, seq-item, seq-more, tail-let, tail-if, let-in, item-if, item-while, item-assign, assign-one}
+use Rattle.language.specs.Grammar.{assign-to, chain-one, chain-more, cmp-one, cmp-two, un-prefix, un-atom, atom-name, atom-call, atom-number}
+use Rattle.language.specs.Grammar.{atom-float, atom-constant, atom-group, atom-block, actuals-none, actuals-some, args-one, args-more}
 use Rattle.language.proofs.Grammar.FirstTokens.{grows}
 
 abbrev nodes-of : (s : Sym) → Of s → ℕ
@@ -63,6 +63,7 @@ module _ (ts : List Token) where
   few (atom-name a) = omega arith
   few (atom-call a b p) = omega (arith, few p)
   few (atom-number a) = omega arith
+  few (atom-float a) = omega arith
   few (atom-constant a) = omega arith
   few (atom-group a p b) = omega (arith, few p)
   few (atom-block a p b) = omega (arith, few p)

@@ -8,15 +8,15 @@ use Prim.Native.Nat.{ℕ, _≤_, _<_}
 use native.Mathlib.Omega.{arith}
 use lib.Dec.{T, eqb, leb, leb→le, eqb→eq}
 use borrow.Author.Tests.{ne-eqb}
-use Rattle.language.specs.Tokens.{Token, Entry, _is_, At, entry, kind-at, NAME, NUMBER, DEF, LET, WHILE, IF, REF, NOT, TRUE, FALSE}
+use Rattle.language.specs.Tokens.{Token, Entry, _is_, At, entry, kind-at, NAME, NUMBER, FLOAT-NUMBER, DEF, LET, WHILE, IF, REF, NOT, TRUE, FALSE}
 use Rattle.language.specs.Tokens.{TT, PLUS, MINUS, STAR, SLASH, AND, OR, LESS, EQUAL, BECOMES, BANG, SEMI, COMMA, LPAR, LBRACE}
 use Rattle.language.specs.Trees.{Literal, Unary, Binary}
 use Rattle.language.specs.Grammar.{Of, tier, Level, or, and, sum, prod, Sym, program, def, formals, params, type, seq, tail, bound, item}
 use Rattle.language.specs.Grammar.{assign, cmp, un, atom, actuals, args, chain, part, operators, comparisons, prefixes, constants, Reads}
-use Rattle.language.specs.Grammar.{program-seq, program-def, def-is, formals-none, formals-some, params-one, params-more, type-basic}
-use Rattle.language.specs.Grammar.{type-ref, seq-tail, seq-item, seq-more, tail-let, tail-if, let-in, item-if, item-while, item-assign}
-use Rattle.language.specs.Grammar.{assign-one, assign-to, chain-one, chain-more, cmp-one, cmp-two, un-prefix, un-atom, atom-name, atom-call}
-use Rattle.language.specs.Grammar.{atom-number, atom-constant, atom-group, atom-block, actuals-none, actuals-some, args-one, args-more}
+use Rattle.language.specs.Grammar.{program-seq, program-def, def-is, formals-none, formals-some, params-one, params-more, type-basic, type-ref}
+use Rattle.language.specs.Grammar.{seq-tail, seq-item, seq-more, tail-let, tail-if, let-in, item-if, item-while, item-assign, assign-one}
+use Rattle.language.specs.Grammar.{assign-to, chain-one, chain-more, cmp-one, cmp-two, un-prefix, un-atom, atom-name, atom-call, atom-number}
+use Rattle.language.specs.Grammar.{atom-float, atom-constant, atom-group, atom-block, actuals-none, actuals-some, args-one, args-more}
 use Rattle.language.proofs.Grammar.Entries.{every, entry-passes, found-nothing}
 
 -- ---- the numbers
@@ -30,7 +30,7 @@ pulls =
 -- what a token begins: 1 a Program, 2 a Seq or a Tail, 3 an Item, 4 an Assign or a level of operators, 5 an Atom; each also all above it
 abbrev pub openers : List (Entry ℕ ℕ)
 openers =
-    DEF is 1 ∷ LET is 2 ∷ IF is 3 ∷ WHILE is 3 ∷ MINUS is 4 ∷ NOT is 4 ∷ BANG is 4 ∷ REF is 4 ∷ NAME is 5 ∷ NUMBER is 5 ∷
+    DEF is 1 ∷ LET is 2 ∷ IF is 3 ∷ WHILE is 3 ∷ MINUS is 4 ∷ NOT is 4 ∷ BANG is 4 ∷ REF is 4 ∷ NAME is 5 ∷ NUMBER is 5 ∷ FLOAT-NUMBER is 5 ∷
     TRUE is 5 ∷ FALSE is 5 ∷ TT is 5 ∷ LPAR is 5 ∷ LBRACE is 5 ∷ []
 
 -- 0 for any other token
@@ -189,6 +189,7 @@ module _ (ts : List Token) where
   grows (atom-name a) = omega arith
   grows (atom-call a b p) = omega (arith, grows p)
   grows (atom-number a) = omega arith
+  grows (atom-float a) = omega arith
   grows (atom-constant a) = omega arith
   grows (atom-group a p b) = omega (arith, grows p)
   grows (atom-block a p b) = omega (arith, grows p)
@@ -229,6 +230,7 @@ module _ (ts : List Token) where
   starts (atom-name a) = opens-at _ _ _ a tt
   starts (atom-call a b p) = opens-at _ _ _ a tt
   starts (atom-number a) = opens-at _ _ _ a tt
+  starts (atom-float a) = opens-at _ _ _ a tt
   starts (atom-constant {i} a) = omega (arith, constant-opens (kind-at ts i) a)
   starts (atom-group a p b) = opens-at _ _ _ a tt
   starts (atom-block a p b) = opens-at _ _ _ a tt

@@ -12,10 +12,10 @@ use borrow.Author.Tests.{eq-eqb}
 use Rattle.language.specs.Tokens.{Token, Entry, At, kind-at, entry, NAME, NUMBER}
 use Rattle.language.specs.Trees.{Program, Def, Binary}
 use Rattle.language.specs.Grammar.{Of, Sym, def, Level, or, and, sum, prod, operators, comparisons, prefixes, Reading, Reads, program-seq}
-use Rattle.language.specs.Grammar.{program-def, def-is, formals-none, formals-some, params-one, params-more, type-basic, type-ref}
-use Rattle.language.specs.Grammar.{seq-tail, seq-item, seq-more, tail-let, tail-if, let-in, item-if, item-while, item-assign, assign-one}
-use Rattle.language.specs.Grammar.{assign-to, chain-one, chain-more, cmp-one, cmp-two, un-prefix, un-atom, atom-name, atom-call}
-use Rattle.language.specs.Grammar.{atom-number, atom-constant, atom-group, atom-block, actuals-none, actuals-some, args-one, args-more}
+use Rattle.language.specs.Grammar.{program-def, def-is, formals-none, formals-some, params-one, params-more, type-basic, type-ref, seq-tail}
+use Rattle.language.specs.Grammar.{seq-item, seq-more, tail-let, tail-if, let-in, item-if, item-while, item-assign, assign-one, assign-to}
+use Rattle.language.specs.Grammar.{chain-one, chain-more, cmp-one, cmp-two, un-prefix, un-atom, atom-name, atom-call, atom-number, atom-float}
+use Rattle.language.specs.Grammar.{atom-constant, atom-group, atom-block, actuals-none, actuals-some, args-one, args-more}
 use Rattle.language.proofs.Grammar.Entries.{every, entry-passes}
 use Rattle.language.proofs.Grammar.Prefixes.{inside}
 use Rattle.language.proofs.Text.Choices.{either}
@@ -119,6 +119,7 @@ module _ {ts : List Token} where
   apart (atom-name a) = single (omega arith)
   apart (atom-call a b p) = lead a tt refl (lead b tt (omega arith) (apart p))
   apart (atom-number a) = single (omega arith)
+  apart (atom-float a) = single (omega arith)
   apart (atom-constant a) = single (omega arith)
   apart (atom-group a p b) = lead a tt refl (tail (apart p) b (tt, tt))
   apart (atom-block a p b) = lead a tt refl (tail (apart p) b (tt, tt))

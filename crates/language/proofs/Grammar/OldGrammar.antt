@@ -5,9 +5,10 @@ use mathlib.Core.List.{List, []}
 use mathlib.Core.Logic.{_↔_}
 use Prim.Native.Nat.{ℕ, _+_}
 use lib.ListN.{length}
-use Rattle.language.specs.Tokens.{Token, At, Means, value-at, spelling-at, NAME, NUMBER, DEF, LET, IN, WHILE}
-use Rattle.language.specs.Tokens.{IF, THEN, ELSE, BECOMES, IS, SEMI, COMMA, COLON, LPAR, RPAR, LBRACE, RBRACE}
-use Rattle.language.specs.Trees.{Ty, Literal, whole, Unary, Binary, Exp, name, literal, unary, binary, follow}
+use Rattle.language.specs.Tokens.{Token, At, Means, value-at, spelling-at, NAME, NUMBER, FLOAT-NUMBER, DEF, LET, IN}
+use Rattle.language.specs.Tokens.{WHILE, IF, THEN, ELSE, BECOMES, IS, SEMI, COMMA, COLON, LPAR, RPAR, LBRACE, RBRACE}
+use Rattle.language.specs.Decimals.{float-of}
+use Rattle.language.specs.Trees.{Ty, Literal, whole, decimal, Unary, Binary, Exp, name, literal, unary, binary, follow}
 use Rattle.language.specs.Trees.{group, block, call, bind, branch, loop, Exps, last, more, Param, Def, Program}
 use Rattle.language.specs.Grammar.{Level, or, sum, cmp, un, chain, Sym, Of, tier, program, def, formals, params, type, seq, tail, bound, item}
 use Rattle.language.specs.Grammar.{assign, atom, actuals, args, part, operators, comparisons, prefixes, constants, define, before, Reads, Reading}
@@ -54,6 +55,7 @@ pub data OldReads (ts : List Token) : (s : Sym) → ℕ → ℕ → Of s → Typ
   atom-call : {i j : ℕ} {es : Exps}
       → At ts i NAME → At ts (i + 1) LPAR → OldReads ts actuals (i + 2) j es → OldReads ts atom i j (call i (spelling-at ts i) es)
   atom-number : {i : ℕ} → At ts i NUMBER → OldReads ts atom i (i + 1) (literal i (whole (value-at ts i)))
+  atom-float : {i : ℕ} → At ts i FLOAT-NUMBER → OldReads ts atom i (i + 1) (literal i (decimal (float-of (spelling-at ts i))))
   atom-constant : {i : ℕ} {l : Literal} → Means ts i constants l → OldReads ts atom i (i + 1) (literal i l)
   atom-group : {i k : ℕ} {e : Exp}
       → At ts i LPAR → OldReads ts seq (i + 1) k e → At ts k RPAR → OldReads ts atom i (k + 1) (group i e)
@@ -92,6 +94,7 @@ module _ {ts : List Token} where
   old-reads (atom-name a) = Now.atom-name a
   old-reads (atom-call a b p) = Now.atom-call a b (old-reads p)
   old-reads (atom-number a) = Now.atom-number a
+  old-reads (atom-float a) = Now.atom-float a
   old-reads (atom-constant a) = Now.atom-constant a
   old-reads (atom-group a p b) = Now.atom-group a (old-reads p) b
   old-reads (atom-block a p b) = Now.atom-block a (old-reads p) b
@@ -157,6 +160,7 @@ module _ {ts : List Token} (none : NoElseLet ts) where
   was (Now.atom-name a) = atom-name a
   was (Now.atom-call a b p) = atom-call a b (was p)
   was (Now.atom-number a) = atom-number a
+  was (Now.atom-float a) = atom-float a
   was (Now.atom-constant a) = atom-constant a
   was (Now.atom-group a p b) = atom-group a (was p) b
   was (Now.atom-block a p b) = atom-block a (was p) b

@@ -10,10 +10,10 @@ use lib.Dec.{leb, leb→le}
 use Rattle.language.specs.Tokens.{Token, kind-at, value-at, entry}
 use Rattle.language.specs.Trees.{Literal, Program}
 use Rattle.language.specs.Grammar.{Of, tier, Sym, program, def, formals, params, type, seq, tail, bound, item, assign, atom, actuals, args}
-use Rattle.language.specs.Grammar.{constants, Reads, Reading, program-seq, program-def, def-is, formals-none, formals-some, params-one}
-use Rattle.language.specs.Grammar.{params-more, type-basic, type-ref, seq-tail, seq-item, seq-more, tail-let, tail-if, let-in, item-if, item-while}
-use Rattle.language.specs.Grammar.{item-assign, assign-one, assign-to, chain-one, chain-more, cmp-one, cmp-two, un-prefix, un-atom, atom-name}
-use Rattle.language.specs.Grammar.{atom-call, atom-number, atom-constant, atom-group, atom-block, actuals-none, actuals-some, args-one, args-more}
+use Rattle.language.specs.Grammar.{constants, Reads, Reading, program-seq, program-def, def-is, formals-none, formals-some, params-one, params-more}
+use Rattle.language.specs.Grammar.{type-basic, type-ref, seq-tail, seq-item, seq-more, tail-let, tail-if, let-in, item-if, item-while, item-assign}
+use Rattle.language.specs.Grammar.{assign-one, assign-to, chain-one, chain-more, cmp-one, cmp-two, un-prefix, un-atom, atom-name, atom-call}
+use Rattle.language.specs.Grammar.{atom-number, atom-float, atom-constant, atom-group, atom-block, actuals-none, actuals-some, args-one, args-more}
 use Rattle.language.proofs.Grammar.Entries.{every, entry-passes}
 use Rattle.language.proofs.Grammar.FirstTokens.{grows}
 use Rattle.language.proofs.Grammar.OwnTokens.{Own, plain, worth-of, owns, all-owns, def-owns, program-owns, All, all-none, all-more}
@@ -110,6 +110,7 @@ module _ (ts : List Token) where
   rises (atom-name {i} a) = leaf i 0 (omega arith) (omega arith) (omega arith)
   rises (atom-call {i} a b p) = next i (rises p) (omega arith) (omega arith)
   rises (atom-number {i} a) = leaf i (value-at ts i) (omega arith) (omega arith) (omega arith)
+  rises (atom-float {i} a) = leaf i 0 (omega arith) (omega arith) (omega arith)
   rises (atom-constant {i} {l} a) = leaf i (worth-of l) (omega arith) (constant-worth i a) (omega arith)
   rises (atom-group {i} a p b) = next i (until (rises p) (omega arith)) (omega arith) (omega arith)
   rises (atom-block {i} a p b) = next i (until (rises p) (omega arith)) (omega arith) (omega arith)

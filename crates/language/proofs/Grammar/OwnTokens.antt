@@ -4,8 +4,8 @@ use mathlib.Core.List.{List, [], _∷_, _++_}
 use Prim.Native.Nat.{ℕ, _+_}
 use native.Mathlib.Omega.{arith}
 use lib.ListN.{length, length-append}
-use Rattle.language.specs.Trees.{Literal, whole, truth, trivial, Exp, name, literal, unary, binary, follow, group, block, call, bind}
-use Rattle.language.specs.Trees.{branch, loop, Exps, last, more, own, Def, Program, nodes, all-nodes, def-nodes, program-nodes}
+use Rattle.language.specs.Trees.{Literal, whole, truth, trivial, decimal, Exp, name, literal, unary, binary, follow, group, block, call}
+use Rattle.language.specs.Trees.{bind, branch, loop, Exps, last, more, own, Def, Program, nodes, all-nodes, def-nodes, program-nodes}
 
 -- ---- what a node takes
 
@@ -21,6 +21,7 @@ abbrev pub worth-of : Literal → ℕ
 worth-of (whole n) = n
 worth-of (truth b) = 0
 worth-of trivial = 0
+worth-of (decimal x) = 0
 
 -- of all nodes of a tree, in the order of the text
 unfoldable mutual

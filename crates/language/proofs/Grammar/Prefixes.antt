@@ -8,11 +8,11 @@ use lib.ListN.{length, List·getD-eq-default}
 use lib.Dec.{T, ltb, ltb→lt}
 use Rattle.language.specs.Tokens.{Token, Entry, past, At, Means, kind-at, entry}
 use Rattle.language.specs.Trees.{Binary}
-use Rattle.language.specs.Grammar.{Of, Sym, Level, or, and, sum, prod, operators, comparisons, prefixes, constants, basics, Reads}
-use Rattle.language.specs.Grammar.{program-seq, program-def, def-is, formals-none, formals-some, params-one, params-more, type-basic}
-use Rattle.language.specs.Grammar.{type-ref, seq-tail, seq-item, seq-more, tail-let, tail-if, let-in, item-if, item-while, item-assign}
-use Rattle.language.specs.Grammar.{assign-one, assign-to, chain-one, chain-more, cmp-one, cmp-two, un-prefix, un-atom, atom-name, atom-call}
-use Rattle.language.specs.Grammar.{atom-number, atom-constant, atom-group, atom-block, actuals-none, actuals-some, args-one, args-more}
+use Rattle.language.specs.Grammar.{Of, Sym, Level, or, and, sum, prod, operators, comparisons, prefixes, constants, basics, Reads, program-seq}
+use Rattle.language.specs.Grammar.{program-def, def-is, formals-none, formals-some, params-one, params-more, type-basic, type-ref, seq-tail}
+use Rattle.language.specs.Grammar.{seq-item, seq-more, tail-let, tail-if, let-in, item-if, item-while, item-assign, assign-one, assign-to}
+use Rattle.language.specs.Grammar.{chain-one, chain-more, cmp-one, cmp-two, un-prefix, un-atom, atom-name, atom-call, atom-number, atom-float}
+use Rattle.language.specs.Grammar.{atom-constant, atom-group, atom-block, actuals-none, actuals-some, args-one, args-more}
 use Rattle.language.proofs.Grammar.Entries.{every, entry-passes}
 use Rattle.language.proofs.Grammar.FirstTokens.{grows}
 
@@ -70,6 +70,7 @@ module _ (ts : List Token) where
   within (atom-name {i} a) = omega (arith, inside i a (omega arith))
   within (atom-call a b p) = within p
   within (atom-number {i} a) = omega (arith, inside i a (omega arith))
+  within (atom-float {i} a) = omega (arith, inside i a (omega arith))
   within (atom-constant {i} a) = omega (arith, in-table i constants tt a)
   within (atom-group {k = k} a p b) = omega (arith, inside k b (omega arith))
   within (atom-block {k = k} a p b) = omega (arith, inside k b (omega arith))
@@ -170,6 +171,7 @@ module _ {ts us : List Token} {e : ℕ} (alike : Alike ts us e) where
   kept (atom-call {i} a b p) h =
       let x = grows ts p in (_, atom-call (kept-at i a (omega arith)) (kept-at (i + 1) b (omega arith)) (kept p h .1))
   kept (atom-number {i} a) h = (_, atom-number (kept-at i a (omega arith)))
+  kept (atom-float {i} a) h = (_, atom-float (kept-at i a (omega arith)))
   kept (atom-constant {i} a) h = (_, atom-constant (kept-means i constants a (omega arith)))
   kept (atom-group {i} {k} a p b) h =
       let x = grows ts p in (_, atom-group (kept-at i a (omega arith)) (kept p (omega arith) .1) (kept-at k b (omega arith)))

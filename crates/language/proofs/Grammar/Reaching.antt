@@ -5,9 +5,9 @@ use Prim.Native.Nat.{ℕ, zero, suc, _+_, _*_, _≤_}
 use native.Mathlib.Omega.{arith}
 use Rattle.language.specs.Tokens.{Token, At, SEMI}
 use Rattle.language.specs.Trees.{Exp, name, literal, unary, binary, follow, group, block, call, bind, branch, loop}
-use Rattle.language.specs.Grammar.{Of, Sym, Tier, tier, seq, tail, bound, item, assign, atom, Reads, seq-tail, seq-item, seq-more, tail-let}
-use Rattle.language.specs.Grammar.{tail-if, let-in, item-if, item-while, item-assign, assign-one, assign-to, chain-one, chain-more, cmp-one}
-use Rattle.language.specs.Grammar.{cmp-two, un-prefix, un-atom, atom-name, atom-call, atom-number, atom-constant, atom-group, atom-block}
+use Rattle.language.specs.Grammar.{Of, Sym, Tier, tier, seq, tail, bound, item, assign, atom, Reads, seq-tail, seq-item, seq-more, tail-let, tail-if}
+use Rattle.language.specs.Grammar.{let-in, item-if, item-while, item-assign, assign-one, assign-to, chain-one, chain-more, cmp-one, cmp-two}
+use Rattle.language.specs.Grammar.{un-prefix, un-atom, atom-name, atom-call, atom-number, atom-float, atom-constant, atom-group, atom-block}
 use Rattle.language.proofs.Grammar.FirstTokens.{grows}
 
 -- what a `;` goes on with; each is read as the one below it, or by fewer tokens
@@ -60,6 +60,7 @@ module _ {ts : List Token} where
   atom-does-not (atom-name a) e = e
   atom-does-not (atom-call a b p) e = e
   atom-does-not (atom-number a) e = e
+  atom-does-not (atom-float a) e = e
   atom-does-not (atom-constant a) e = e
   atom-does-not (atom-group a p b) e = e
   atom-does-not (atom-block a p b) e = e

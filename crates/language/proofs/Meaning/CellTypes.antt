@@ -7,10 +7,11 @@ use Prim.Native.Nat.{ℕ, suc, _≤_}
 use native.Mathlib.Omega.{arith}
 use lib.ListN.{length}
 use lib.IntN.{ℤ}
+use lib.Ieee.{Float}
 use lib.Dec.{eqb, leb}
 use borrow.Author.Tests.{eqb-true}
 use Rattle.language.specs.Tokens.{same}
-use Rattle.language.specs.Trees.{Name, Ty, int, bool, unit, ref, Scope, empty, push, nearest}
+use Rattle.language.specs.Trees.{Name, Ty, int, bool, unit, float, ref, Scope, empty, push, nearest}
 use Rattle.language.specs.State.{Value, number, flag, nothing, cell, Cells, no-cell, live, held, store, keep, State}
 use Rattle.language.specs.Meaning.{Env}
 
@@ -65,6 +66,7 @@ module _ (R : ℤ → Type 0) (Σ : List Ty) where
   -- v is a value of the type t
   pub data Fits : Value → Ty → Type 0 where
     fits-int : {z : ℤ} → R z → Fits (number z) int
+    fits-float : {x : Float} → Fits (Value.float x) float
     fits-bool : {b : Bool} → Fits (flag b) bool
     fits-unit : Fits nothing unit
     fits-ref : {b : ℕ} {t : Ty} → Born Σ b t → Fits (cell b) (ref t)
@@ -122,6 +124,7 @@ module _ {R : ℤ → Type 0} (Σ : List Ty) where
 
 pub fits-grows : {R : ℤ → Type 0} {Σ Σ′ : List Ty} {v : Value} {t : Ty} → Grows Σ Σ′ → Fits R Σ v t → Fits R Σ′ v t
 fits-grows g (fits-int r) = fits-int r
+fits-grows g fits-float = fits-float
 fits-grows g fits-bool = fits-bool
 fits-grows g fits-unit = fits-unit
 fits-grows g (fits-ref p) = fits-ref (born-grows g p)

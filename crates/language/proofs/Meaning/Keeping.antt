@@ -6,6 +6,7 @@ use mathlib.Core.List.{List, [], _∷_}
 use mathlib.Core.Option.{Option, none, some}
 use Prim.Native.Nat.{ℕ, zero, suc, _≤_, _<_}
 use lib.IntN.{ℤ, pos, negsuc}
+use lib.Ieee.{Float}
 use borrow.Author.Tests.{leb-true, ltb-true}
 use Rattle.language.specs.Sizes.{ACTIVE, CELLS, BYTE}
 use Rattle.language.specs.Tokens.{same}
@@ -13,9 +14,9 @@ use Rattle.language.specs.Trees.{Name, Unary, minus, not, fetch, new, Bi
 use Rattle.language.specs.Trees.{assign, Exp, name, literal, unary, binary, follow, group, block, call, bind, branch}
 use Rattle.language.specs.Trees.{loop, Exps, last, more, own, Param, Def, Program, Scope, empty, push, nearest}
 use Rattle.language.specs.State.{Stop, Value, count, store, keep, State, with-units, with-cells, with-birth}
-use Rattle.language.specs.State.{with-byte, Outcome, value, stop, stuck, then, choose, when-some, want}
-use Rattle.language.specs.Meaning.{Env, charge, begin, fit, create, apply-unary, apply-binary, emit, put, Fun, putchar}
-use Rattle.language.specs.Meaning.{defined, enter, arguments, invoke, passes, step, eval, functions, start, run}
+use Rattle.language.specs.State.{with-byte, Outcome, value, stop, stuck, then, choose, when-some, want, alike}
+use Rattle.language.specs.Meaning.{Env, charge, begin, fit, create, apply-unary, quotient, apply-binary, emit, put, Fun}
+use Rattle.language.specs.Meaning.{putchar, defined, enter, arguments, invoke, passes, step, eval, functions, start, run}
 use Rattle.language.proofs.Grammar.OwnTokens.{Own, owns, all-owns, def-owns, program-owns, All, first, rest, front, back, everywhere, main-owned, own-of}
 use Rattle.language.proofs.Meaning.CellTypes.{none-some, some-one}
 
@@ -68,6 +69,12 @@ module _ (I : State → Type 0) (Q : ℕ → Type 0) where
   keeps-want : {A : Type 0} (o : Option A) (f : A → Outcome) → ((a : A) → Keeps I Q (f a)) → Keeps I Q (want o f)
   keeps-want o f h = keeps-when o f _ (λ a _. h a) keeps-stuck
 
+  keeps-alike : (v w : Value) (f : ℤ → ℤ → Outcome) (g : Float → Float → Outcome) → ((x y : ℤ) → Keeps I Q (f x y))
+      → ((x y : Float) → Keeps I Q (g x y)) → Keeps I Q (alike v w f g)
+  unfolding alike
+  keeps-alike v w f g a b =
+      keeps-when _ _ _ (λ x _. keeps-want _ _ λ y. a x y) (keeps-want _ _ λ x. keeps-want _ _ λ y. b x y)
+
   keeps-enter : (ps : List Param) (vs : List Value) (env : Env) (f : Env → Outcome) → ((env : Env) → Keeps I Q (f env))
       → Keeps I Q (enter ps vs env f)
   unfolding enter
@@ -93,13 +100,13 @@ module _ (I : State → Type 0) (Q : ℕ → Type 0) where
           keeps-choose _ _ _ (λ e. keeps-value (c .bear s v (ltb-true (count (s .cells)) CELLS e) h)) (keeps-stop q h)
 
       keeps-binary : (o : Binary) (v x : Value) (s : State) → I s → Keeps I Q (apply-binary i o v x s)
-      unfolding apply-binary
-      keeps-binary add v x s h = keeps-want _ _ λ _. keeps-want _ _ λ _. keeps-fit _ s h
-      keeps-binary sub v x s h = keeps-want _ _ λ _. keeps-want _ _ λ _. keeps-fit _ s h
-      keeps-binary mul v x s h = keeps-want _ _ λ _. keeps-want _ _ λ _. keeps-fit _ s h
+      unfolding apply-binary quotient
+      keeps-binary add v x s h = keeps-alike _ _ _ _ (λ _ _. keeps-fit _ s h) λ _ _. keeps-value h
+      keeps-binary sub v x s h = keeps-alike _ _ _ _ (λ _ _. keeps-fit _ s h) λ _ _. keeps-value h
+      keeps-binary mul v x s h = keeps-alike _ _ _ _ (λ _ _. keeps-fit _ s h) λ _ _. keeps-value h
       keeps-binary div v x s h =
-          keeps-want _ _ λ _. keeps-want _ _ λ _. keeps-choose _ _ _ (λ _. keeps-stop q h) (keeps-fit _ s h)
-      keeps-binary less v x s h = keeps-want _ _ λ _. keeps-want _ _ λ _. keeps-value h
+          keeps-alike _ _ _ _ (λ _ _. keeps-choose _ _ _ (λ _. keeps-stop q h) (keeps-fit _ s h)) λ _ _. keeps-value h
+      keeps-binary less v x s h = keeps-alike _ _ _ _ (λ _ _. keeps-value h) λ _ _. keeps-value h
       keeps-binary equal v x s h = keeps-want _ _ λ _. keeps-want _ _ λ _. keeps-value h
       keeps-binary and v x s h = keeps-want _ _ λ _. keeps-want _ _ λ _. keeps-value h
       keeps-binary or v x s h = keeps-want _ _ λ _. keeps-want _ _ λ _. keeps-value h

@@ -6,12 +6,13 @@ use mathlib.Core.Option.{Option, none, some}
 use Prim.Native.Nat.{ℕ, zero, suc, _+_, _≤_}
 use native.Mathlib.Omega.{arith}
 use lib.IntN.{ℤ, pos, negsuc}
+use lib.Ieee.{Float}
 use Rattle.language.specs.Sizes.{ACTIVE}
 use Rattle.language.specs.Trees.{Unary, minus, not, fetch, new, Binary, add, sub, mul, div, less, equal, and, or, assign, Exp, name, literal, unary}
 use Rattle.language.specs.Trees.{binary, follow, group, block, call, bind, branch, loop, Exps, last, more, Param, Program, Scope, empty, push}
-use Rattle.language.specs.State.{Stop, no-unit, Value, State, Outcome, value, stop, stuck, then, choose, when-some, want}
-use Rattle.language.specs.Meaning.{Env, charge, begin, fit, create, apply-unary, apply-binary, emit, put, Fun}
-use Rattle.language.specs.Meaning.{putchar, defined, enter, arguments, invoke, passes, step, eval, run, start}
+use Rattle.language.specs.State.{Stop, no-unit, Value, State, Outcome, value, stop, stuck, then, choose, when-some, want, alike}
+use Rattle.language.specs.Meaning.{Env, charge, begin, fit, create, apply-unary, quotient, apply-binary, emit, put}
+use Rattle.language.specs.Meaning.{Fun, putchar, defined, enter, arguments, invoke, passes, step, eval, run, start}
 
 abbrev pub plus : ℕ → State → State
 plus k s = record { units = s .units + k; births = s .births; room = s .room; cells = s .cells; printed = s .printed }
@@ -46,6 +47,12 @@ module _ (k : ℕ) where
   more-want : {A : Type 0} (o : Option A) (f g : A → Outcome) → ((a : A) → More k (f a) (g a)) → More k (want o f) (want o g)
   more-want o f g h = more-when o f g _ _ h more-stuck
 
+  more-alike : (v w : Value) {f g : ℤ → ℤ → Outcome} {f′ g′ : Float → Float → Outcome} → ((x y : ℤ) → More k (f x y) (g x y))
+      → ((x y : Float) → More k (f′ x y) (g′ x y)) → More k (alike v w f f′) (alike v w g g′)
+  unfolding alike
+  more-alike v w a b =
+      more-when _ _ _ _ _ (λ x. more-want _ _ _ λ y. a x y) (more-want _ _ _ λ x. more-want _ _ _ λ y. b x y)
+
   more-charge : (n m i : ℕ) (s : State) (f g : State → Outcome) → m ≡ n + k → ((s : State) → More k (f s) (g (plus k s)))
       → More k (charge n i s f) (charge m i (plus k s) g)
   unfolding charge
@@ -71,12 +78,12 @@ module _ (k : ℕ) where
   more-unary i new v s = more-choose _ _ _ _ _ more-value more-stop
 
   more-binary : (i : ℕ) (o : Binary) (v w : Value) (s : State) → More k (apply-binary i o v w s) (apply-binary i o v w (plus k s))
-  unfolding apply-binary
-  more-binary i add v w s = more-want _ _ _ λ x. more-want _ _ _ λ y. more-fit i _ s
-  more-binary i sub v w s = more-want _ _ _ λ x. more-want _ _ _ λ y. more-fit i _ s
-  more-binary i mul v w s = more-want _ _ _ λ x. more-want _ _ _ λ y. more-fit i _ s
-  more-binary i div v w s = more-want _ _ _ λ x. more-want _ _ _ λ y. more-choose _ _ _ _ _ more-stop (more-fit i _ s)
-  more-binary i less v w s = more-want _ _ _ λ x. more-want _ _ _ λ y. more-value
+  unfolding apply-binary quotient
+  more-binary i add v w s = more-alike _ _ (λ x y. more-fit i _ s) λ x y. more-value
+  more-binary i sub v w s = more-alike _ _ (λ x y. more-fit i _ s) λ x y. more-value
+  more-binary i mul v w s = more-alike _ _ (λ x y. more-fit i _ s) λ x y. more-value
+  more-binary i div v w s = more-alike _ _ (λ x y. more-choose _ _ _ _ _ more-stop (more-fit i _ s)) λ x y. more-value
+  more-binary i less v w s = more-alike _ _ (λ x y. more-value) λ x y. more-value
   more-binary i equal v w s = more-want _ _ _ λ x. more-want _ _ _ λ y. more-value
   more-binary i and v w s = more-want _ _ _ λ x. more-want _ _ _ λ y. more-value
   more-binary i or v w s = more-want _ _ _ λ x. more-want _ _ _ λ y. more-value

@@ -10,8 +10,8 @@ use borrow.Author.Tests.{eqb-true}
 use Rattle.language.specs.Sizes.{ACTIVE}
 use Rattle.language.specs.Tokens.{same}
 use Rattle.language.specs.Trees.{Name, Ty, Exp, Exps, Def, Program, Scope, empty, push, nearest, PUTCHAR}
-use Rattle.language.specs.Types.{Sig, Typed, t-name, t-whole, t-truth, t-trivial, t-unary, t-binary, t-follow, t-group, t-block, t-call, t-bind}
-use Rattle.language.specs.Types.{t-branch, t-loop, TypedAll, t-last, t-more, fine, with-def, TypedFrom, typed-main, typed-def, given, HasType}
+use Rattle.language.specs.Types.{Sig, Typed, t-name, t-whole, t-truth, t-trivial, t-decimal, t-unary, t-binary, t-follow, t-group, t-block, t-call}
+use Rattle.language.specs.Types.{t-bind, t-branch, t-loop, TypedAll, t-last, t-more, fine, with-def, TypedFrom, typed-main, typed-def, given, HasType}
 use Rattle.language.specs.State.{Outcome, value, stop, stuck}
 use Rattle.language.specs.Meaning.{in-range, Fun, putchar, functions, start, run}
 use Rattle.language.proofs.Grammar.OwnTokens.{Own, owns, def-owns, program-owns, front, back, everywhere, main-owned}
@@ -52,6 +52,7 @@ module _ (Δ Δ′ : Scope Sig) (k : Knows Δ Δ′) where
     weaken t-whole = t-whole
     weaken t-truth = t-truth
     weaken t-trivial = t-trivial
+    weaken t-decimal = t-decimal
     weaken (t-unary p h) = t-unary (weaken p) h
     weaken (t-binary p q h) = t-binary (weaken p) (weaken q) h
     weaken (t-follow p q) = t-follow (weaken p) (weaken q)

@@ -6,20 +6,22 @@ use mathlib.Core.Option.{Option, none, some}
 use Prim.Native.Nat.{ℕ, zero, suc}
 use native.Mathlib.Omega.{arith}
 use lib.IntN.{ℤ, pos, negsuc}
+use lib.Ieee.{Float}
 use lib.Dec.{leb}
 use borrow.Author.Tests.{leb-true, le-leb}
 use Rattle.language.specs.Sizes.{BYTE}
-use Rattle.language.specs.Trees.{Name, Ty, int, bool, unit, ref, Unary, Binary, Exp, Exps, Param, Scope, empty, push, nearest}
-use Rattle.language.specs.Types.{Sig, UnopType, u-minus, u-not, u-fetch, u-new, BinopType, b-add, b-sub, b-mul, b-div, b-less, b-equal}
-use Rattle.language.specs.Types.{b-and, b-or, b-assign, Typed, t-name, t-whole, t-truth, t-trivial, t-unary, t-binary, t-follow, t-group}
-use Rattle.language.specs.Types.{t-block, t-call, t-bind, t-branch, t-loop, TypedAll, t-last, t-more, Takes, takes-none, takes-more}
-use Rattle.language.specs.State.{Stop, Value, flag, State, Outcome, value, stop, then, as-int, as-bool, as-unit, as-cell, choose, when-some, want, only}
-use Rattle.language.specs.Meaning.{Env, charge, begin, in-range, fit, literal-value, create, apply-unary, apply-binary}
+use Rattle.language.specs.Trees.{Name, Ty, int, bool, unit, float, ref, Unary, Binary, Exp, Exps, Param, Scope, empty, push, nearest}
+use Rattle.language.specs.Types.{Sig, Arithmetic, of-int, of-float, UnopType, u-minus, u-not, u-fetch, u-new, BinopType, b-add, b-sub, b-mul, b-div}
+use Rattle.language.specs.Types.{b-less, b-equal, b-and, b-or, b-assign, Typed, t-name, t-whole, t-truth, t-trivial, t-decimal, t-unary, t-binary}
+use Rattle.language.specs.Types.{t-follow, t-group, t-block, t-call, t-bind, t-branch, t-loop, TypedAll, t-last, t-more, Takes, takes-none, takes-more}
+use Rattle.language.specs.State.{Stop, Value, flag, State, Outcome, value, stop, then, as-int}
+use Rattle.language.specs.State.{as-bool, as-unit, as-cell, choose, when-some, want, alike, only}
+use Rattle.language.specs.Meaning.{Env, charge, begin, in-range, fit, literal-value, create, apply-unary, quotient, apply-binary}
 use Rattle.language.specs.Meaning.{settles, emit, put, Fun, putchar, defined, enter, arguments, invoke, passes, step, eval}
 use Rattle.language.proofs.Grammar.OwnTokens.{Own, owns, all-owns, All, first, rest, front, back}
-use Rattle.language.proofs.Meaning.CellTypes.{none-some, some-one, Born, newest, Grows, stays, gains, grows-trans, Fits, fits-int, fits-bool}
-use Rattle.language.proofs.Meaning.CellTypes.{fits-unit, fits-ref, FitsAll, fits-none, fits-more, holds-live, EnvFits, env-empty, env-push}
-use Rattle.language.proofs.Meaning.CellTypes.{StateFits, keep-holds, store-holds, held-fits, env-find, fits-grows, env-grows, holds-grows}
+use Rattle.language.proofs.Meaning.CellTypes.{none-some, some-one, Born, newest, Grows, stays, gains, grows-trans, Fits, fits-int, fits-float}
+use Rattle.language.proofs.Meaning.CellTypes.{fits-bool, fits-unit, fits-ref, FitsAll, fits-none, fits-more, holds-live, EnvFits, env-empty}
+use Rattle.language.proofs.Meaning.CellTypes.{env-push, StateFits, keep-holds, store-holds, held-fits, env-find, fits-grows, env-grows, holds-grows}
 
 -- not stuck; a value is of the type t, under the cells born up to then
 pub data Good (R : ℤ → Type 0) (Σ : List Ty) (t : Ty) : Outcome → Type 0 where
@@ -74,6 +76,16 @@ module _ {R : ℤ → Type 0} (wide : (z : ℤ) → in-range z ≡ true → R z)
   unfolding when-some
   good-cell k (fits-ref {b} p) f = f b p
 
+  good-ints : {Σ : List Ty} {u : Ty} {v w : Value} (f : ℤ → ℤ → Outcome) (g : Float → Float → Outcome) → Fits R Σ v int
+      → Fits R Σ w int → ((x y : ℤ) → Good R Σ u (f x y)) → Good R Σ u (alike v w f g)
+  unfolding alike when-some
+  good-ints f g (fits-int {z = x} p) (fits-int {z = y} q) h = h x y
+
+  good-floats : {Σ : List Ty} {u : Ty} {v w : Value} (f : ℤ → ℤ → Outcome) (g : Float → Float → Outcome) → Fits R Σ v float
+      → Fits R Σ w float → ((x y : Float) → Good R Σ u (g x y)) → Good R Σ u (alike v w f g)
+  unfolding alike when-some
+  good-floats f g (fits-float {x = x}) (fits-float {x = y}) h = h x y
+
   pub good-choose : {Σ : List Ty} {u : Ty} (b : Bool) (x y : Unit {0} → Outcome) → (b ≡ true → Good R Σ u (x tt))
       → (b ≡ false → Good R Σ u (y tt)) → Good R Σ u (choose b x y)
   unfolding choose
@@ -101,6 +113,10 @@ module _ {R : ℤ → Type 0} (wide : (z : ℤ) → in-range z ≡ true → R z)
   unfolding fit
   good-fit i z s p = good-choose _ _ _ (λ e. good-value stays p (fits-int (wide z e))) λ _. good-stop
 
+  good-quotient : {Σ : List Ty} (i : ℕ) (x y : ℤ) (s : State) → StateFits R Σ s → Good R Σ int (quotient i x y s)
+  unfolding quotient
+  good-quotient i x y s p = good-choose _ _ _ (λ _. good-stop) λ _. good-fit i _ s p
+
   good-create : {Σ : List Ty} {t : Ty} (i : ℕ) (v : Value) (s : State) → StateFits R Σ s → Fits R Σ v t → Good R Σ (ref t) (create i v s)
   unfolding create
   good-create i v s p q =
@@ -123,11 +139,16 @@ module _ {R : ℤ → Type 0} (wide : (z : ℤ) → in-range z ≡ true → R z)
   pub binary-good : {Σ : List Ty} {o : Binary} {t u r : Ty} (i : ℕ) (v w : Value) (s : State)
       → BinopType o t u r → StateFits R Σ s → Fits R Σ v t → Fits R Σ w u → Good R Σ r (apply-binary i o v w s)
   unfolding apply-binary
-  binary-good i v w s b-add p q r = good-int _ q λ x. good-int _ r λ y. good-fit i _ s p
-  binary-good i v w s b-sub p q r = good-int _ q λ x. good-int _ r λ y. good-fit i _ s p
-  binary-good i v w s b-mul p q r = good-int _ q λ x. good-int _ r λ y. good-fit i _ s p
-  binary-good i v w s b-div p q r = good-int _ q λ x. good-int _ r λ y. good-choose _ _ _ (λ _. good-stop) λ _. good-fit i _ s p
-  binary-good i v w s b-less p q r = good-int _ q λ x. good-int _ r λ y. good-value stays p fits-bool
+  binary-good i v w s (b-add of-int) p q r = good-ints _ _ q r λ x y. good-fit i _ s p
+  binary-good i v w s (b-add of-float) p q r = good-floats _ _ q r λ x y. good-value stays p fits-float
+  binary-good i v w s (b-sub of-int) p q r = good-ints _ _ q r λ x y. good-fit i _ s p
+  binary-good i v w s (b-sub of-float) p q r = good-floats _ _ q r λ x y. good-value stays p fits-float
+  binary-good i v w s (b-mul of-int) p q r = good-ints _ _ q r λ x y. good-fit i _ s p
+  binary-good i v w s (b-mul of-float) p q r = good-floats _ _ q r λ x y. good-value stays p fits-float
+  binary-good i v w s (b-div of-int) p q r = good-ints _ _ q r λ x y. good-quotient i x y s p
+  binary-good i v w s (b-div of-float) p q r = good-floats _ _ q r λ x y. good-value stays p fits-float
+  binary-good i v w s (b-less of-int) p q r = good-ints _ _ q r λ x y. good-value stays p fits-bool
+  binary-good i v w s (b-less of-float) p q r = good-floats _ _ q r λ x y. good-value stays p fits-bool
   binary-good i v w s b-equal p q r = good-int _ q λ x. good-int _ r λ y. good-value stays p fits-bool
   binary-good i v w s b-and p q r = good-bool _ q λ x _. good-bool _ r λ y _. good-value stays p fits-bool
   binary-good i v w s b-or p q r = good-bool _ q λ x _. good-bool _ r λ y _. good-value stays p fits-bool
@@ -147,11 +168,11 @@ module _ {R : ℤ → Type 0} (wide : (z : ℤ) → in-range z ≡ true → R z)
   -- where the left side settles it, its value is the result
   pub settled : {Σ : List Ty} {o : Binary} {t u r : Ty} {v : Value} → BinopType o t u r → settles o v ≡ true → Fits R Σ v t → Fits R Σ v r
   unfolding settles
-  settled b-add e p = absurd (false-true e)
-  settled b-sub e p = absurd (false-true e)
-  settled b-mul e p = absurd (false-true e)
-  settled b-div e p = absurd (false-true e)
-  settled b-less e p = absurd (false-true e)
+  settled (b-add a) e p = absurd (false-true e)
+  settled (b-sub a) e p = absurd (false-true e)
+  settled (b-mul a) e p = absurd (false-true e)
+  settled (b-div a) e p = absurd (false-true e)
+  settled (b-less a) e p = absurd (false-true e)
   settled b-equal e p = absurd (false-true e)
   settled b-and e p = p
   settled b-or e p = p
@@ -230,6 +251,7 @@ module _ {R : ℤ → Type 0} (wide : (z : ℤ) → in-range z ≡ true → R z)
     step-good env s t-whole m h p = good-value stays p (fits-int (first m))
     step-good env s t-truth m h p = good-value stays p fits-bool
     step-good env s t-trivial m h p = good-value stays p fits-unit
+    step-good env s t-decimal m h p = good-value stays p fits-float
     step-good env s (t-unary {i = i} a b) m h p =
         good-then _ (safe env s a (rest m) h p) λ Σ₁ v s₁ g₁ p₁ q₁. unary-good i v s₁ b p₁ q₁
     step-good env s (t-binary {i = i} {e = e} a b c) m h p =

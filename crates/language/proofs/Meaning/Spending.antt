@@ -6,12 +6,14 @@ use mathlib.Core.Option.{Option, none, some}
 use Prim.Native.Nat.{ℕ, zero, suc, _+_, _-_, _≤_}
 use native.Mathlib.Omega.{arith}
 use lib.IntN.{ℤ, pos, negsuc}
+use lib.Ieee.{Float}
 use Rattle.language.specs.Sizes.{ACTIVE}
 use Rattle.language.specs.Trees.{Unary, minus, not, fetch, new, Binary, add, sub, mul, div, less, equal, and, or, assign, Exp, name, literal, unary}
 use Rattle.language.specs.Trees.{binary, follow, group, block, call, bind, branch, loop, Exps, last, more, own, Param, Program, Scope, empty, push}
-use Rattle.language.specs.State.{Stop, no-unit, Value, nothing, State, Outcome, value, stop, stuck, then, as-bool, as-unit, choose, when-some, want}
-use Rattle.language.specs.Meaning.{Env, charge, begin, fit, create, apply-unary, apply-binary, emit, put, Fun}
-use Rattle.language.specs.Meaning.{putchar, defined, enter, arguments, invoke, passes, step, eval, run, start}
+use Rattle.language.specs.State.{Stop, no-unit, Value, nothing, State, Outcome, value, stop}
+use Rattle.language.specs.State.{stuck, then, as-bool, as-unit, choose, when-some, want, alike}
+use Rattle.language.specs.Meaning.{Env, charge, begin, fit, create, apply-unary, quotient, apply-binary, emit, put}
+use Rattle.language.specs.Meaning.{Fun, putchar, defined, enter, arguments, invoke, passes, step, eval, run, start}
 
 -- at most u units are left, and with the births they make at most w
 pub record Within (u w : ℕ) (s : State) : Type 0 where
@@ -52,17 +54,24 @@ module _ {u w : ℕ} where
   spent-want : {A : Type 0} (o : Option A) (f : A → Outcome) → ((a : A) → Spent u w (f a)) → Spent u w (want o f)
   spent-want o f h = spent-when o f _ h spent-stuck
 
+  spent-alike : (v x : Value) (f : ℤ → ℤ → Outcome) (g : Float → Float → Outcome) → ((y z : ℤ) → Spent u w (f y z))
+      → ((y z : Float) → Spent u w (g y z)) → Spent u w (alike v x f g)
+  unfolding alike
+  spent-alike v x f g a b =
+      spent-when _ _ _ (λ y. spent-want _ _ λ z. a y z) (spent-want _ _ λ y. spent-want _ _ λ z. b y z)
+
   spent-fit : (i : ℕ) (z : ℤ) (s : State) → Within u w s → Spent u w (fit i z s)
   unfolding fit
   spent-fit i z s h = spent-choose _ _ _ (spent-value h) (spent-stop h)
 
   spent-binary : (i : ℕ) (o : Binary) (v x : Value) (s : State) → Within u w s → Spent u w (apply-binary i o v x s)
-  unfolding apply-binary
-  spent-binary i add v x s h = spent-want _ _ λ _. spent-want _ _ λ _. spent-fit i _ s h
-  spent-binary i sub v x s h = spent-want _ _ λ _. spent-want _ _ λ _. spent-fit i _ s h
-  spent-binary i mul v x s h = spent-want _ _ λ _. spent-want _ _ λ _. spent-fit i _ s h
-  spent-binary i div v x s h = spent-want _ _ λ _. spent-want _ _ λ _. spent-choose _ _ _ (spent-stop h) (spent-fit i _ s h)
-  spent-binary i less v x s h = spent-want _ _ λ _. spent-want _ _ λ _. spent-value h
+  unfolding apply-binary quotient
+  spent-binary i add v x s h = spent-alike _ _ _ _ (λ _ _. spent-fit i _ s h) λ _ _. spent-value h
+  spent-binary i sub v x s h = spent-alike _ _ _ _ (λ _ _. spent-fit i _ s h) λ _ _. spent-value h
+  spent-binary i mul v x s h = spent-alike _ _ _ _ (λ _ _. spent-fit i _ s h) λ _ _. spent-value h
+  spent-binary i div v x s h =
+      spent-alike _ _ _ _ (λ _ _. spent-choose _ _ _ (spent-stop h) (spent-fit i _ s h)) λ _ _. spent-value h
+  spent-binary i less v x s h = spent-alike _ _ _ _ (λ _ _. spent-value h) λ _ _. spent-value h
   spent-binary i equal v x s h = spent-want _ _ λ _. spent-want _ _ λ _. spent-value h
   spent-binary i and v x s h = spent-want _ _ λ _. spent-want _ _ λ _. spent-value h
   spent-binary i or v x s h = spent-want _ _ λ _. spent-want _ _ λ _. spent-value h

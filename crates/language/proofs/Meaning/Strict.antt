@@ -3,7 +3,7 @@
 -- the result. The written meaning asks when the operator is done, so a right side that stops could leave a wrong left side
 -- unnoticed. Of a program that has a type the two are the same: no operand of a wrong kind is ever there.
 use mathlib.Core.Path.{_≡_, refl, sym, subst}
-use mathlib.Core.Bool.{Bool, true, false}
+use mathlib.Core.Bool.{Bool, true, false, _||_}
 use mathlib.Core.List.{List, [], _∷_}
 use mathlib.Core.Option.{Option, none, some}
 use Prim.Native.Nat.{ℕ, zero, suc}
@@ -11,13 +11,14 @@ use lib.IntN.{ℤ}
 use Rattle.language.specs.Sizes.{ACTIVE}
 use Rattle.language.specs.Trees.{Ty, Binary, add, sub, mul, div, less, equal, and, or, assign, Exp, name, literal, unary, binary, follow}
 use Rattle.language.specs.Trees.{group, block, call, bind, branch, loop, Exps, last, more, own, Param, Program, Scope, empty, push, PUTCHAR}
-use Rattle.language.specs.Types.{Sig, BinopType, b-add, b-sub, b-mul, b-div, b-less, b-equal, b-and, b-or, b-assign, Typed, t-name, t-whole, t-truth}
-use Rattle.language.specs.Types.{t-trivial, t-unary, t-binary, t-follow, t-group, t-block, t-call, t-bind, t-branch, t-loop, given, HasType}
-use Rattle.language.specs.State.{Value, State, Outcome, value, stop, stuck, then, as-int, as-bool, as-cell, choose, when-some, want, too-deep}
+use Rattle.language.specs.Types.{Sig, of-int, of-float, BinopType, b-add, b-sub, b-mul, b-div, b-less, b-equal, b-and}
+use Rattle.language.specs.Types.{b-or, b-assign, Typed, t-name, t-whole, t-truth, t-trivial, t-decimal, t-unary}
+use Rattle.language.specs.Types.{t-binary, t-follow, t-group, t-block, t-call, t-bind, t-branch, t-loop, given, HasType}
+use Rattle.language.specs.State.{Value, State, Outcome, value, stop, stuck, then, as-int, as-float, as-bool, as-cell, choose, when-some, want, too-deep}
 use Rattle.language.specs.Meaning.{Env, charge, begin, in-range, apply-binary, settles, Fun, putchar, defined}
 use Rattle.language.specs.Meaning.{enter, arguments, invoke, passes, step, eval, functions, start, run}
 use Rattle.language.proofs.Grammar.OwnTokens.{owns, program-owns, rest, front, back, everywhere, main-owned}
-use Rattle.language.proofs.Meaning.CellTypes.{stays, Fits, fits-int, fits-bool, fits-ref, EnvFits}
+use Rattle.language.proofs.Meaning.CellTypes.{stays, Fits, fits-int, fits-float, fits-bool, fits-ref, EnvFits}
 use Rattle.language.proofs.Meaning.CellTypes.{env-empty, env-grows, fits-grows, StateFits, holds-none}
 use Rattle.language.proofs.Meaning.Safety.{Good, good-value, good-stop, Fair, Ready, Safe, good-then}
 use Rattle.language.proofs.Meaning.Safety.{good-choose, good-begin, binary-good, settled, step-good}
@@ -31,11 +32,11 @@ there (some a) = true
 
 -- v is of the kind that o wants on its left
 unfoldable pub suits : Binary → Value → Bool
-suits add v = there (as-int v)
-suits sub v = there (as-int v)
-suits mul v = there (as-int v)
-suits div v = there (as-int v)
-suits less v = there (as-int v)
+suits add v = there (as-int v) || there (as-float v)
+suits sub v = there (as-int v) || there (as-float v)
+suits mul v = there (as-int v) || there (as-float v)
+suits div v = there (as-int v) || there (as-float v)
+suits less v = there (as-int v) || there (as-float v)
 suits equal v = there (as-int v)
 suits and v = there (as-bool v)
 suits or v = there (as-bool v)
@@ -77,11 +78,16 @@ wide z e = tt
 -- a left side of the type that the operator wants is of the kind
 suits-typed : {Σ : List Ty} {o : Binary} {t u r : Ty} {v : Value} → BinopType o t u r → Fits Any Σ v t → suits o v ≡ true
 unfolding suits
-suits-typed b-add (fits-int r) = refl
-suits-typed b-sub (fits-int r) = refl
-suits-typed b-mul (fits-int r) = refl
-suits-typed b-div (fits-int r) = refl
-suits-typed b-less (fits-int r) = refl
+suits-typed (b-add of-int) (fits-int r) = refl
+suits-typed (b-add of-float) fits-float = refl
+suits-typed (b-sub of-int) (fits-int r) = refl
+suits-typed (b-sub of-float) fits-float = refl
+suits-typed (b-mul of-int) (fits-int r) = refl
+suits-typed (b-mul of-float) fits-float = refl
+suits-typed (b-div of-int) (fits-int r) = refl
+suits-typed (b-div of-float) fits-float = refl
+suits-typed (b-less of-int) (fits-int r) = refl
+suits-typed (b-less of-float) fits-float = refl
 suits-typed b-equal (fits-int r) = refl
 suits-typed b-and fits-bool = refl
 suits-typed b-or fits-bool = refl
@@ -111,6 +117,7 @@ module _ (Δ : Scope Sig) (fs : Scope Fun) (ready : Ready Any Δ fs) where
     strict-good env s t-whole m h p = step-good wide Δ fs ready go all env s t-whole m h p
     strict-good env s t-truth m h p = step-good wide Δ fs ready go all env s t-truth m h p
     strict-good env s t-trivial m h p = step-good wide Δ fs ready go all env s t-trivial m h p
+    strict-good env s t-decimal m h p = step-good wide Δ fs ready go all env s t-decimal m h p
     strict-good env s (t-unary a b) m h p = step-good wide Δ fs ready go all env s (t-unary a b) m h p
     strict-good env s (t-follow a b) m h p = step-good wide Δ fs ready go all env s (t-follow a b) m h p
     strict-good env s (t-group a) m h p = step-good wide Δ fs ready go all env s (t-group a) m h p

@@ -6,17 +6,18 @@ use mathlib.Core.Option.{Option, none, some}
 use Prim.Native.Nat.{ℕ, _≤_}
 use native.Mathlib.Omega.{arith}
 use lib.IntN.{ℤ}
+use lib.Ieee.{Float}
 use borrow.Author.Tests.{le-leb}
 use Rattle.language.specs.Sizes.{LARGEST}
 use Rattle.language.specs.Tokens.{Token, value-at}
-use Rattle.language.specs.Trees.{Ty, int, bool, unit, ref, Program}
+use Rattle.language.specs.Trees.{Ty, int, bool, unit, float, ref, Program}
 use Rattle.language.specs.Grammar.{Reading}
 use Rattle.language.specs.Types.{HasType}
 use Rattle.language.specs.State.{Value, number, flag, nothing, cell, held, State, value}
 use Rattle.language.specs.Meaning.{in-range, run}
 use Rattle.language.proofs.Grammar.OwnTokens.{program-owns, all-same}
 use Rattle.language.proofs.Grammar.OwnOnce.{own-inside}
-use Rattle.language.proofs.Meaning.CellTypes.{born-first, born-le, Fits, fits-int, fits-bool, fits-unit, fits-ref, StateFits, held-fits}
+use Rattle.language.proofs.Meaning.CellTypes.{born-first, born-le, Fits, fits-int, fits-float, fits-bool, fits-unit, fits-ref, StateFits, held-fits}
 use Rattle.language.proofs.Meaning.Safety.{Good, good-value, Fair}
 use Rattle.language.proofs.Meaning.NeverStuck.{run-good}
 
@@ -24,6 +25,7 @@ use Rattle.language.proofs.Meaning.NeverStuck.{run-good}
 -- which is freed, or is live and holds a value of the type referred to; so to any depth.
 pub data OfType (s : State) : Ty → Value → Type 0 where
   of-int : {z : ℤ} → in-range z ≡ true → OfType s int (number z)
+  of-float : {x : Float} → OfType s float (Value.float x)
   of-bool : {b : Bool} → OfType s bool (flag b)
   of-unit : OfType s unit nothing
   of-freed : {t : Ty} {b : ℕ} → 1 ≤ b → b ≤ s .births → held b (s .cells) ≡ none → OfType s (ref t) (cell b)
@@ -35,6 +37,9 @@ InRange z = in-range z ≡ true
 module _ {Σ : List Ty} {s : State} (p : StateFits InRange Σ s) where
   an-int : {v : Value} → Fits InRange Σ v int → OfType s int v
   an-int (fits-int r) = of-int r
+
+  a-float : {v : Value} → Fits InRange Σ v float → OfType s float v
+  a-float fits-float = of-float
 
   a-bool : {v : Value} → Fits InRange Σ v bool → OfType s bool v
   a-bool fits-bool = of-bool
@@ -54,6 +59,7 @@ module _ {Σ : List Ty} {s : State} (p : StateFits InRange Σ s) where
 
   of-type : (t : Ty) (v : Value) → Fits InRange Σ v t → OfType s t v
   of-type int v f = an-int f
+  of-type float v f = a-float f
   of-type bool v f = a-bool f
   of-type unit v f = a-unit f
   of-type (ref t) v f = a-cell f λ w g. of-type t w g

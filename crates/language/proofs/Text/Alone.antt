@@ -1,8 +1,9 @@
 -- A token's spelling is a token by itself: wherever its bytes stand with a blank or the end of the text behind them, they are
 -- a piece of the same kind and value. A form is said once here, by what it asks of its own bytes; all else follows.
+use lib.Dec.{leb}
 use lib.ListN.{length, getD, take}
 use lib.Seq.{slice, slice-cons, length-slice, getD-take, getD-drop}
-use mathlib.Core.Bool.{Bool, true, false, not, _&&_}
+use mathlib.Core.Bool.{Bool, true, false, cond, not, _&&_}
 use mathlib.Core.List.{List, [], _∷_}
 use mathlib.Core.Logic.{⊎-elim, _⊎_, inl, inr}
 use mathlib.Core.Option.{some}
@@ -21,10 +22,10 @@ use Rattle.language.proofs.Text.Places.Opened.{closed, left}
 use Rattle.language.proofs.Text.Places.Sort.{lines, opens}
 use Rattle.language.proofs.Text.Spellings.{byte-inside}
 use Rattle.language.specs.Text.{byte, Each, Stands, is-blank, is-letter, is-digit, is-digit-of, is-name-byte}
-use Rattle.language.specs.Text.{Opens, Content, Within, Form, Piece, word-kind, number-from}
-use Rattle.language.specs.Text.Content.{space, unclosed, token}
-use Rattle.language.specs.Text.Form.{blank, line, comment, unended, name, number, based, mark}
-use Rattle.language.specs.Tokens.{Spelling, spell, Vocabulary, NUMBER, spelled}
+use Rattle.language.specs.Text.{Opens, Content, Within, Form, Piece, word-kind, number-from, float-content}
+use Rattle.language.specs.Text.Content.{space, unclosed, overlong, token}
+use Rattle.language.specs.Text.Form.{blank, line, comment, unended, name, number, based, float, mark}
+use Rattle.language.specs.Tokens.{Spelling, spell, Vocabulary, NUMBER, FLOAT-NUMBER, spelled}
 
 -- ---- bytes of a slice
 
@@ -96,11 +97,19 @@ module _ {t : List ℕ} {p q : ℕ} {u : List ℕ} {m n : ℕ} (c : Copied t p q
 
 -- ---- a token's form
 
--- it comes to a token
+-- it comes to a token, or to a float number that is too long for one
 abbrev pub IsToken : Content → Type 0
 IsToken space = ⊥
 IsToken unclosed = ⊥
+IsToken overlong = Unit {0}
 IsToken (token k v) = Unit {0}
+
+float-token : (n : ℕ) → IsToken (float-content n)
+float-token n = by (leb n 16)
+  where
+    by : (b : Bool) → IsToken (cond b (token FLOAT-NUMBER 0) overlong)
+    by true = tt
+    by false = tt
 
 not-space : (c : Content) → IsToken c → c ≡ space → ⊥
 not-space c i e = subst IsToken e i
@@ -136,6 +145,19 @@ module _ {voc : Vocabulary} (laws : Laws voc) where
       let r = copied-rest w (a .some) in
       subst (λ (s : Spelling). Form voc u m n (token NUMBER (number-from base 0 s))) (r .same)
       (based {base = base} (rw (copied-two w (a .some)) s) (r .there) (copied-each r (is-digit-of base) e))
+  form-copied {t} {p} {q} {u} {m} {n} c i w (float {m = k} a b e d l h g) =
+      let long = copied-long w in
+      let x = w .within .some in
+      let y = w .there .some in
+      let s = b .some in
+      let at : ℕ = m + (k - p) in
+      let end = w .there .inside in
+      let z : p + (at - m) ≡ k = omega arith in
+      subst (λ (j : ℕ). Form voc u m n (float-content j)) long
+      (float {m = at} a (record { some = omega arith; inside = omega arith })
+      (λ j o f. rw (copied-byte w j f (omega arith)) (e (p + (j - m)) (omega arith) (omega arith)))
+      (copied-byte w at (omega arith) (omega arith) ∙ ap (byte t) z ∙ d) (omega arith) end
+      λ j o f. rw (copied-byte w j (omega arith) o) (g (p + (j - m)) (omega arith) (omega arith)))
   form-copied {t} {p} {q} {u} {m} {n} c i w (mark {k = k} a e) = mark {k = k} (w .there) (rw (w .same) e)
 
   -- none of its bytes is a blank
@@ -152,6 +174,10 @@ module _ {voc : Vocabulary} (laws : Laws voc) where
       (λ k. ⊎-elim (λ j. let z : i ≡ p = omega arith in rw z (digit-not-blank (byte t p) (b .0)))
       (λ j. let z : i ≡ p + 1 = omega arith in rw z (letter-not-blank (byte t (p + 1)) (b .1))) (either i (p + 1)))
       (λ k. name-not-blank (byte t i) (name-digit-of base (byte t i) (e i l k))) (either i (p + 2))
+  form-solid {t} c x (float {m = k} a b e d o n g) i h l =
+      ⊎-elim (λ j. digit-not-blank (byte t i) (e i j h))
+      (λ j. ⊎-elim (λ f. let z : i ≡ k = omega arith in rw (z, d) (high-not-blank 46 (omega arith)))
+      (λ f. digit-not-blank (byte t i) (g i l f)) (either i (k + 1))) (either i k)
   form-solid {t} {p} {q} c x (mark {k = k} a e) i h l =
       rw (byte-slice t p q i h l)
       (solid (slice p q t) (mark-whole (slice p q t) k e) (i - p) (omega (arith, length-slice p q t (a .inside))))
@@ -200,6 +226,7 @@ module _ {voc : Vocabulary} (laws : Laws voc) where
     longest e d (name a b z) = longer e _ tt (name a b z)
     longest e d (number a z) = longer e _ tt (number a z)
     longest e d (based {base = base} s a z) = longer e _ tt (based {base = base} s a z)
+    longest e d (float {m = k} a b z p l h g) = longer e _ (float-token (e - m)) (float {m = k} a b z p l h g)
     longest e d (mark {k = k} a z) = longer e _ tt (mark {k = k} a z)
 
   -- so the bytes of a token are that token wherever they stand alone

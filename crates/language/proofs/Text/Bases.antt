@@ -85,7 +85,9 @@ pub record Digits (t : List ℕ) (p from base : ℕ) : Type 0 where
   pub within : from ≤ length t
   pub low : 0 < base
   pub high : base ≤ 16
-  pub piece : (q : ℕ) → Run (is-digit-of base) t from q → Piece EDITION-1 t p q (token NUMBER (number-from base 0 (slice from q t)))
+  -- a decimal one if no point follows
+  pub piece : (q : ℕ) → Run (is-digit-of base) t from q → (from ≡ p → byte t q ≡ 46 → ⊥)
+      → Piece EDITION-1 t p q (token NUMBER (number-from base 0 (slice from q t)))
 
 module _ (t : List ℕ) (p base : ℕ) (e : base ≡ base-told (byte t p ∷ byte t (p + 1) ∷ [])) where
   there : (n : ℕ) → is-digit-of n (byte t (p + 2)) ≡ true → p + 2 < length t
@@ -98,7 +100,7 @@ module _ (t : List ℕ) (p base : ℕ) (e : base ≡ base-told (byte t p ∷ byt
       let s = told (byte t p ∷ byte t (p + 1) ∷ []) base (byte t (p + 2)) e d in
       let tells : Tells laws-1 t p base = (rw (slice-two t p (omega arith)) s, d) in
       let high = small (byte t p ∷ byte t (p + 1) ∷ []) base s in
-      record { within = omega arith; low = positive d; high = high; piece = λ q r. based-piece laws-1 t p base q tells r }
+      record { within = omega arith; low = positive d; high = high; piece = λ q r n. based-piece laws-1 t p base q tells r }
     where
       positive : is-digit-of base (byte t (p + 2)) ≡ true → 0 < base
       positive d = go base d
@@ -115,7 +117,7 @@ module _ (t : List ℕ) (p base : ℕ) (e : base ≡ base-told (byte t p ∷ byt
         within = omega arith;
         low = omega arith;
         high = omega arith;
-        piece = λ q r. number-piece laws-1 t p q h b none-told (decimal r);
+        piece = λ q r n. number-piece laws-1 t p q h b none-told (λ x. n refl (x .1)) (decimal r);
       }
     where
       none-told : (n : ℕ) → Tells laws-1 t p n → ⊥

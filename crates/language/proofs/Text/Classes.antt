@@ -54,6 +54,13 @@ pub letter-not-digit : (b : ℕ) → is-letter b ≡ true → is-digit b ≡ fal
 letter-not-digit b e =
     ⊎-elim (λ x. absurd (let l = letter-least b e in let d = digit-bounds b x in omega arith)) (λ x. x) (outcome (is-digit b))
 
+-- a point is neither
+pub point-no-digit : (b : ℕ) → b ≡ 46 → is-digit b ≡ true → ⊥
+point-no-digit b e x = let d = digit-bounds b x in omega arith
+
+pub point-no-letter : (b : ℕ) → b ≡ 46 → is-letter b ≡ true → ⊥
+point-no-letter b e x = let l = letter-least b x in omega arith
+
 -- ---- digits of other bases
 
 -- a digit of a base lies from `0` to `9`, from `A` to `F` or from `a` to `f`

@@ -14,7 +14,7 @@ use native.Mathlib.Numerals.{add-one}
 use native.Mathlib.Omega.{arith}
 use Prim.Native.Nat.{ℕ, suc, _+_, _≤_, _<_}
 use Rattle.language.proofs.Text.Choices.{outcome, clash, and-both, either}
-use Rattle.language.proofs.Text.Classes.{letter-not-digit, digit-of-some, name-digit-of, name-letter}
+use Rattle.language.proofs.Text.Classes.{letter-not-digit, point-no-letter, digit-of-some, name-digit-of, name-letter}
 use Rattle.language.proofs.Text.Marks.{Laws, laws-1, shaped, led, is-plain, base-shape, slice-two}
 use Rattle.language.proofs.Text.OnePiece.{one-piece}
 use Rattle.language.proofs.Text.OneSplit.{Step, over, put, Later, here, step, from-start, later-more}
@@ -28,15 +28,15 @@ use Rattle.language.specs.Sizes.{LARGEST}
 use Rattle.language.specs.Text.{byte, between, is-blank, is-letter, is-digit, is-hex-digit, worth, is-digit-of, is-name-byte}
 use Rattle.language.specs.Text.{Content, Form, Piece, Within, or-name, word-kind, number-from, token-of, Reaches, Splits}
 use Rattle.language.specs.Text.Content.{space, unclosed, token}
-use Rattle.language.specs.Text.Form.{blank, line, comment, unended, name, number, based, mark}
+use Rattle.language.specs.Text.Form.{blank, line, comment, unended, name, number, based, float, mark}
 use Rattle.language.specs.Text.Reaches.{start, skip, next}
 use Rattle.language.specs.Tokens.{Spelling, spell, same, Vocabulary, EDITION-1, words, marks, bases, spelled, Token, past, At, kind-at, NAME, NUMBER}
 
 -- the vocabulary of that time
 abbrev pub DECIMAL : Vocabulary
-DECIMAL = record { words = words; marks = marks; bases = [] }
+DECIMAL = record { words = words; marks = marks; bases = []; points = true }
 
-laws-then : Laws DECIMAL
+pub laws-then : Laws DECIMAL
 unfolding every
 laws-then = record { shapes = laws-1 .shapes; leads = refl }
 
@@ -92,6 +92,7 @@ module _ (t : List ℕ) (p : ℕ) where
   lift-form (name w l e) = name w l e
   lift-form (number w e) = number w e
   lift-form (based {base = base} s w e) = absurd (Option·none-ne-some base s)
+  lift-form (float {m = m} a w e b l h g) = float {m = m} a w e b l h g
   lift-form (mark {k = k} w e) = mark {k = k} w e
 
   drop-form : {q : ℕ} {c : Content} → ((base : ℕ) → Tells laws-1 t p base → ⊥) → Form EDITION-1 t p q c → Form DECIMAL t p q c
@@ -103,6 +104,7 @@ module _ (t : List ℕ) (p : ℕ) where
   drop-form n (name w l e) = name w l e
   drop-form n (number w e) = number w e
   drop-form n (based {base = base} s w e) = absurd (n base (s, e (p + 2) (w .some) (le-refl (p + 2))))
+  drop-form n (float {m = m} a w e b l h g) = float {m = m} a w e b l h g
   drop-form n (mark {k = k} w e) = mark {k = k} w e
 
   -- a piece is what it was, unless it begins like a number in a base
@@ -144,7 +146,8 @@ module _ (t : List ℕ) (p base : ℕ) (h : Tells laws-1 t p base) where
       let digit : (k : ℕ) → k < p + 1 → p ≤ k → is-digit (byte t k) ≡ true =
       λ k a b. let e : k ≡ p = omega arith in subst (λ x. is-digit (byte t x) ≡ true) (sym e) (z .0) in
       number-piece laws-then t p (p + 1) (omega (arith, there)) (z .0) (λ b x. Option·none-ne-some b (x .0))
-      (record { order = omega arith; within = omega (arith, there); each = digit; stop = λ l. letter-not-digit (byte t (p + 1)) (z .1) })
+      (λ x. point-no-letter (byte t (p + 1)) (x .1) letter)
+      (record { order = omega arith; within = omega (arith, there); each = digit; stop = λ l. letter-not-digit (byte t (p + 1)) letter })
 
   then-name : {q : ℕ} {c : Content} → Piece DECIMAL t (p + 1) q c → c ≡ Content.token NAME 0
   then-name {q} {c} x =

@@ -11,9 +11,9 @@ use Rattle.language.proofs.Text.Marks.{Laws}
 use Rattle.language.proofs.Text.OnePiece.{one-piece, form-bounds}
 use Rattle.language.specs.Sizes.{TOKENS, LARGEST}
 use Rattle.language.specs.Text.{Content, Piece, token-of, Reaches, Splits, Flaw, Wrong, Flawed}
-use Rattle.language.specs.Text.Content.{space, unclosed, token}
+use Rattle.language.specs.Text.Content.{space, unclosed, overlong, token}
 use Rattle.language.specs.Text.Reaches.{start, skip, next}
-use Rattle.language.specs.Text.Wrong.{strange, opened, large, many}
+use Rattle.language.specs.Text.Wrong.{strange, opened, long, large, many}
 use Rattle.language.specs.Tokens.{Vocabulary, Token}
 
 -- ---- one step of a split
@@ -43,6 +43,15 @@ module _ {voc : Vocabulary} (laws : Laws voc) (t : List ℕ) (p : ℕ) where
 
   open-token : {q e k v : ℕ} → Piece voc t p q unclosed → Piece voc t p e (token k v) → ⊥
   open-token = unlike (λ w. cc)
+
+  long-space : {q e : ℕ} → Piece voc t p q overlong → Piece voc t p e space → ⊥
+  long-space = unlike (λ w. cc)
+
+  long-open : {q e : ℕ} → Piece voc t p q overlong → Piece voc t p e unclosed → ⊥
+  long-open = unlike (λ w. cc)
+
+  long-token : {q e k v : ℕ} → Piece voc t p q overlong → Piece voc t p e (token k v) → ⊥
+  long-token = unlike (λ w. cc)
 
   one-token : {q e k v j w : ℕ} → Piece voc t p q (token k v) → Piece voc t p e (token j w) → (q ≡ e) × (k ≡ j) × (v ≡ w)
   one-token {q} {e} {k} {v} {j} {w} a b =
@@ -127,6 +136,7 @@ module _ {voc : Vocabulary} (laws : Laws voc) {t : List ℕ} where
 wrong-inside : {voc : Vocabulary} {t : List ℕ} {p : ℕ} {ts : List Token} {f : Flaw} → Wrong voc t p ts f → p < length t
 wrong-inside (strange h n) = h
 wrong-inside {t = t} {p = p} (opened {q = q} a) = omega (arith, form-bounds t p q unclosed (a .form))
+wrong-inside {t = t} {p = p} (long {q = q} a) = omega (arith, form-bounds t p q overlong (a .form))
 wrong-inside {t = t} {p = p} (large {q = q} {k = k} {v = v} a h) = omega (arith, form-bounds t p q (token k v) (a .form))
 wrong-inside {t = t} {p = p} (many {q = q} {k = k} {v = v} a h e) = omega (arith, form-bounds t p q (token k v) (a .form))
 
@@ -136,6 +146,8 @@ module _ {voc : Vocabulary} (laws : Laws voc) {t : List ℕ} {p : ℕ} {ts : Lis
   no-step {q = q} (strange h n) (put {k = k} {v = v} x g e) l = n q (token k v) (x .form)
   no-step (opened a) (over x e) l = open-space laws t p a x
   no-step (opened a) (put x g e) l = open-token laws t p a x
+  no-step (long a) (over x e) l = long-space laws t p a x
+  no-step (long a) (put x g e) l = long-token laws t p a x
   no-step (large a h) (over x e) l = space-token laws t p x a
   no-step (large a h) (put x g e) l = too-large laws t p a h x g
   no-step (many a h c) (over x e) l = space-token laws t p x a
@@ -144,18 +156,27 @@ module _ {voc : Vocabulary} (laws : Laws voc) {t : List ℕ} {p : ℕ} {ts : Lis
   one-wrong : {f g : Flaw} → Wrong voc t p ts f → Wrong voc t p ts g → f ≡ g
   one-wrong (strange h n) (strange g m) = refl
   one-wrong (strange h n) (opened a) = absurd (n _ _ (a .form))
+  one-wrong (strange h n) (long a) = absurd (n _ _ (a .form))
   one-wrong (strange h n) (large a b) = absurd (n _ _ (a .form))
   one-wrong (strange h n) (many a b e) = absurd (n _ _ (a .form))
   one-wrong (opened a) (strange h n) = absurd (n _ _ (a .form))
   one-wrong (opened a) (opened b) = refl
+  one-wrong (opened a) (long b) = absurd (long-open laws t p b a)
   one-wrong (opened a) (large b l) = absurd (open-token laws t p a b)
   one-wrong (opened a) (many b l e) = absurd (open-token laws t p a b)
+  one-wrong (long a) (strange h n) = absurd (n _ _ (a .form))
+  one-wrong (long a) (opened b) = absurd (long-open laws t p a b)
+  one-wrong (long a) (long b) = refl
+  one-wrong (long a) (large b l) = absurd (long-token laws t p a b)
+  one-wrong (long a) (many b l e) = absurd (long-token laws t p a b)
   one-wrong (large a l) (strange h n) = absurd (n _ _ (a .form))
   one-wrong (large a l) (opened b) = absurd (open-token laws t p b a)
+  one-wrong (large a l) (long b) = absurd (long-token laws t p b a)
   one-wrong (large a l) (large b m) = refl
   one-wrong (large a l) (many b m e) = absurd (too-large laws t p a l b m)
   one-wrong (many a l e) (strange h n) = absurd (n _ _ (a .form))
   one-wrong (many a l e) (opened b) = absurd (open-token laws t p b a)
+  one-wrong (many a l e) (long b) = absurd (long-token laws t p b a)
   one-wrong (many a l e) (large b m) = absurd (too-large laws t p b m a l)
   one-wrong (many a l e) (many b m g) = refl
 

@@ -8,13 +8,13 @@ use mathlib.Core.Option.{none, some, Option·none-ne-some}
 use mathlib.Core.Path.{_≡_, refl, sym, _∙_, subst}
 use native.Mathlib.Nat.{le-refl}
 use native.Mathlib.Omega.{arith}
-use Prim.Native.Nat.{ℕ, suc, _+_, _≤_, _<_}
+use Prim.Native.Nat.{ℕ, suc, _+_, _-_, _≤_, _<_}
 use Rattle.language.proofs.Text.Choices.{either}
 use Rattle.language.proofs.Text.Classes.{name-letter, digit-of-some}
 use Rattle.language.proofs.Text.Comments.{one-end, comment-bounds, open-inside}
 use Rattle.language.proofs.Text.Marks.{Laws, base-shape, mark-shape, mark-some, stands-inside}
-use Rattle.language.proofs.Text.OnePiece.{not-decimal}
-use Rattle.language.proofs.Text.Places.{Sort, sort, Begins, Based, Opened, Slashed, View, view}
+use Rattle.language.proofs.Text.OnePiece.{not-decimal, not-pointed, never-both}
+use Rattle.language.proofs.Text.Places.{Sort, sort, Begins, Based, Pointed, Opened, Slashed, View, view}
 use Rattle.language.proofs.Text.Places.{sort-blank, sort-letter, sort-digit, sort-line, sort-open, sort-other}
 use Rattle.language.proofs.Text.Places.Opened.{closed, left}
 use Rattle.language.proofs.Text.Places.Sort.{blanks, letters, digits, lines, opens, others}
@@ -22,9 +22,9 @@ use Rattle.language.proofs.Text.Runs.{Run, run-longest, run-some}
 use Rattle.language.proofs.Text.Spellings.{byte-inside}
 use Rattle.language.proofs.Text.Tables.{most, most-bytes}
 use Rattle.language.specs.Text.{byte, Stands, Each, is-blank, is-letter, is-digit, is-digit-of, is-name-byte, is-in-line}
-use Rattle.language.specs.Text.{Opens, Comment, Content, Within, Form, Piece, word-kind, number-from}
+use Rattle.language.specs.Text.{Opens, Comment, Content, Within, Form, Piece, word-kind, number-from, float-content}
 use Rattle.language.specs.Text.Content.{space, unclosed, token}
-use Rattle.language.specs.Text.Form.{blank, line, comment, unended, name, number, based, mark}
+use Rattle.language.specs.Text.Form.{blank, line, comment, unended, name, number, based, float, mark}
 use Rattle.language.specs.Tokens.{Spelling, spell, Vocabulary, NUMBER, spelled}
 
 -- no mark from p on has more than n bytes
@@ -73,14 +73,66 @@ module _ {voc : Vocabulary} (laws : Laws voc) (t : List ℕ) (p : ℕ) where
   based-tells : {q : ℕ} {c : Content} (x : Based voc t p q c) → Tells (x .base)
   based-tells x = (x .spells, x .each (p + 2) (x .some) (le-refl (p + 2)))
 
-  -- from a digit on, where no base is told, the longest run of digits is a number
-  pub number-piece : (q : ℕ) → p < length t → is-digit (byte t p) ≡ true → ((base : ℕ) → Tells base → ⊥) → Run is-digit t p q
+  -- digits and a point: the longest run of digits ends there
+  pointed-end : {q e : ℕ} {d : Content} → Run is-digit t p q → (x : Pointed voc t p e d) → x .point ≡ q
+  pointed-end {q} {e} r x =
+      let a = run-longest r (record { order = omega (arith, x .some); within = omega (arith, x .behind, x .within); each = x .first }) in
+      let b = not-pointed t p e q x (record { order = r .order; within = r .within; each = r .each }) in
+      omega arith
+
+  -- a point stands at q, where points are allowed
+  abbrev pub Points : ℕ → Type 0
+  Points q = (voc .points ≡ true) × (byte t q ≡ 46)
+
+  -- from a digit on, where no base is told, the longest run of digits is a number if no point follows
+  pub number-piece : (q : ℕ) → p < length t → is-digit (byte t p) ≡ true → ((base : ℕ) → Tells base → ⊥) → (Points q → ⊥) → Run is-digit t p q
       → Piece voc t p q (token NUMBER (number-from 10 0 (slice p q t)))
-  number-piece q h b n r =
+  number-piece q h b n m r =
       record {
         form = number (record { some = run-some h b r; inside = r .within }) (r .each);
-        longest = upto q digits (sort-digit t p b) (λ e d x. ⊎-elim (λ y. run-longest r (y .0)) (λ y. absurd (n (y .base) (based-tells y))) x);
+        longest = upto q digits (sort-digit t p b) ends;
       }
+    where
+      ends : (e : ℕ) (d : Content) → View voc t p e d digits → e ≤ q
+      ends e d (inl x) = run-longest r (x .0)
+      ends e d (inr (inl x)) = absurd (n (x .base) (based-tells x))
+      ends e d (inr (inr x)) = absurd (m (x .has, subst (λ k. byte t k ≡ 46) (pointed-end r x) (x .dot)))
+
+  -- and a float number if one follows, with the digits behind it
+  pub float-piece : (m q : ℕ) → p < length t → is-digit (byte t p) ≡ true → Run is-digit t p m → Points m → Run is-digit t (m + 1) q
+      → Piece voc t p q (float-content (q - p))
+  float-piece m q h b r s u =
+      record {
+        form = float {m = m} (s .0) (record { some = some; inside = r .within }) (r .each) (s .1) behind (u .within) (u .each);
+        longest = upto q digits (sort-digit t p b) ends;
+      }
+    where
+      some : p < m
+      some = run-some h b r
+
+      behind : m < q
+      behind = omega (arith, u .order)
+
+      this : Pointed voc t p q (float-content (q - p))
+      this = record {
+        point = m;
+        has = s .0;
+        some = some;
+        first = r .each;
+        dot = s .1;
+        behind = behind;
+        within = u .within;
+        rest = u .each;
+        comes = refl;
+      }
+
+      ends : (e : ℕ) (d : Content) → View voc t p e d digits → e ≤ q
+      ends e d (inl x) = omega (arith, run-longest r (x .0))
+      ends e d (inr (inl x)) = absurd (never-both laws t p e q x this)
+      ends e d (inr (inr x)) =
+          let z = pointed-end r x in
+          let rest = subst (λ k. Each is-digit t (k + 1) e) z (x .rest) in
+          run-longest u (record { order = omega (arith, x .behind); within = x .within; each = rest })
 
   -- where one is told, the longest run of its digits is
   pub based-piece : (base q : ℕ) → Tells base → Run (is-digit-of base) t (p + 2) q
@@ -102,7 +154,8 @@ module _ {voc : Vocabulary} (laws : Laws voc) (t : List ℕ) (p : ℕ) where
 
       ends : (e : ℕ) (d : Content) → View voc t p e d digits → e ≤ q
       ends e d (inl x) = omega (arith, not-decimal laws t p q e this (x .0))
-      ends e d (inr x) =
+      ends e d (inr (inr x)) = absurd (never-both laws t p q e this x)
+      ends e d (inr (inl x)) =
           let f = s .0 in
           let g = x .spells in
           let z : x .base ≡ base = cc in

@@ -8,7 +8,7 @@ use mathlib.Core.Option.{Option, some}
 use mathlib.Core.Path.{_≡_, refl}
 use native.Mathlib.Nat.{le-refl}
 use native.Mathlib.Omega.{arith}
-use Prim.Native.Nat.{ℕ, suc, _+_, _≤_, _<_}
+use Prim.Native.Nat.{ℕ, suc, _+_, _-_, _≤_, _<_}
 use Rattle.language.proofs.Text.Choices.{outcome, clash}
 use Rattle.language.proofs.Text.Classes.{letter-not-blank, digit-not-blank, digit-not-letter}
 use Rattle.language.proofs.Text.Comments.{open-inside, comment-bounds}
@@ -16,9 +16,9 @@ use Rattle.language.proofs.Text.Marks.{Plain, Laws, mark-shape, base-sh
 use Rattle.language.proofs.Text.Runs.{Scanned}
 use Rattle.language.proofs.Text.Spellings.{stands, stands-yes, stands-no, yes-stands, no-stands}
 use Rattle.language.specs.Text.{byte, Stands, Each, between, is-blank, is-letter, is-digit, is-digit-of, is-name-byte, is-in-line}
-use Rattle.language.specs.Text.{Opens, Comment, Content, Form, word-kind, number-from}
+use Rattle.language.specs.Text.{Opens, Comment, Content, Form, word-kind, number-from, float-content}
 use Rattle.language.specs.Text.Content.{space, unclosed, token}
-use Rattle.language.specs.Text.Form.{blank, line, comment, unended, name, number, based, mark}
+use Rattle.language.specs.Text.Form.{blank, line, comment, unended, name, number, based, float, mark}
 use Rattle.language.specs.Tokens.{spell, Vocabulary, NUMBER, spelled}
 
 -- ---- the sorts of places
@@ -120,6 +120,18 @@ pub record Based (voc : Vocabulary) (t : List ℕ) (p q : ℕ) (c : Content) : T
   pub each : Each (is-digit-of base) t (p + 2) q
   pub comes : c ≡ token NUMBER (number-from base 0 (slice (p + 2) q t))
 
+-- digits with a point among them
+pub record Pointed (voc : Vocabulary) (t : List ℕ) (p q : ℕ) (c : Content) : Type 0 where
+  pub point : ℕ
+  pub has : voc .points ≡ true
+  pub some : p < point
+  pub first : Each is-digit t p point
+  pub dot : byte t point ≡ 46
+  pub behind : point < q
+  pub within : q ≤ length t
+  pub rest : Each is-digit t (point + 1) q
+  pub comes : c ≡ float-content (q - p)
+
 -- a comment, closed or not
 pub data Opened (t : List ℕ) (p q : ℕ) (c : Content) : Type 0 where
   closed : Comment t p q → c ≡ space → Opened t p q c
@@ -133,7 +145,7 @@ Slashed voc t p q c A = ((p + 2 ≤ q) × A) ⊎ ((q ≡ p + 1) × Marked voc t 
 abbrev pub View : Vocabulary → List ℕ → ℕ → ℕ → Content → Sort → Type 0
 View voc t p q c blanks = (q ≡ p + 1) × (c ≡ space)
 View voc t p q c letters = Scanned is-name-byte t p q × (c ≡ token (word-kind voc (slice p q t)) 0)
-View voc t p q c digits = (Scanned is-digit t p q × (c ≡ token NUMBER (number-from 10 0 (slice p q t)))) ⊎ Based voc t p q c
+View voc t p q c digits = (Scanned is-digit t p q × (c ≡ token NUMBER (number-from 10 0 (slice p q t)))) ⊎ (Based voc t p q c ⊎ Pointed voc t p q c)
 View voc t p q c lines = Slashed voc t p q c (Scanned is-in-line t (p + 2) q × (c ≡ space))
 View voc t p q c opens = Slashed voc t p q c (Opened t p q c)
 View voc t p q c others = Marked voc t p q c
@@ -165,6 +177,9 @@ module _ {voc : Vocabulary} (laws : Laws voc) (t : List ℕ) (p q : ℕ) where
       rw (sort-digit t p (e p (w .some) (le-refl p))) (inl (record { order = omega (arith, w .some); within = w .inside; each = e }, refl))
   view c (based {base = base} s w e) =
       let x = base-shape laws t p base (omega (arith, w .some, w .inside)) s in
-      rw (sort-digit t p (x .0)) (inr (record { base = base; spells = s; some = w .some; within = w .inside; each = e; comes = refl }))
+      rw (sort-digit t p (x .0)) (inr (inl (record { base = base; spells = s; some = w .some; within = w .inside; each = e; comes = refl })))
+  view c (float {m = m} a w e b l h g) =
+      rw (sort-digit t p (e p (w .some) (le-refl p)))
+      (inr (inr (record { point = m; has = a; some = w .some; first = e; dot = b; behind = l; within = h; rest = g; comes = refl })))
   view c (mark {k = k} w e) =
       view-mark (record { kind = k; some = w .some; within = w .inside; spells = e; comes = refl }) (sort t p) (begins t p)

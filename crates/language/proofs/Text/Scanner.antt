@@ -1,10 +1,10 @@
 -- An executable twin of the written split: proof vocabulary, and no definition of the language. It goes through a text from
 -- its start, and what it answers is proved to be what the definitions say; so every text has a split or a flaw.
-use borrow.Author.Tests.{ltb-true, ltb-false, leb-true, leb-false, eqb-true, eqb-false}
+use borrow.Author.Tests.{ltb-true, ltb-false, leb-true, leb-false, eqb-true, eqb-false, eq-eqb}
 use lib.Dec.{eqb, ltb, leb}
 use lib.ListN.{length, length-append}
 use lib.Seq.{slice}
-use mathlib.Core.Bool.{Bool, true, false}
+use mathlib.Core.Bool.{Bool, true, false, _&&_}
 use mathlib.Core.List.{List, [], _∷_, _++_}
 use mathlib.Core.Logic.{_⊎_, inl, inr}
 use mathlib.Core.Option.{Option, none, some, Option·none-ne-some}
@@ -12,13 +12,13 @@ use mathlib.Core.Path.{_≡_, refl, sym, _∙_, ap, ap₂, subst}
 use native.Mathlib.Numerals.{add-one}
 use native.Mathlib.Omega.{arith}
 use Prim.Native.Nat.{ℕ, zero, suc, _+_, _-_, _≤_, _<_}
-use Rattle.language.proofs.Text.Choices.{choose, clash}
+use Rattle.language.proofs.Text.Choices.{choose, clash, and-both}
 use Rattle.language.proofs.Text.Classes.{digit-of-some}
 use Rattle.language.proofs.Text.Comments.{Depth, depth-start, depth-open, depth-close, depth-byte, depth-end, depth-done}
 use Rattle.language.proofs.Text.Marks.{Laws}
 use Rattle.language.proofs.Text.OnePiece.{form-bounds}
 use Rattle.language.proofs.Text.OneSplit.{one-split, one-flaw, not-both}
-use Rattle.language.proofs.Text.Pieces.{blank-piece, name-piece, Tells, number-piece, based-piece}
+use Rattle.language.proofs.Text.Pieces.{blank-piece, name-piece, Tells, number-piece, float-piece, based-piece}
 use Rattle.language.proofs.Text.Pieces.{line-piece, comment-piece, open-piece}
 use Rattle.language.proofs.Text.Pieces.{AtMost, at-most, at-most-less, mark-piece, no-form}
 use Rattle.language.proofs.Text.Places.{Sort, sort, Begins, begins}
@@ -29,11 +29,11 @@ use Rattle.language.proofs.Text.Tables.{Table, most}
 use Rattle.language.specs.Sizes.{TOKENS, LARGEST}
 use Rattle.language.specs.Text.{byte, between, is-blank, is-letter, is-digit, is-hex-digit, worth, is-digit-of}
 use Rattle.language.specs.Text.{is-name-byte, is-in-line, Opens, Comment}
-use Rattle.language.specs.Text.{Content, Form, Piece, word-kind, number-from, token-of, Reaches, Splits, Flaw, Flawed}
-use Rattle.language.specs.Text.Content.{space, unclosed, token}
-use Rattle.language.specs.Text.Flaw.{strange-byte, open-comment, large-number, many-tokens}
+use Rattle.language.specs.Text.{Content, Form, Piece, word-kind, number-from, float-content, token-of, Reaches, Splits, Flaw, Flawed}
+use Rattle.language.specs.Text.Content.{space, unclosed, overlong, token}
+use Rattle.language.specs.Text.Flaw.{strange-byte, open-comment, large-number, many-tokens, long-float}
 use Rattle.language.specs.Text.Reaches.{start, skip, next}
-use Rattle.language.specs.Text.Wrong.{strange, opened, large, many}
+use Rattle.language.specs.Text.Wrong.{strange, opened, long, large, many}
 use Rattle.language.specs.Tokens.{spell, same, spelled, Vocabulary, NUMBER, Token}
 
 -- ---- the end of a run, of at most n bytes
@@ -118,13 +118,21 @@ mark-seen marks t p (suc n) =
 number-seen : ℕ → List ℕ → ℕ → ℕ → Seen
 number-seen base t p q = seen q (token NUMBER (number-from base 0 (slice p q t)))
 
+-- digits up to m, and maybe a point
+decimal-seen : Bool → List ℕ → ℕ → ℕ → Seen
+decimal-seen points t p m =
+    elim (points && eqb (byte t m) 46) [
+      | true ↦ (let q = run-from is-digit t (m + 1) in seen q (float-content (q - p)))
+      | false ↦ number-seen 10 t p m
+    ]
+
 -- the number at p, whose first two bytes tell a base or none
-digits-seen : List ℕ → ℕ → Option ℕ → Seen
-digits-seen t p none = number-seen 10 t p (run-from is-digit t p)
-digits-seen t p (some base) =
+digits-seen : Bool → List ℕ → ℕ → Option ℕ → Seen
+digits-seen points t p none = decimal-seen points t p (run-from is-digit t p)
+digits-seen points t p (some base) =
     elim (is-digit-of base (byte t (p + 2))) [
       | true ↦ number-seen base t (p + 2) (run-from (is-digit-of base) t (p + 2))
-      | false ↦ number-seen 10 t p (run-from is-digit t p)
+      | false ↦ decimal-seen points t p (run-from is-digit t p)
     ]
 
 comment-seen : List ℕ → Close → Seen
@@ -142,7 +150,7 @@ module _ (voc : Vocabulary) where
   piece-of : List ℕ → ℕ → Sort → Seen
   piece-of t p blanks = seen (p + 1) space
   piece-of t p letters = name-seen t p (run-from is-name-byte t p)
-  piece-of t p digits = digits-seen t p (spelled (voc .bases) (slice p (p + 2) t))
+  piece-of t p digits = digits-seen (voc .points) t p (spelled (voc .bases) (slice p (p + 2) t))
   piece-of t p lines = seen (run-from is-in-line t (p + 2)) space
   piece-of t p opens = comment-seen t (close-end t (length t) 1 (p + 2))
   piece-of t p others = mark-seen (voc .marks) t p (most (voc .marks))
@@ -154,12 +162,20 @@ module _ {voc : Vocabulary} (laws : Laws voc) (t : List ℕ) (p : ℕ) (h : p < 
   comment-is never s x = open-piece laws t p s x
 
   decimal-is : is-digit (byte t p) ≡ true → ((base : ℕ) → Tells laws t p base → ⊥)
-      → Seen-is voc t p (number-seen 10 t p (run-from is-digit t p))
-  unfolding number-seen
-  decimal-is b n = number-piece laws t p (run-from is-digit t p) h b n (run is-digit t p (omega arith))
+      → Seen-is voc t p (decimal-seen (voc .points) t p (run-from is-digit t p))
+  unfolding decimal-seen number-seen
+  decimal-is b n =
+      let m = run-from is-digit t p in
+      let r = run is-digit t p (omega arith) in
+      choose (Seen-is voc t p) (voc .points && eqb (byte t m) 46) _ _
+      (λ x. let y = and-both (voc .points) (eqb (byte t m) 46) x in
+      let dot = eqb-true (byte t m) 46 (y .1) in
+      let l = byte-inside t m 46 dot (omega arith) in
+      float-piece laws t p m (run-from is-digit t (m + 1)) h b r (y .0, dot) (run is-digit t (m + 1) (omega arith)))
+      (λ x. number-piece laws t p m h b n (λ y. clash (rw (y .0, eq-eqb (byte t m) 46 (y .1)) refl) x) r)
 
   digits-is : is-digit (byte t p) ≡ true → (o : Option ℕ) → spelled (voc .bases) (slice p (p + 2) t) ≡ o
-      → Seen-is voc t p (digits-seen t p o)
+      → Seen-is voc t p (digits-seen (voc .points) t p o)
   unfolding digits-seen number-seen
   digits-is b none e = decimal-is b (λ base x. Option·none-ne-some base (sym e ∙ x .0))
   digits-is b (some base) e =
@@ -215,6 +231,7 @@ settle : List ℕ → ℕ → List Token → (ℕ → List Token → Result) →
 settle t p ts go unseen = flawed strange-byte p
 settle t p ts go (seen q space) = go q ts
 settle t p ts go (seen q unclosed) = flawed open-comment p
+settle t p ts go (seen q overlong) = flawed long-float p
 settle t p ts go (seen q (token k v)) =
     elim (ltb LARGEST v) [
       | true ↦ flawed large-number p
@@ -230,7 +247,7 @@ module _ (voc : Vocabulary) where
 
   -- the answer for a text; whoever unfolds it unfolds all that it computes with
   unfoldable pub scan : List ℕ → Result
-  unfolding scan-from settle piece-of name-seen digits-seen number-seen comment-seen mark-seen mark-or most close-end run-from run-end
+  unfolding scan-from settle piece-of name-seen digits-seen decimal-seen number-seen comment-seen mark-seen mark-or most close-end run-from run-end
       sort stands is-blank is-letter is-digit is-hex-digit worth is-digit-of is-name-byte is-in-line between word-kind spelled same number-from
   scan t = scan-from t (length t) 0 []
 
@@ -242,6 +259,7 @@ unfolding settle
 settled t p ts go h r l f unseen x = record { tokens = ts; before = r; few = l; here = strange h x }
 settled t p ts go h r l f (seen q space) x = f q ts (form-bounds t p q space (x .form)) (skip r x) l
 settled t p ts go h r l f (seen q unclosed) x = record { tokens = ts; before = r; few = l; here = opened x }
+settled t p ts go h r l f (seen q overlong) x = record { tokens = ts; before = r; few = l; here = long x }
 settled {voc} t p ts go h r l f (seen q (token k v)) x =
     choose (Says voc t) (ltb LARGEST v) _ _
     (λ e. record { tokens = ts; before = r; few = l; here = large x (ltb-true LARGEST v e) })

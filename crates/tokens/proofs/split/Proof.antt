@@ -7,14 +7,14 @@ use native.Mathlib.Omega.{arith}
 use Prim.Native.Nat.{ℕ, _-_, _≤_, _<_}
 use Rattle.language.proofs.Text.OnePiece.{form-bounds}
 use Rattle.language.proofs.Text.OneSplit.{reached-inside}
-use Rattle.language.specs.Sizes.{SOURCE}
-use Rattle.language.specs.Text.Flaw.{strange-byte, open-comment, large-number, many-tokens}
-use Rattle.language.specs.Text.Wrong.{strange, opened, large, many}
+use Rattle.language.specs.Sizes.{SOURCE, TABLE}
+use Rattle.language.specs.Text.Flaw.{many-tokens}
+use Rattle.language.specs.Text.Wrong.{many}
 use Rattle.tokens.proofs.split.Statement.{statement}
 use Rattle.tokens.proofs.split.Tie as tie
 use Rattle.tokens.proofs.Splitting.{Reached, reached-none, reached-length, reached-skip}
 use Rattle.tokens.proofs.Splitting.{reached-broken, reached-whole, reached-spans, reached-next}
-use Rattle.tokens.specs.Found.{IsPiece}
+use Rattle.tokens.specs.Found.{IsPiece, IsToken}
 use Rattle.tokens.specs.Shown.{shown}
 
 abbrev Inv-loop : tie.InvT-loop
@@ -30,6 +30,23 @@ text h = let a = h .before .before .before .before .before .before .args in show
 -- it is not too long
 short : (h : tie.At-loop Inv-loop μ-loop) → length (text h) ≤ SOURCE
 short h = subst (λ n. n ≤ SOURCE) (h .before .before .len .ensures) (h .before .if1 .left)
+
+-- the token that stands there: its kind, its end and what it is worth
+abbrev Held : tie.After-kind Inv-loop μ-loop → Type 0
+Held c =
+    let h = c .before .before .before .before in
+    let v = c .kind .given .0 in
+    IsToken (text h) (h .loop .at) (v .0) (v .1 .0) (v .1 .1 .0)
+
+held : (c : tie.After-kind Inv-loop μ-loop) → Held c
+held c =
+    let h = c .before .before .before .before in
+    subst (IsPiece (text h) (h .loop .at)) (c .kind .given .1) (c .before .before .piece-at .ensures)
+
+-- it has bytes, and lies in the text
+bounds : (c : tie.After-kind Inv-loop μ-loop)
+    → (c .before .before .before .before .loop .at < c .kind .given .0 .1 .0) × (c .kind .given .0 .1 .0 ≤ length (text (c .before .before .before .before)))
+bounds c = form-bounds (text (c .before .before .before .before)) (c .before .before .before .before .loop .at) _ _ (held c .piece .form)
 
 len-requires : tie.Need-len-requires Inv-loop μ-loop
 len-requires c κs = search needs
@@ -72,140 +89,86 @@ same-length c = reached-length (c .before .before .before .before .before .befor
 
 returns-2 : tie.Need-returns-2 Inv-loop μ-loop
 returns-2 c =
-    let h = c .before .before .before .before .before .before in
-    let t = text h in
-    let l = h .loop in
-    let piece = c .before .before .before .before .piece-at .ensures in
-    let x = subst (IsPiece t (l .at)) (c .before .before .kind .given .1) piece in
+    let k = c .before .before in
+    let h = k .before .before .before .before in
+    let x = held k in
     let full = c .if2 .taken in
-    reached-broken (l .inv) many-tokens (short h)
-    (λ ts e. many (x .0) (x .1) (sym e ∙ full))
+    reached-broken (h .loop .inv) many-tokens (short h) (λ ts e. many (x .piece) (x .small) (sym e ∙ full))
 
-value-word-requires : tie.Need-value-word-requires Inv-loop μ-loop
-value-word-requires c κs =
-    let h = c .before .before .before .before .before .before .before in
-    let t = text h in
+table-worth-requires : tie.Need-table-worth-requires Inv-loop μ-loop
+table-worth-requires c κs =
+    let k = c .before .before .before in
+    let h = k .before .before .before .before in
     let l = h .loop in
-    let piece = c .before .before .before .before .before .piece-at .ensures in
-    let x = subst (IsPiece t (l .at)) (c .before .before .before .kind .given .1) piece in
-    let room = c .before .before .before .before .before .before .before .before .before .before .before .before .before .pre in
-    let b = form-bounds t (l .at) _ _ (x .0 .form) in
-    let long = reached-length (l .inv) in
-    record { room = omega arith; few = l .inv .few; order = omega (arith, b .0); inside = b .1; spans = reached-spans (l .inv) room }
+    let room = h .before .before .before .before .before .before .pre in
+    let b = bounds k in
+    let spans = reached-spans (l .inv) room (short h) in
+    record { room = omega (arith, reached-length (l .inv)); few = l .inv .few; order = omega (arith, b .0); inside = b .1; spans = spans }
+
+high-requires : tie.Need-high-requires Inv-loop μ-loop
+high-requires c κs = search needs
+
+low-requires : tie.Need-low-requires Inv-loop μ-loop
+low-requires c κs = search needs
 
 cast-put : tie.Need-cast-put Inv-loop μ-loop
-cast-put c =
-    omega (
-      arith,
-      c .before .before .before .before .before .before .before .before .loop-test .taken,
-      c .before .before .before .before .before .before .before .before .before .before .if1 .left,
-    )
+cast-put c = let k = c .before .before .before .before .before .before .before in omega (arith, bounds k, short (k .before .before .before .before))
 
 cast-put-2 : tie.Need-cast-put-2 Inv-loop μ-loop
-cast-put-2 c =
-    let h = c .before .before .before .before .before .before .before .before .before in
-    let t = text h in
-    let l = h .loop in
-    let piece = c .before .before .before .before .before .before .before .piece-at .ensures in
-    let x = subst (IsPiece t (l .at)) (c .before .before .before .before .before .kind .given .1) piece in
-    omega (
-      arith,
-      form-bounds t (l .at) _ _ (x .0 .form) .1,
-      short h,
-    )
+cast-put-2 c = let k = c .before .before .before .before .before .before .before in omega (arith, bounds k .1, short (k .before .before .before .before))
 
 put-requires : tie.Need-put-requires Inv-loop μ-loop
 put-requires c κs =
-    let l = c .before .before .before .before .before .before .before .before .before .loop in
-    omega (
-      arith,
-      reached-length (l .inv),
-      c .before .before .before .before .before .before .before .before .before .before .before .before .before .before .before .pre,
-      l .inv .few,
-      c .before .before .before .if2 .left,
-    )
+    let k = c .before .before .before .before .before .before .before in
+    let h = k .before .before .before .before in
+    let l = h .loop in
+    let small = short h in
+    let b = bounds k in
+    let room : TABLE ≤ length (l .table) = omega (arith, reached-length (l .inv), h .before .before .before .before .before .before .pre) in
+    (room, omega (arith, l .inv .few, c .before .before .before .before .before .if2 .left), omega (arith, b .0, b .1), omega (arith, b .1))
 
 add-count : tie.Need-add-count Inv-loop μ-loop
 add-count c =
-    omega (arith, c .before .before .before .before .before .before .before .before .before .before .before .before .loop .inv .few)
+    let k = c .before .before .before .before .before .before .before .before .before .before in
+    omega (arith, k .before .before .before .before .loop .inv .few)
 
 loop-less-2 : tie.Need-loop-less-2 Inv-loop μ-loop
 loop-less-2 c =
-    let h = c .before .before .before .before .before .before .before .before .before .before .before .before in
-    let t = text h in
-    let l = h .loop in
-    let piece = c .before .before .before .before .before .before .before .before .before .before .piece-at .ensures in
-    let x = subst (IsPiece t (l .at)) (c .before .before .before .before .before .before .before .before .kind .given .1) piece in
-    let test = c .before .before .before .before .before .before .before .before .before .before .before .loop-test .taken in
-    omega (arith, form-bounds t (l .at) _ _ (x .0 .form) .0, test)
+    let k = c .before .before .before .before .before .before .before .before .before .before in
+    omega (arith, bounds k .0, k .before .before .before .loop-test .taken)
 
 loop-again-2 : tie.Need-loop-again-2 Inv-loop μ-loop
 loop-again-2 c =
-    let h = c .before .before .before .before .before .before .before .before .before .before .before .before in
-    let t = text h in
+    let put = c .before .before in
+    let low = put .before .before in
+    let worth = low .before .before in
+    let if2 = worth .before .before in
+    let k = if2 .before .before in
+    let h = k .before .before .before .before in
     let l = h .loop in
-    let piece = c .before .before .before .before .before .before .before .before .before .before .piece-at .ensures in
-    let x = subst (IsPiece t (l .at)) (c .before .before .before .before .before .before .before .before .kind .given .1) piece in
-    let room =
-    c .before .before .before .before .before .before .before .before .before .before .before .before .before .before .before .before .before .before .pre
-    in
-    let left = c .before .before .before .before .before .before .if2 .left in
-    let word = c .before .before .before .before .value-word .ensures in
-    reached-next (l .inv) room (omega (arith, l .inv .few, left)) (x .0) (x .1) word (c .before .before .put .ensures)
+    let room = h .before .before .before .before .before .before .pre in
+    reached-next (l .inv) room (short h) (omega (arith, l .inv .few, if2 .if2 .left)) (held k) (worth .table-worth .ensures)
+    (low .before .high .ensures) (low .low .ensures) (put .put .ensures)
 
-enum-told : tie.Need-enum-told Inv-loop μ-loop
-enum-told c = search needs
+enum-known-flaw : tie.Need-enum-known-flaw Inv-loop μ-loop
+enum-known-flaw c = search needs
 
 same-length-2 : tie.Need-same-length-2 Inv-loop μ-loop
-same-length-2 c = reached-length (c .before .before .before .before .loop .inv)
+same-length-2 c = reached-length (c .before .before .before .before .before .loop .inv)
 
 returns-3 : tie.Need-returns-3 Inv-loop μ-loop
 returns-3 c =
-    let h = c .before .before .before .before in
-    let t = text h in
+    let h = c .before .before .before .before .before in
     let l = h .loop in
-    let piece = c .before .before .piece-at .ensures in
-    let x = subst (IsPiece t (l .at)) (c .enum-told .given .1) piece in
-    reached-broken (l .inv) open-comment (short h) (λ ts e. opened (x .1))
-
-enum-told-2 : tie.Need-enum-told-2 Inv-loop μ-loop
-enum-told-2 c = search needs
+    let wrong = subst (IsPiece (text h) (l .at)) (c .before .flaw .given .1) (c .before .before .before .piece-at .ensures) in
+    reached-broken (l .inv) _ (short h) (λ ts e. wrong ts)
 
 same-length-3 : tie.Need-same-length-3 Inv-loop μ-loop
-same-length-3 c = reached-length (c .before .before .before .before .loop .inv)
+same-length-3 c = reached-length (c .before .loop .inv)
 
 returns-4 : tie.Need-returns-4 Inv-loop μ-loop
 returns-4 c =
-    let h = c .before .before .before .before in
-    let t = text h in
-    let l = h .loop in
-    let piece = c .before .before .piece-at .ensures in
-    let x = subst (IsPiece t (l .at)) (c .enum-told2 .given .1) piece in
-    reached-broken (l .inv) large-number (short h) (λ ts e. large (x .3) (x .4))
-
-enum-told-3 : tie.Need-enum-told-3 Inv-loop μ-loop
-enum-told-3 c = search needs
-
-same-length-4 : tie.Need-same-length-4 Inv-loop μ-loop
-same-length-4 c = reached-length (c .before .before .before .before .loop .inv)
-
-returns-5 : tie.Need-returns-5 Inv-loop μ-loop
-returns-5 c =
-    let h = c .before .before .before .before in
-    let t = text h in
-    let l = h .loop in
-    let piece = c .before .before .piece-at .ensures in
-    let x = subst (IsPiece t (l .at)) (c .enum-told3 .given .1) piece in
-    let inside = subst (λ n. l .at < n) (h .before .before .len .ensures) (c .before .before .before .loop-test .taken) in
-    reached-broken (l .inv) strange-byte (short h) (λ ts e. strange inside x)
-
-same-length-5 : tie.Need-same-length-5 Inv-loop μ-loop
-same-length-5 c = reached-length (c .before .loop .inv)
-
-returns-6 : tie.Need-returns-6 Inv-loop μ-loop
-returns-6 c =
     let h = c .before in
-    let t = text h in
     let l = h .loop in
     reached-whole (l .inv) (short h) (omega (arith, reached-inside (l .inv .reaches), c .loop-test .left, h .before .before .len .ensures))
 
@@ -225,21 +188,17 @@ split-spec =
     enum-known-kind
     same-length
     returns-2
-    value-word-requires
+    table-worth-requires
+    high-requires
+    low-requires
     cast-put
     cast-put-2
     put-requires
     add-count
     loop-less-2
     loop-again-2
-    enum-told
+    enum-known-flaw
     same-length-2
     returns-3
-    enum-told-2
     same-length-3
-    returns-4
-    enum-told-3
-    same-length-4
-    returns-5
-    same-length-5
-    returns-6)
+    returns-4)

@@ -1,8 +1,5 @@
 -- `of_called_run` goes by the answer.
 use mathlib.Core.Path.{refl, sym, ap}
-use mir.Facts.{toZ-ofZ}
-use mir.Syntax.{w64}
-use mir.Val.{SFits}
 use Rattle.clerk.specs.Ends.{ran-under}
 use borrow.Author.Needs.{needs}
 use Rattle.clerk.proofs.ends.of_called_run.Statement.{statement}
@@ -24,9 +21,7 @@ refused-requires : tie.Need-refused-requires
 refused-requires c κs = search needs
 
 returns : tie.Need-returns
-returns c =
-    let f : SFits w64 (c .before .answer .given .0 .1 .0) = search needs in
-    rw (toZ-ofZ {w = w64} f) (ap (ran-under _) (sym (c .before .answer .given .1)))
+returns c = ap (ran-under _) (sym (c .before .answer .given .1))
 
 returns-2 : tie.Need-returns-2
 returns-2 c = rw (c .before .before .answer2 .given .1) (rw (c .own-place .ensures) refl)

@@ -1,8 +1,5 @@
 -- `of_run` goes by the answer.
 use mathlib.Core.Path.{sym, ap}
-use mir.Facts.{toZ-ofZ}
-use mir.Syntax.{w64}
-use mir.Val.{SFits}
 use Rattle.clerk.specs.Ends.{ran-end}
 use borrow.Author.Needs.{needs}
 use Rattle.clerk.proofs.ends.of_run.Statement.{statement}
@@ -18,9 +15,7 @@ enum-known-answer-3 : tie.Need-enum-known-answer-3
 enum-known-answer-3 c = search needs
 
 returns : tie.Need-returns
-returns c =
-    let f : SFits w64 (c .before .answer .given .0 .1 .0) = search needs in
-    rw (toZ-ofZ {w = w64} f) (ap ran-end (sym (c .before .answer .given .1)))
+returns c = ap ran-end (sym (c .before .answer .given .1))
 
 returns-2 : tie.Need-returns-2
 returns-2 c = ap ran-end (sym (c .before .answer2 .given .1))

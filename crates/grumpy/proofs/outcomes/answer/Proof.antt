@@ -1,8 +1,5 @@
 use borrow.Author.Needs.{needs}
 use mathlib.Core.Path.{sym, ap}
-use mir.Facts.{toZ-ofZ}
-use mir.Syntax.{w64}
-use mir.Val.{SFits}
 use Rattle.grumpy.specs.Outcomes.{ran-of}
 use Rattle.grumpy.proofs.Services.{ran-stopped}
 use Rattle.grumpy.proofs.outcomes.answer.Statement.{statement}
@@ -21,9 +18,7 @@ place-requires : tie.Need-place-requires
 place-requires c κs = search needs
 
 returns : tie.Need-returns
-returns c =
-    let f : SFits w64 (c .before .ending .given .0 .0) = search needs in
-    rw (toZ-ofZ {w = w64} f) (ap (ran-of _ _ _ _) (sym (c .before .ending .given .1)))
+returns c = ap (ran-of _ _ _ _) (sym (c .before .ending .given .1))
 
 returns-2 : tie.Need-returns-2
 returns-2 c = ran-stopped _ _ _ _ _ _ _ _ _ _ (c .before .before .ending2 .given .1) (c .place .ensures)

@@ -1,7 +1,5 @@
 use borrow.Author.Needs.{needs}
-use mathlib.Core.Path.{refl, _∙_}
-use mir.Facts.{toZ-ofZ}
-use mir.Syntax.{w64}
+use mathlib.Core.Path.{refl}
 use Rattle.grumpy.proofs.Runs.{value-left, stop-left, executed-value, executed-stop}
 use Rattle.grumpy.proofs.outcomes.execute.Statement.{statement}
 use Rattle.grumpy.proofs.outcomes.execute.Tie as tie
@@ -9,17 +7,14 @@ use Rattle.grumpy.proofs.outcomes.execute.Tie as tie
 run-requires : tie.Need-run-requires
 run-requires c κs = search needs
 
-enum-known-v : tie.Need-enum-known-v
-enum-known-v c = search needs
+enum-known-value : tie.Need-enum-known-value
+enum-known-value c = search needs
 
 sub-used : tie.Need-sub-used
 sub-used c =
     let run = c .before .before .before .before .before .before .before in
     let start = run .before .before .before .before .before .before in
-    value-left (run .run .ensures) (start .pre) _ _ (c .before .v .given .1)
-
-reported-requires : tie.Need-reported-requires
-reported-requires c κs = search needs
+    value-left (run .run .ensures) (start .pre) _ _ (c .before .value .given .1)
 
 enum-known-why : tie.Need-enum-known-why
 enum-known-why c = search needs
@@ -38,9 +33,8 @@ same-length-2 c = search needs
 
 returns : tie.Need-returns
 returns c =
-    let v = c .before .before in
-    let run = v .before .before .before .before .before .before in
-    executed-value (run .run .ensures) _ _ _ _ (v .v .given .1) (toZ-ofZ {w = w64} (record { sfits = c .reported .ok }) ∙ c .reported .ensures) refl
+    let run = c .before .before .before .before .before .before .before in
+    executed-value (run .run .ensures) _ _ _ (c .before .value .given .1) refl
 
 same-length-3 : tie.Need-same-length-3
 same-length-3 c = search needs
@@ -58,9 +52,8 @@ execute-spec =
     tie.close
     (tie.spec
     run-requires
-    enum-known-v
+    enum-known-value
     sub-used
-    reported-requires
     enum-known-why
     sub-units
     same-length

@@ -1,8 +1,5 @@
 -- `ran` tells a stop or a refusal of the sheet that holds its place.
 use borrow.Author.Needs.{needs}
-use mir.Facts.{toZ-ofZ}
-use mir.Syntax.{w64}
-use mir.Val.{SFits}
 use Rattle.grumpy.proofs.Moves.{value-moved, stopped-moved, not-run-moved}
 use Rattle.grumpy.proofs.places.ran.Statement.{statement}
 use Rattle.grumpy.proofs.places.ran.Tie as tie
@@ -25,8 +22,7 @@ refused-at-requires c κs = search needs
 returns : tie.Need-returns
 returns c =
     let a = c .before .before .before .before .before .args in
-    let f : SFits w64 (c .before .answer .given .0 .1 .0) = search needs in
-    rw (toZ-ofZ {w = w64} f) (value-moved (a .first .now) (a .second .now) (a .answer) _ _ _ _ (c .before .answer .given .1))
+    value-moved (a .first .now) (a .second .now) (a .answer) _ _ _ _ (c .before .answer .given .1)
 
 returns-2 : tie.Need-returns-2
 returns-2 c =

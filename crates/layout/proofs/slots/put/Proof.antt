@@ -17,11 +17,14 @@ add-at c = search needs
 tag-requires : tie.Need-tag-requires
 tag-requires c κs = search needs
 
-word-requires : tie.Need-word-requires
-word-requires c κs = search needs
+low-requires : tie.Need-low-requires
+low-requires c κs = search needs
+
+high-requires : tie.Need-high-requires
+high-requires c κs = search needs
 
 pack-requires : tie.Need-pack-requires
-pack-requires c κs = (search needs, rw (c .before .tag .ensures) (tag-small (c .before .before .before .args .v)))
+pack-requires c κs = (search needs, rw (c .before .before .tag .ensures) (tag-small (c .before .before .before .before .args .v)))
 
 mul-work : tie.Need-mul-work
 mul-work c = search needs
@@ -38,12 +41,23 @@ mul-work-2 c = search needs
 slice-write-work-2 : tie.Need-slice-write-work-2
 slice-write-work-2 c = simp length-set (omega arith)
 
+add-work-2 : tie.Need-add-work-2
+add-work-2 c = search needs
+
+mul-work-3 : tie.Need-mul-work-3
+mul-work-3 c = search needs
+
+slice-write-work-3 : tie.Need-slice-write-work-3
+slice-write-work-3 c = simp length-set (omega arith)
+
 same-length : tie.Need-same-length
 same-length c = search needs
 
 returns : tie.Need-returns
 unfolding put-slot
-returns c = rw (c .pack .ensures, c .before .before .tag .ensures, c .before .word .ensures .0) (refl, c .before .word .ensures .1)
+returns c =
+    let at-low = c .before .before in
+    rw (c .pack .ensures, at-low .before .tag .ensures, at-low .low .ensures .0, c .before .high .ensures) (refl, at-low .low .ensures .1)
 
 pub put-spec : {M : Type 1} → statement M
 put-spec =
@@ -52,12 +66,16 @@ put-spec =
     mul-at
     add-at
     tag-requires
-    word-requires
+    low-requires
+    high-requires
     pack-requires
     mul-work
     slice-write-work
     add-work
     mul-work-2
     slice-write-work-2
+    add-work-2
+    mul-work-3
+    slice-write-work-3
     same-length
     returns)

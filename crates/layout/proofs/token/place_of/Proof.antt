@@ -1,32 +1,20 @@
-use native.Mathlib.Omega.{arith}
 use borrow.Author.Needs.{needs}
-use mathlib.Core.Path.{refl}
 use borrow.Author.Tests.{lt-ltb, le-ltb}
+use mathlib.Core.Path.{refl}
 use Rattle.layout.specs.Table.{place-of}
 use Rattle.layout.proofs.token.place_of.Statement.{statement}
 use Rattle.layout.proofs.token.place_of.Tie as tie
 
-mul-result : tie.Need-mul-result
-mul-result c = search needs
-
-add-result : tie.Need-add-result
-add-result c = search needs
-
-mul-result-2 : tie.Need-mul-result-2
-mul-result-2 c = search needs
-
-shared-slice-read-result : tie.Need-shared-slice-read-result
-shared-slice-read-result c = search needs
+place-requires : tie.Need-place-requires
+place-requires c κs = search needs
 
 returns : tie.Need-returns
 unfolding place-of
-returns c = rw (lt-ltb _ _ (c .before .if1 .taken)) refl
+returns c = rw (lt-ltb _ _ (c .before .if1 .taken)) (c .place .ensures)
 
 returns-2 : tie.Need-returns-2
 unfolding place-of
 returns-2 c = rw (le-ltb _ _ (c .if1 .left)) refl
 
 pub place-of-spec : {M : Type 1} → statement M
-place-of-spec =
-    tie.close
-    (tie.spec mul-result add-result mul-result-2 shared-slice-read-result returns returns-2)
+place-of-spec = tie.close (tie.spec place-requires returns returns-2)

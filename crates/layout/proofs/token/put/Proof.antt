@@ -9,6 +9,9 @@ use Rattle.layout.proofs.token.put.Tie as tie
 mul-w : tie.Need-mul-w
 mul-w c = search needs
 
+pack-requires : tie.Need-pack-requires
+pack-requires c κs = search needs
+
 mul-table : tie.Need-mul-table
 mul-table c = search needs
 
@@ -47,13 +50,14 @@ same-length c = search needs
 
 returns : tie.Need-returns
 unfolding put-token
-returns c = refl
+returns c = rw (c .pack .ensures) refl
 
 pub put-spec : {M : Type 1} → statement M
 put-spec =
     tie.close
     (tie.spec
     mul-w
+    pack-requires
     mul-table
     slice-write-table
     add-table

@@ -13,6 +13,9 @@ enum-told-2 c = search needs
 enum-told-3 : tie.Need-enum-told-3
 enum-told-3 c = search needs
 
+enum-told-4 : tie.Need-enum-told-4
+enum-told-4 c = search needs
+
 enum-known-v : tie.Need-enum-known-v
 enum-known-v c = search needs
 
@@ -26,9 +29,22 @@ returns-3 : tie.Need-returns-3
 returns-3 c = search needs
 
 returns-4 : tie.Need-returns-4
-returns-4 c = rw (c .before .v .given .1) refl
+returns-4 c = search needs
+
+returns-5 : tie.Need-returns-5
+returns-5 c = rw (c .before .v .given .1) refl
 
 pub cell-of-spec : {M : Type 1} → statement M
 cell-of-spec =
     tie.close
-    (tie.spec enum-told enum-told-2 enum-told-3 enum-known-v returns returns-2 returns-3 returns-4)
+    (tie.spec
+    enum-told
+    enum-told-2
+    enum-told-3
+    enum-told-4
+    enum-known-v
+    returns
+    returns-2
+    returns-3
+    returns-4
+    returns-5)

@@ -5,7 +5,7 @@ use mir.Val.{SFits}
 use mir.Facts.{toZ-ofZ}
 use Rattle.layout.specs.Values.{meant}
 use Rattle.machine.specs.Operands.{number-in, cell-in}
-use Rattle.machine.proofs.Reckoning.{applies-numbers, stuck-left, stuck-right, applies-assign, stuck-assign, applies-and, applies-or}
+use Rattle.machine.proofs.Reckoning.{applies-ints, applies-judged, stuck-right, applies-assign, stuck-assign, applies-and, applies-or}
 use borrow.Author.Needs.{needs}
 use Rattle.machine.proofs.operations.apply_binary.Statement.{statement}
 use Rattle.machine.proofs.operations.apply_binary.Tie as tie
@@ -73,7 +73,7 @@ reckon-requires c κs =
     let at-if3 = earlier .before in
     let at-if2 = at-if3 .before in
     let at-if1 = at-if2 .before in
-    ((at-if1 .if1 .left), (at-if2 .if2 .left), (at-if3 .if3 .left))
+    (at-if1 .if1 .left, at-if2 .if2 .left, at-if3 .if3 .left)
 
 enum-told-2 : tie.Need-enum-told-2
 enum-told-2 c = search needs
@@ -84,8 +84,13 @@ stuck-requires-2 c κs = search needs
 enum-told-3 : tie.Need-enum-told-3
 enum-told-3 c = search needs
 
-stuck-requires-3 : tie.Need-stuck-requires-3
-stuck-requires-3 c κs = search needs
+on-floats-requires : tie.Need-on-floats-requires
+on-floats-requires c κs =
+    let at-int-of = c .before .before .before in
+    let at-if3 = at-int-of .before in
+    let at-if2 = at-if3 .before in
+    let at-if1 = at-if2 .before in
+    ((at-if1 .if1 .left, at-if2 .if2 .left, at-if3 .if3 .left), sym (ap number-in (c .enum-told3 .given .1)) ∙ at-int-of .int-of .ensures)
 
 returns-5 : tie.Need-returns-5
 returns-5 c =
@@ -95,7 +100,7 @@ returns-5 c =
     let at-int-of2 = at-x .before .before in
     let at-int-of = at-int-of2 .before in
     let start = at-int-of .before .before .before .before .before in
-    applies-numbers (start .args .op) (meant (start .args .a)) (meant (start .args .b)) (start .pre .0) _
+    applies-ints (start .args .op) (meant (start .args .a)) (meant (start .args .b)) (start .pre .0) _
     (sym (ap number-in (at-x .x .given .1)) ∙ (at-int-of .int-of .ensures))
     (sym (ap number-in (c .before .before .y .given .1)) ∙ (at-int-of2 .int-of2 .ensures))
     (rw (toZ-ofZ {w = w32} x, toZ-ofZ {w = w32} y) at (c .reckon .ensures))
@@ -115,14 +120,9 @@ returns-6 c =
 
 returns-7 : tie.Need-returns-7
 returns-7 c =
-    let at-int-of = c .before .before .before .before in
-    let at-if3 = at-int-of .before in
-    let at-if2 = at-if3 .before in
-    let at-if1 = at-if2 .before in
-    let start = at-if1 .before .before in
-    stuck-left (start .args .op) (meant (start .args .a)) (meant (start .args .b)) (start .pre .0)
-    ((at-if1 .if1 .left), (at-if2 .if2 .left), (at-if3 .if3 .left)) _
-    (sym (ap number-in (c .before .enum-told3 .given .1)) ∙ (at-int-of .int-of .ensures))
+    let start = c .before .before .before .before .before .before .before .before .before in
+    applies-judged (start .args .op) (meant (start .args .a)) (meant (start .args .b)) (start .pre .0) (c .on-floats .result)
+    (c .on-floats .ensures)
 
 pub apply-binary-spec : {M : Type 1} → statement M
 apply-binary-spec =
@@ -146,7 +146,7 @@ apply-binary-spec =
     enum-told-2
     stuck-requires-2
     enum-told-3
-    stuck-requires-3
+    on-floats-requires
     returns-5
     returns-6
     returns-7)

@@ -8,7 +8,7 @@ use Rattle.phrases.proofs.+items-clause+items-if_else+items-let_in+item
 use Rattle.phrases.proofs.+items-clause+items-if_else+items-let_in+items-seq+items-until+items-while_block+names-arguments+names-name_or_call+operands-assign+operands-atom+operands-rest+operands-tier+operands-un.Proof.Setup.{operands·atom-claims, operands·atom-at}
 use Rattle.phrases.proofs.Moving.{ask, node-fits, top-fits, lower-with, later-with}
 use Rattle.phrases.proofs.Standing.{within}
-use Rattle.phrases.proofs.OperandLaws.{atom-constant, atom-number, atom-group, atom-block, atom-other}
+use Rattle.phrases.proofs.OperandLaws.{atom-constant, atom-number, atom-float, atom-group, atom-block, atom-other}
 use Rattle.phrases.proofs.RowKinds.{constant-within}
 
 pub kind-requires : (t : ℕ) → lts.Need-kind-requires (operands·atom-claims t) (operands·atom-at t) operands·atom.Post
@@ -47,11 +47,20 @@ node-requires-2 t c κs =
     let i = within _ _ _ _ (sym (c .before .before .before .before .kind .ensures) ∙ c .before .match .keys1) (omega arith) in
     node-fits p refl i (omega arith)
 
+pub add-node-3 : (t : ℕ) → lts.Need-add-node-3 (operands·atom-claims t) (operands·atom-at t) operands·atom.Post
+add-node-3 t c = let p = c .before .before .before .before .before .before .before .pre .1 in omega arith
+
+pub node-requires-3 : (t : ℕ) → lts.Need-node-requires-3 (operands·atom-claims t) (operands·atom-at t) operands·atom.Post
+node-requires-3 t c κs =
+    let p = c .before .before .before .before .before .before .before .pre .1 in
+    let i = within _ _ _ _ (sym (c .before .before .before .before .kind .ensures) ∙ c .before .match .keys2) (omega arith) in
+    node-fits p refl i (omega arith)
+
 pub name-or-call-requires : (t : ℕ) → lts.Need-name-or-call-requires (operands·atom-claims t) (operands·atom-at t) operands·atom.Post
 name-or-call-requires t c κs =
     lower-with (c .before .before .before .before .before .before .before .pre .1) 2 1
     (c .before .before .before .before .before .before .before .pre .0) (omega arith)
-    (sym (c .before .before .before .before .kind .ensures) ∙ c .before .match .keys2)
+    (sym (c .before .before .before .before .kind .ensures) ∙ c .before .match .keys3)
 
 pub add-until : (t : ℕ) → lts.Need-add-until (operands·atom-claims t) (operands·atom-at t) operands·atom.Post
 add-until t c = let p = c .before .before .before .before .before .before .before .pre .1 in omega arith
@@ -59,7 +68,7 @@ add-until t c = let p = c .before .before .before .before .before .before .befor
 pub until-requires : (t : ℕ) → lts.Need-until-requires (operands·atom-claims t) (operands·atom-at t) operands·atom.Post
 until-requires t c κs =
     let p = c .before .before .before .before .before .before .before .pre .1 in
-    let i = within _ _ _ _ (sym (c .before .before .before .before .kind .ensures) ∙ c .before .match .keys3) (omega arith) in
+    let i = within _ _ _ _ (sym (c .before .before .before .before .kind .ensures) ∙ c .before .match .keys4) (omega arith) in
     later-with p 2 9 (c .before .before .before .before .before .before .before .pre .0) refl (omega arith) (omega arith) (omega arith)
     (omega arith) (omega arith)
 
@@ -70,7 +79,7 @@ around-requires t c κs =
     let at-kind = at-match .before .before .before in
     let start = at-kind .before .before .before in
     let p = start .pre .1 in
-    let i = within _ _ _ _ (sym (at-kind .kind .ensures) ∙ at-match .match .keys3) (omega arith) in
+    let i = within _ _ _ _ (sym (at-kind .kind .ensures) ∙ at-match .match .keys4) (omega arith) in
     top-fits p _ (at-until .until .ensures) (omega arith) (omega arith) (at-until .until .kept .0) i
 
 pub add-until-2 : (t : ℕ) → lts.Need-add-until-2 (operands·atom-claims t) (operands·atom-at t) operands·atom.Post
@@ -79,7 +88,7 @@ add-until-2 t c = let p = c .before .before .before .before .before .before .bef
 pub until-requires-2 : (t : ℕ) → lts.Need-until-requires-2 (operands·atom-claims t) (operands·atom-at t) operands·atom.Post
 until-requires-2 t c κs =
     let p = c .before .before .before .before .before .before .before .pre .1 in
-    let i = within _ _ _ _ (sym (c .before .before .before .before .kind .ensures) ∙ c .before .match .keys4) (omega arith) in
+    let i = within _ _ _ _ (sym (c .before .before .before .before .kind .ensures) ∙ c .before .match .keys5) (omega arith) in
     later-with p 2 9 (c .before .before .before .before .before .before .before .pre .0) refl (omega arith) (omega arith) (omega arith)
     (omega arith) (omega arith)
 
@@ -90,7 +99,7 @@ around-requires-2 t c κs =
     let at-kind = at-match .before .before .before in
     let start = at-kind .before .before .before in
     let p = start .pre .1 in
-    let i = within _ _ _ _ (sym (at-kind .kind .ensures) ∙ at-match .match .keys4) (omega arith) in
+    let i = within _ _ _ _ (sym (at-kind .kind .ensures) ∙ at-match .match .keys5) (omega arith) in
     top-fits p _ (at-until2 .until2 .ensures) (omega arith) (omega arith) (at-until2 .until2 .kept .0) i
 
 pub same-length-2 : (t : ℕ) → lts.Need-same-length-2 (operands·atom-claims t) (operands·atom-at t) operands·atom.Post
@@ -105,36 +114,47 @@ returns-2 t c =
     (c .before .before .before .before .match .keys1) i (c .before .before .node2 .ensures)
 
 pub same-length-3 : (t : ℕ) → lts.Need-same-length-3 (operands·atom-claims t) (operands·atom-at t) operands·atom.Post
-same-length-3 t c = c .before .before .name-or-call .kept .0
+same-length-3 t c = c .before .before .node3 .kept .0
 
 pub returns-3 : (t : ℕ) → lts.Need-returns-3 (operands·atom-claims t) (operands·atom-at t) operands·atom.Post
-returns-3 t c = c .before .before .name-or-call .ensures
+returns-3 t c =
+    let i = within _ _ _ _
+    (sym (c .before .before .before .before .before .before .before .kind .ensures) ∙ c .before .before .before .before .match .keys2)
+    (omega arith) in
+    atom-float (c .before .before .before .before .before .before .before .kind .ensures)
+    (c .before .before .before .before .match .keys2) i (c .before .before .node3 .ensures)
 
 pub same-length-4 : (t : ℕ) → lts.Need-same-length-4 (operands·atom-claims t) (operands·atom-at t) operands·atom.Post
-same-length-4 t c = c .before .before .around .kept .0 ∙ c .before .before .before .before .before .before .until .kept .0
+same-length-4 t c = c .before .before .name-or-call .kept .0
 
 pub returns-4 : (t : ℕ) → lts.Need-returns-4 (operands·atom-claims t) (operands·atom-at t) operands·atom.Post
-returns-4 t c =
-    let at-until = c .before .before .before .before .before .before in
-    let at-match = at-until .before .before in
-    let at-kind = at-match .before .before .before in
-    atom-group (at-kind .kind .ensures) (at-match .match .keys3) (at-until .until .ensures) (c .before .before .around .ensures)
+returns-4 t c = c .before .before .name-or-call .ensures
 
 pub same-length-5 : (t : ℕ) → lts.Need-same-length-5 (operands·atom-claims t) (operands·atom-at t) operands·atom.Post
-same-length-5 t c = c .before .before .around2 .kept .0 ∙ c .before .before .before .before .before .before .until2 .kept .0
+same-length-5 t c = c .before .before .around .kept .0 ∙ c .before .before .before .before .before .before .until .kept .0
 
 pub returns-5 : (t : ℕ) → lts.Need-returns-5 (operands·atom-claims t) (operands·atom-at t) operands·atom.Post
 returns-5 t c =
-    let at-until2 = c .before .before .before .before .before .before in
-    let at-match = at-until2 .before .before in
+    let at-until = c .before .before .before .before .before .before in
+    let at-match = at-until .before .before in
     let at-kind = at-match .before .before .before in
-    atom-block (at-kind .kind .ensures) (at-match .match .keys4) (at-until2 .until2 .ensures) (c .before .before .around2 .ensures)
+    atom-group (at-kind .kind .ensures) (at-match .match .keys4) (at-until .until .ensures) (c .before .before .around .ensures)
 
 pub same-length-6 : (t : ℕ) → lts.Need-same-length-6 (operands·atom-claims t) (operands·atom-at t) operands·atom.Post
-same-length-6 t c = refl
+same-length-6 t c = c .before .before .around2 .kept .0 ∙ c .before .before .before .before .before .before .until2 .kept .0
 
 pub returns-6 : (t : ℕ) → lts.Need-returns-6 (operands·atom-claims t) (operands·atom-at t) operands·atom.Post
 returns-6 t c =
+    let at-until2 = c .before .before .before .before .before .before in
+    let at-match = at-until2 .before .before in
+    let at-kind = at-match .before .before .before in
+    atom-block (at-kind .kind .ensures) (at-match .match .keys5) (at-until2 .until2 .ensures) (c .before .before .around2 .ensures)
+
+pub same-length-7 : (t : ℕ) → lts.Need-same-length-7 (operands·atom-claims t) (operands·atom-at t) operands·atom.Post
+same-length-7 t c = refl
+
+pub returns-7 : (t : ℕ) → lts.Need-returns-7 (operands·atom-claims t) (operands·atom-at t) operands·atom.Post
+returns-7 t c =
     let q = c .match .rest in
     atom-other (c .before .before .before .kind .ensures) (sym (c .before .before .is-constant .ensures) ∙ c .before .if1 .left)
-    (q .0 .0 .0 .1) (q .0 .0 .1) (q .0 .1) (q .1)
+    (q .0 .0 .0 .0 .1) (q .0 .0 .0 .1) (q .0 .0 .1) (q .0 .1) (q .1)

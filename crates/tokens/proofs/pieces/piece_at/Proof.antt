@@ -1,11 +1,11 @@
 -- `piece_at` goes by what may begin at the place: a blank, a name, a number, a line comment, a comment, and else a mark.
 use borrow.Author.Needs.{needs}
-use lib.ListN.{length}
 use mathlib.Core.Bool.{Bool, false}
 use mathlib.Core.List.{List}
 use mathlib.Core.Path.{_≡_, sym, _∙_, ap, subst}
 use native.Mathlib.Omega.{arith}
 use Prim.Native.Nat.{ℕ}
+use Rattle.language.proofs.Text.Classes.{letter-not-digit}
 use Rattle.language.proofs.Text.Marks.{laws-1}
 use Rattle.language.proofs.Text.OnePiece.{form-bounds}
 use Rattle.language.proofs.Text.Pieces.{blank-piece, name-piece, line-piece, comment-piece, open-piece}
@@ -14,10 +14,12 @@ use Rattle.language.proofs.Text.Places.{Begins}
 use Rattle.language.proofs.Text.Spellings.{stands-yes, stands-no, two-inside}
 use Rattle.language.specs.Text.Content.{token}
 use Rattle.language.specs.Text.{byte, is-blank, is-letter, is-digit, Piece, Opens, Stands}
-use Rattle.language.specs.Tokens.{EDITION-1, spell, NUMBER}
+use Rattle.language.specs.Text.Wrong.{strange, opened}
+use Rattle.language.specs.Tokens.{EDITION-1, spell}
+use Rattle.tokens.proofs.FoundTokens.{plain-token}
 use Rattle.tokens.proofs.pieces.piece_at.Statement.{statement}
 use Rattle.tokens.proofs.pieces.piece_at.Tie as tie
-use Rattle.tokens.specs.Found.{IsNumber, IsClose, IsMark}
+use Rattle.tokens.specs.Found.{IsClose, IsMark}
 use Rattle.tokens.proofs.Views.{shown-long}
 use Rattle.tokens.specs.Shown.{shown}
 
@@ -95,8 +97,8 @@ byte-requires c κs = search needs
 is-blank-requires : tie.Need-is-blank-requires
 is-blank-requires c κs = search needs
 
-add-t15 : tie.Need-add-t15
-add-t15 c =
+add-t13 : tie.Need-add-t13
+add-t13 c =
     let s = c .before .before .before .before .before in
     let a = s .args in
     let long = shown-long (a .first .now) (a .second .now) (a .view) in
@@ -127,7 +129,7 @@ returns-2 c =
     known is-letter (c .before .before .before .before .before .before .byte .ensures) (c .before .before .before .is-letter .ensures)
     (c .before .before .if2 .taken) in
     let piece = name-piece laws-1 t p q (s .pre) letter (c .before .name-end .ensures) in
-    (subst (λ k. Piece EDITION-1 t p q (token k 0)) (sym (c .word .ensures)) piece, omega arith)
+    plain-token (letter-not-digit _ letter) (subst (λ k. Piece EDITION-1 t p q (token k 0)) (sym (c .word .ensures)) piece)
 
 is-digit-requires : tie.Need-is-digit-requires
 is-digit-requires c κs = search needs
@@ -139,26 +141,8 @@ number-requires c κs =
     in
     (c .before .before .before .before .before .before .before .before .before .pre, digit)
 
-enum-known-end : tie.Need-enum-known-end
-enum-known-end c = search needs
-
-enum-told : tie.Need-enum-told
-enum-told c = search needs
-
 returns-3 : tie.Need-returns-3
-returns-3 c =
-    let s = start2 (c .before .before .before .before .before .before) in
-    let t = text s in
-    let p = place s in
-    subst (IsNumber t p) (c .before .end .given .1) (c .before .before .before .number .ensures)
-
-returns-4 : tie.Need-returns-4
-returns-4 c =
-    let s = start2 (c .before .before .before .before .before) in
-    let t = text s in
-    let p = place s in
-    let x = subst (IsNumber t p) (c .enum-told .given .1) (c .before .before .number .ensures) in
-    (x .0, NUMBER, x .1, x .2, x .3)
+returns-3 c = c .number .ensures
 
 slice-aggregate-stands-at : tie.Need-slice-aggregate-stands-at
 slice-aggregate-stands-at c = search needs
@@ -179,8 +163,8 @@ line-end-requires c κs =
     let p = place s in
     two-inside t p 47 47 (line c) (omega arith)
 
-returns-5 : tie.Need-returns-5
-returns-5 c =
+returns-4 : tie.Need-returns-4
+returns-4 c =
     let s = start3 (c .before .before .before .before) in
     let t = text s in
     let p = place s in
@@ -195,26 +179,26 @@ stands-at-requires-2 c κs = search needs
 comment-end-requires : tie.Need-comment-end-requires
 comment-end-requires c κs = opens c
 
-enum-known-end-2 : tie.Need-enum-known-end-2
-enum-known-end-2 c = search needs
+enum-known-end : tie.Need-enum-known-end
+enum-known-end c = search needs
 
-enum-told-2 : tie.Need-enum-told-2
-enum-told-2 c = search needs
+enum-told : tie.Need-enum-told
+enum-told c = search needs
 
-returns-6 : tie.Need-returns-6
-returns-6 c =
+returns-5 : tie.Need-returns-5
+returns-5 c =
     let s = start4 (c .before .before .before .before .before .before .before) in
     let t = text s in
     let p = place s in
-    comment-piece laws-1 t p _ (subst (IsClose t p) (c .before .end2 .given .1) (c .before .before .before .comment-end .ensures))
+    comment-piece laws-1 t p _ (subst (IsClose t p) (c .before .end .given .1) (c .before .before .before .comment-end .ensures))
 
-returns-7 : tie.Need-returns-7
-returns-7 c =
+returns-6 : tie.Need-returns-6
+returns-6 c =
     let s = start4 (c .before .before .before .before .before .before) in
     let t = text s in
     let p = place s in
-    let never = subst (IsClose t p) (c .enum-told2 .given .1) (c .before .before .comment-end .ensures) in
-    (length t, open-piece laws-1 t p (opens (c .before .before .before)) never)
+    let never = subst (IsClose t p) (c .enum-told .given .1) (c .before .before .comment-end .ensures) in
+    λ ts. opened (open-piece laws-1 t p (opens (c .before .before .before)) never)
 
 mark-at-requires : tie.Need-mark-at-requires
 mark-at-requires c κs = (start5 c .pre, other c)
@@ -222,8 +206,8 @@ mark-at-requires c κs = (start5 c .pre, other c)
 enum-known-kind : tie.Need-enum-known-kind
 enum-known-kind c = search needs
 
-add-t33 : tie.Need-add-t33
-add-t33 c =
+add-t30 : tie.Need-add-t30
+add-t30 c =
     let s = start5 (c .before .before .before .before) in
     let t = text s in
     let p = place s in
@@ -231,22 +215,24 @@ add-t33 c =
     let a = s .args in
     omega (arith, form-bounds t p _ _ (m .form), shown-long (a .first .now) (a .second .now) (a .view), s .good)
 
-enum-told-3 : tie.Need-enum-told-3
-enum-told-3 c = search needs
+enum-told-2 : tie.Need-enum-told-2
+enum-told-2 c = search needs
 
-returns-8 : tie.Need-returns-8
-returns-8 c =
+returns-7 : tie.Need-returns-7
+returns-7 c =
     let s = start5 (c .before .before .before .before) in
     let t = text s in
     let p = place s in
-    (subst (IsMark t p) (c .before .kind .given .1) (c .before .before .before .mark-at .ensures), omega arith)
+    let piece = subst (IsMark t p) (c .before .kind .given .1) (c .before .before .before .mark-at .ensures) in
+    plain-token (no-digit (c .before .before .before .before .before .before .before .before .before .before)) piece
 
-returns-9 : tie.Need-returns-9
-returns-9 c =
+returns-8 : tie.Need-returns-8
+returns-8 c =
     let s = start5 (c .before .before .before) in
     let t = text s in
     let p = place s in
-    subst (IsMark t p) (c .enum-told3 .given .1) (c .before .before .mark-at .ensures)
+    let formless = subst (IsMark t p) (c .enum-told2 .given .1) (c .before .before .mark-at .ensures) in
+    λ ts. strange (s .pre) formless
 
 pub piece-at-spec : {M : Type 1} → statement M
 piece-at-spec =
@@ -254,7 +240,7 @@ piece-at-spec =
     (tie.spec
     byte-requires
     is-blank-requires
-    add-t15
+    add-t13
     returns
     is-letter-requires
     name-end-requires
@@ -262,25 +248,22 @@ piece-at-spec =
     returns-2
     is-digit-requires
     number-requires
-    enum-known-end
-    enum-told
     returns-3
-    returns-4
     slice-aggregate-stands-at
     stands-at-requires
     add-line-end
     line-end-requires
-    returns-5
+    returns-4
     slice-aggregate-stands-at-2
     stands-at-requires-2
     comment-end-requires
-    enum-known-end-2
-    enum-told-2
+    enum-known-end
+    enum-told
+    returns-5
     returns-6
-    returns-7
     mark-at-requires
     enum-known-kind
-    add-t33
-    enum-told-3
-    returns-8
-    returns-9)
+    add-t30
+    enum-told-2
+    returns-7
+    returns-8)

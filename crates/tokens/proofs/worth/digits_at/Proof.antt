@@ -1,7 +1,7 @@
 -- `digits_at` asks two bytes for a base, and the byte behind them for a digit of it.
 use borrow.Author.Needs.{needs}
 use mathlib.Core.List.{List, [], _∷_}
-use mathlib.Core.Path.{_≡_, sym, _∙_, ap, ap₂}
+use mathlib.Core.Path.{_≡_, refl, sym, _∙_, ap, ap₂}
 use native.Mathlib.Omega.{arith}
 use Prim.Native.Nat.{ℕ, _+_}
 use Rattle.language.proofs.Text.Bases.{base-told, Digits, told-digits, untold-digits}
@@ -65,13 +65,14 @@ add-t9 c =
     omega (arith, found c .within, long, s .good)
 
 returns : tie.Need-returns
-returns c = found c
+returns c = (found c, λ e. absurd (omega arith))
 
 returns-2 : tie.Need-returns-2
 returns-2 c =
     let d = c .before .before .before in
     let s = start d in
-    untold-digits (text s) (place s) (d .base-of .result) (base d) (s .pre .0) (s .pre .1) (sym (digit (c .before)) ∙ c .if1 .left)
+    let none = sym (digit (c .before)) ∙ c .if1 .left in
+    (untold-digits (text s) (place s) (d .base-of .result) (base d) (s .pre .0) (s .pre .1) none, λ e. refl)
 
 pub digits-at-spec : {M : Type 1} → statement M
 digits-at-spec =

@@ -1,0 +1,85 @@
+-- `signed` puts a dash before what is below 0.
+use borrow.Author.Tests.{ltb-true}
+use lib.Dec.{T}
+use native.Mathlib.Omega.{arith}
+use lib.IntN.{ℤ, pos, negsuc, natAbs}
+use lib.Signed.{ltZ}
+use mathlib.Core.Bool.{true, false}
+use mathlib.Core.List.{_++_}
+use mathlib.Core.Path.{_≡_, _∙_, ap, subst}
+use mir.Facts.{toZ-ofZ}
+use mir.Syntax.{w64}
+use Prim.Native.Nat.{ℕ, _<_}
+use Rattle.language.specs.Tokens.{spell}
+use Rattle.page.specs.Text.{decimal-of}
+use Rattle.page.proofs.Adding.{being, both}
+use Rattle.clerk.specs.Values.{signed-words}
+use borrow.Author.Needs.{needs}
+use Rattle.clerk.proofs.types.signed.Statement.{statement}
+use Rattle.clerk.proofs.types.signed.Tie as tie
+
+below : (z : ℤ) → ltZ z (pos 0) ≡ true → {m : ℕ} → m ≡ natAbs z → spell "-" ++ decimal-of m ≡ signed-words z
+unfolding signed-words
+below (pos n) h e = let l : n < 0 = ltb-true n 0 h in absurd (omega arith)
+below (negsuc n) h e = rw e
+
+above : (z : ℤ) → ltZ z (pos 0) ≡ false → {m : ℕ} → m ≡ natAbs z → decimal-of m ≡ signed-words z
+unfolding signed-words
+above (pos n) h e = rw e
+above (negsuc n) h e = absurd (subst T h tt)
+
+magnitude-requires : tie.Need-magnitude-requires
+magnitude-requires c κs = search needs
+
+slice-aggregate-put : tie.Need-slice-aggregate-put
+slice-aggregate-put c = search needs
+
+put-requires : tie.Need-put-requires
+put-requires c κs = search needs
+
+decimal-requires : tie.Need-decimal-requires
+decimal-requires c κs = search needs
+
+same-length : tie.Need-same-length
+same-length c = search needs
+
+returns : tie.Need-returns
+returns c =
+    let at-put = c .before .before .before .before .before .before in
+    let at-if1 = at-put .before .before .before in
+    let at-magnitude = at-if1 .before in
+    let start = at-magnitude .before .before in
+    let f = start .fits .n in
+    being
+    (below (start .args .n) (subst (λ (x : ℤ). ltZ x (pos 0) ≡ true) (toZ-ofZ {w = w64} f) (at-if1 .if1 .taken))
+    (at-magnitude .magnitude .ensures ∙ ap natAbs (toZ-ofZ {w = w64} f))) (both (at-put .put .ensures) (c .before .before .decimal .ensures))
+
+decimal-requires-2 : tie.Need-decimal-requires-2
+decimal-requires-2 c κs = search needs
+
+same-length-2 : tie.Need-same-length-2
+same-length-2 c = search needs
+
+returns-2 : tie.Need-returns-2
+returns-2 c =
+    let at-if1 = c .before .before .before .before in
+    let at-magnitude = at-if1 .before in
+    let start = at-magnitude .before .before in
+    let f = start .fits .n in
+    being
+    (above (start .args .n) (subst (λ (x : ℤ). ltZ x (pos 0) ≡ false) (toZ-ofZ {w = w64} f) (at-if1 .if1 .left))
+    (at-magnitude .magnitude .ensures ∙ ap natAbs (toZ-ofZ {w = w64} f))) (c .before .before .decimal2 .ensures)
+
+pub signed-spec : {M : Type 1} → statement M
+signed-spec =
+    tie.close
+    (tie.spec
+    magnitude-requires
+    slice-aggregate-put
+    put-requires
+    decimal-requires
+    same-length
+    returns
+    decimal-requires-2
+    same-length-2
+    returns-2)

@@ -1,0 +1,56 @@
+-- `about` puts a mark, or nothing.
+use mathlib.Core.Path.{sym, _∙_}
+use Rattle.page.proofs.Adding.{being}
+use Rattle.page.proofs.FloatTexts.{about-none, about-more}
+use borrow.Author.Needs.{needs}
+use Rattle.page.proofs.floats.about.Statement.{statement}
+use Rattle.page.proofs.floats.about.Tie as tie
+
+exact-requires : tie.Need-exact-requires
+exact-requires c κs = search needs
+
+slice-aggregate-put : tie.Need-slice-aggregate-put
+slice-aggregate-put c = search needs
+
+put-requires : tie.Need-put-requires
+put-requires c κs = search needs
+
+same-length : tie.Need-same-length
+same-length c = search needs
+
+returns : tie.Need-returns
+returns c =
+    let at-if1 = c .before .before .before .before .before in
+    let at-exact = at-if1 .before in
+    let start = at-exact .before .before in
+    being (about-none (start .args .q) (start .args .s) (sym (at-exact .exact .ensures) ∙ at-if1 .if1 .taken)) (c .before .before .put .ensures)
+
+slice-aggregate-put-2 : tie.Need-slice-aggregate-put-2
+slice-aggregate-put-2 c = search needs
+
+put-requires-2 : tie.Need-put-requires-2
+put-requires-2 c κs = search needs
+
+same-length-2 : tie.Need-same-length-2
+same-length-2 c = search needs
+
+returns-2 : tie.Need-returns-2
+returns-2 c =
+    let at-if1 = c .before .before .before .before .before in
+    let at-exact = at-if1 .before in
+    let start = at-exact .before .before in
+    being (about-more (start .args .q) (start .args .s) (sym (at-exact .exact .ensures) ∙ at-if1 .if1 .left)) (c .before .before .put2 .ensures)
+
+pub about-spec : {M : Type 1} → statement M
+about-spec =
+    tie.close
+    (tie.spec
+    exact-requires
+    slice-aggregate-put
+    put-requires
+    same-length
+    returns
+    slice-aggregate-put-2
+    put-requires-2
+    same-length-2
+    returns-2)

@@ -1,0 +1,154 @@
+-- The tokens that are found at a place, each with what it is worth; of these a float number alone has the kind of one.
+use borrow.Author.Tests.{eq-eqb, ne-eqb, eqb-true, le-leb, lt-leb, leb-true}
+use lib.Dec.{eqb, leb}
+use lib.ListN.{length}
+use lib.Seq.{slice}
+use mathlib.Core.Bool.{true, false}
+use mathlib.Core.List.{List}
+use mathlib.Core.Logic.{⊎-elim}
+use mathlib.Core.Option.{Option, none, some}
+use mathlib.Core.Path.{_≡_, refl, sym, _∙_, subst₂}
+use native.Mathlib.Nat.{le-refl}
+use native.Mathlib.Omega.{arith}
+use Prim.Native.Nat.{ℕ, _+_, _-_, _≤_, _<_}
+use Rattle.language.proofs.Text.Choices.{either, clash, and-both}
+use Rattle.language.proofs.Text.Classes.{digit-of-ten}
+use Rattle.language.proofs.Text.Marks.{laws-1}
+use Rattle.language.proofs.Text.Pieces.{float-piece}
+use Rattle.language.proofs.Text.Runs.{Run, run-some}
+use Rattle.language.proofs.Text.Spellings.{byte-inside}
+use Rattle.language.proofs.Text.Tables.{Table, kind-of, row, every, every-row, found}
+use Rattle.language.specs.Sizes.{LARGEST, DIGITS}
+use Rattle.language.specs.Text.{byte, is-digit, is-digit-of, Content, Form, Piece, Wrong, word-kind, or-name, float-content}
+use Rattle.language.specs.Text.Content.{token}
+use Rattle.language.specs.Text.Flaw.{long-float}
+use Rattle.language.specs.Text.Form.{blank, line, comment, unended, name, number, based, float, mark}
+use Rattle.language.specs.Text.Wrong.{long}
+use Rattle.language.specs.Tokens.{Spelling, EDITION-1, Token, words, marks, spelled, NUMBER, FLOAT-NUMBER}
+use Rattle.layout.specs.Names.{float-bits}
+use Rattle.tokens.specs.Found.{has-point, PointAt, Decimal, IsToken}
+
+-- ---- no word and no mark has the kind of a float number
+
+module _ (rows : Table) (small : every (λ r. leb (kind-of r) 38) rows ≡ true) where
+  row-kind : (s : Spelling) (k : ℕ) → spelled rows s ≡ some k → k ≡ FLOAT-NUMBER → ⊥
+  row-kind s k e z =
+      let f = found rows s k e in
+      let l = leb-true (kind-of (row rows (f .at))) 38 (every-row (λ r. leb (kind-of r) 38) rows small (f .at) (f .inside)) in
+      omega (arith, f .means)
+
+  named : (s : Spelling) → or-name (spelled rows s) ≡ FLOAT-NUMBER → ⊥
+  named s = go (spelled rows s) refl
+    where
+      go : (o : Option ℕ) → spelled rows s ≡ o → or-name o ≡ FLOAT-NUMBER → ⊥
+      go none e z = omega arith
+      go (some k) e z = row-kind s k e z
+
+no-float : (t : List ℕ) (p q : ℕ) (c : Content) → Form EDITION-1 t p q c → is-digit (byte t p) ≡ false
+    → (k v : ℕ) → c ≡ token k v → k ≡ FLOAT-NUMBER → ⊥
+unfolding every word-kind
+no-float t p q c (blank h b e) d k v z f = let y : _≡_ {A = ℕ} 0 1 = cc in omega arith
+no-float t p q c (line s a b e) d k v z f = let y : _≡_ {A = ℕ} 0 1 = cc in omega arith
+no-float t p q c (comment x) d k v z f = let y : _≡_ {A = ℕ} 0 1 = cc in omega arith
+no-float t p q c (unended s m e) d k v z f = let y : _≡_ {A = ℕ} 0 1 = cc in omega arith
+no-float t p q c (name w l e) d k v z f = named words refl (slice p q t) (let y : word-kind EDITION-1 (slice p q t) ≡ k = cc in y ∙ f)
+no-float t p q c (number w e) d k v z f = let y : k ≡ NUMBER = cc in omega arith
+no-float t p q c (based s w e) d k v z f = let y : k ≡ NUMBER = cc in omega arith
+no-float t p q c (float h w e b l i g) d k v z f = clash (e p (w .some) (le-refl p)) d
+no-float t p q c (mark {k = j} w e) d k v z f = let y : j ≡ k = cc in row-kind marks refl (slice p q t) j e (y ∙ f)
+
+-- ---- tokens without a point
+
+-- where no digit stands
+pub plain-token : {t : List ℕ} {p k q : ℕ} → is-digit (byte t p) ≡ false → Piece EDITION-1 t p q (token k 0) → IsToken t p k q 0
+plain-token {t} {p} {k} {q} d x =
+    record {
+      value = 0;
+      piece = x;
+      small = omega arith;
+      float = λ e. absurd (no-float t p q _ (x .form) d k 0 refl e);
+      other = λ n. refl;
+    }
+
+-- a number
+pub number-token : {t : List ℕ} {p q v : ℕ} → Piece EDITION-1 t p q (token NUMBER v) → v ≤ LARGEST → IsToken t p NUMBER q v
+number-token {v = v} x h = record { value = v; piece = x; small = h; float = λ e. absurd (omega arith); other = λ n. refl }
+
+-- ---- the point
+
+module _ (t : List ℕ) (p from q : ℕ) where
+  -- asked for
+  pub point-none : (from ≡ p → ⊥) → false ≡ has-point t p from q
+  unfolding has-point
+  point-none n = rw (ne-eqb from p n)
+
+  pub point-some : {b : ℕ} → from ≡ p → b ≡ byte t q → eqb b 46 ≡ has-point t p from q
+  unfolding has-point
+  point-some e f = rw (eq-eqb from p e, f)
+
+  -- and told
+  pub point-no : has-point t p from q ≡ false → from ≡ p → byte t q ≡ 46 → ⊥
+  unfolding has-point
+  point-no e f g = clash (rw (eq-eqb from p f, eq-eqb (byte t q) 46 g) refl) e
+
+  pub point-yes : has-point t p from q ≡ true → (from ≡ p) × (byte t q ≡ 46)
+  unfolding has-point
+  point-yes e =
+      let z = and-both (eqb from p) (eqb (byte t q) 46) e in
+      (eqb-true from p (z .0), eqb-true (byte t q) 46 (z .1))
+
+-- a run of the digits of ten is one of digits
+pub decimal-run : {t : List ℕ} {p q : ℕ} → Run (is-digit-of 10) t p q → Run is-digit t p q
+decimal-run {t} {p} {q} r = record {
+  order = r .order;
+  within = r .within;
+  each = λ k a b. sym (digit-of-ten (byte t k)) ∙ r .each k a b;
+  stop = λ l. sym (digit-of-ten (byte t q)) ∙ r .stop l;
+}
+
+-- digits that have a point behind them
+pub pointed : {t : List ℕ} {p from base q : ℕ} → p < length t → is-digit (byte t p) ≡ true → (from ≡ p → base ≡ 10)
+    → Run (is-digit-of base) t from q → has-point t p from q ≡ true → PointAt t p q
+pointed {t} {p} {from} {base} {q} h d ten r e =
+    let z = point-yes t p from q e in
+    let run = decimal-run (subst₂ (λ (f b : ℕ). Run (is-digit-of b) t f q) (z .0) (ten (z .0)) r) in
+    record { some = run-some h d run; digits = run; point = z .1 }
+
+-- it lies in the text
+pub point-inside : {t : List ℕ} {p m : ℕ} → PointAt t p m → m + 1 ≤ length t
+point-inside {t} {p} {m} x = omega (arith, byte-inside t m 46 (x .point) (omega arith))
+
+-- ---- float numbers
+
+module _ {t : List ℕ} {p m q : ℕ} (x : PointAt t p m) (r : Run (is-digit-of 10) t (m + 1) q) where
+  content : Piece EDITION-1 t p q (float-content (q - p))
+  content =
+      let d = x .digits in
+      float-piece laws-1 t p m q (omega (arith, x .some, d .within)) (d .each p (x .some) (le-refl p)) d (refl, x .point) (decimal-run r)
+
+  -- too many digits
+  pub float-long : DIGITS + 1 < q - p → (ts : List Token) → Wrong EDITION-1 t p ts long-float
+  float-long h ts = long (rw (lt-leb (q - p) (DIGITS + 1) h) at content)
+
+  module _ (h : q - p ≤ DIGITS + 1) where
+    pub float-decimal : Decimal t p m q
+    float-decimal =
+        let d = decimal-run r in
+        record {
+          before = x .some;
+          behind = omega (arith, d .order);
+          inside = d .within;
+          few = h;
+          point = x .point;
+          digits = λ i a b n. ⊎-elim (λ l. x .digits .each i l a) (λ l. d .each i b (omega arith)) (either i m);
+        }
+
+    pub float-token : {b : ℕ} → b ≡ float-bits (slice p q t) → IsToken t p FLOAT-NUMBER q b
+    float-token e =
+        record {
+          value = 0;
+          piece = rw (le-leb (q - p) (DIGITS + 1) h) at content;
+          small = omega arith;
+          float = λ z. e;
+          other = λ n. absurd (n refl);
+        }
