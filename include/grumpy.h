@@ -74,7 +74,7 @@ extern "C" {
 
 /* bytes of stack that a thread which calls these functions should have: worked out from the compiled code
  * (tools/stack) and tried on the worst sheets that a search has found, not proved */
-#define GRUMPY_STACK 1048576
+#define GRUMPY_STACK 786432
 
 /* the largest source in bytes, and the largest allowance in units */
 #define GRUMPY_SOURCE 8192

@@ -58,3 +58,8 @@ module _ {count n f : ℕ} {w : List ℕ} (room : Room count w n f) where
       -- and what else is asked
       pub later-with : {E : Type 0} → E → (12 * (count - n₂) + b < t) × (Room count v n₂ f₂ × E)
       later-with x = (omega arith, (record { wide = omega arith; few = room .few; inside = i; owned = o }, x))
+
+    -- at least two tokens later, where the rank may be that of two
+    pub second-with : {n₂ f₂ : ℕ} {v : List ℕ} {E : Type 0} → length v ≡ length w → b < 24 → n + 1 < n₂ → n₂ ≤ count → f₂ ≤ n₂ → E
+        → (12 * (count - n₂) + b < t) × (Room count v n₂ f₂ × E)
+    second-with l c p i o x = (omega arith, (record { wide = omega arith; few = room .few; inside = i; owned = o }, x))

@@ -15,33 +15,21 @@ mod Operands·rest
 mod Operands·tier
 mod Operands·un
 use Rattle.phrases.proofs.items.clause.Reads as items·clause
-use Rattle.phrases.proofs.+items-clause+items-if_else+items-let_in+items-seq+items-until+items-while_block+names-arguments+names-name_or_call+operands-assign+operands-atom+operands-rest+operands-tier+operands-un.Lts-items-clause as items·clause-lts
+use Rattle.phrases.proofs.+items-clause+items-if_else+items-let_in+items-seq+items-until+items-while_block+names-arguments+names-name_or_call+operands-assign+operands-atom+operands-rest+operands-tier+operands-un as readers
 use Rattle.phrases.proofs.items.if_else.Reads as items·if-else
-use Rattle.phrases.proofs.+items-clause+items-if_else+items-let_in+items-seq+items-until+items-while_block+names-arguments+names-name_or_call+operands-assign+operands-atom+operands-rest+operands-tier+operands-un.Lts-items-if_else as items·if-else-lts
 use Rattle.phrases.proofs.items.let_in.Reads as items·let-in
-use Rattle.phrases.proofs.+items-clause+items-if_else+items-let_in+items-seq+items-until+items-while_block+names-arguments+names-name_or_call+operands-assign+operands-atom+operands-rest+operands-tier+operands-un.Lts-items-let_in as items·let-in-lts
 use Rattle.phrases.proofs.items.seq.Reads as items·seq
-use Rattle.phrases.proofs.+items-clause+items-if_else+items-let_in+items-seq+items-until+items-while_block+names-arguments+names-name_or_call+operands-assign+operands-atom+operands-rest+operands-tier+operands-un.Lts-items-seq as items·seq-lts
 use Rattle.phrases.proofs.items.until.Reads as items·until
-use Rattle.phrases.proofs.+items-clause+items-if_else+items-let_in+items-seq+items-until+items-while_block+names-arguments+names-name_or_call+operands-assign+operands-atom+operands-rest+operands-tier+operands-un.Lts-items-until as items·until-lts
 use Rattle.phrases.proofs.items.while_block.Reads as items·while-block
-use Rattle.phrases.proofs.+items-clause+items-if_else+items-let_in+items-seq+items-until+items-while_block+names-arguments+names-name_or_call+operands-assign+operands-atom+operands-rest+operands-tier+operands-un.Lts-items-while_block as items·while-block-lts
 use Rattle.phrases.proofs.names.arguments.Reads as names·arguments
-use Rattle.phrases.proofs.+items-clause+items-if_else+items-let_in+items-seq+items-until+items-while_block+names-arguments+names-name_or_call+operands-assign+operands-atom+operands-rest+operands-tier+operands-un.Lts-names-arguments as names·arguments-lts
 use Rattle.phrases.proofs.names.name_or_call.Reads as names·name-or-call
-use Rattle.phrases.proofs.+items-clause+items-if_else+items-let_in+items-seq+items-until+items-while_block+names-arguments+names-name_or_call+operands-assign+operands-atom+operands-rest+operands-tier+operands-un.Lts-names-name_or_call as names·name-or-call-lts
 use Rattle.phrases.proofs.operands.assign.Reads as operands·assign
-use Rattle.phrases.proofs.+items-clause+items-if_else+items-let_in+items-seq+items-until+items-while_block+names-arguments+names-name_or_call+operands-assign+operands-atom+operands-rest+operands-tier+operands-un.Lts-operands-assign as operands·assign-lts
 use Rattle.phrases.proofs.operands.atom.Reads as operands·atom
-use Rattle.phrases.proofs.+items-clause+items-if_else+items-let_in+items-seq+items-until+items-while_block+names-arguments+names-name_or_call+operands-assign+operands-atom+operands-rest+operands-tier+operands-un.Lts-operands-atom as operands·atom-lts
 use Rattle.phrases.proofs.operands.rest.Reads as operands·rest
-use Rattle.phrases.proofs.+items-clause+items-if_else+items-let_in+items-seq+items-until+items-while_block+names-arguments+names-name_or_call+operands-assign+operands-atom+operands-rest+operands-tier+operands-un.Lts-operands-rest as operands·rest-lts
 use Rattle.phrases.proofs.operands.tier.Reads as operands·tier
-use Rattle.phrases.proofs.+items-clause+items-if_else+items-let_in+items-seq+items-until+items-while_block+names-arguments+names-name_or_call+operands-assign+operands-atom+operands-rest+operands-tier+operands-un.Lts-operands-tier as operands·tier-lts
 use Rattle.phrases.proofs.operands.un.Reads as operands·un
-use Rattle.phrases.proofs.+items-clause+items-if_else+items-let_in+items-seq+items-until+items-while_block+names-arguments+names-name_or_call+operands-assign+operands-atom+operands-rest+operands-tier+operands-un.Lts-operands-un as operands·un-lts
-use Rattle.phrases.proofs.+items-clause+items-if_else+items-let_in+items-seq+items-until+items-while_block+names-arguments+names-name_or_call+operands-assign+operands-atom+operands-rest+operands-tier+operands-un.{statement}
-use Rattle.phrases.proofs.+items-clause+items-if_else+items-let_in+items-seq+items-until+items-while_block+names-arguments+names-name_or_call+operands-assign+operands-atom+operands-rest+operands-tier+operands-un.Tie.{close}
+use readers.{statement}
+use readers.Tie.{close}
 use Setup.{μ-items·clause, items·clause-at, items·clause-claims, μ-items·if-else, items·if-else-at, items·if-else-claims, μ-items·let-in}
 use Setup.{items·let-in-at, items·let-in-claims, μ-items·seq, items·seq-at, items·seq-claims, μ-items·until, items·until-at, items·until-claims}
 use Setup.{μ-items·while-block, items·while-block-at, items·while-block-claims, μ-names·arguments, names·arguments-at, names·arguments-claims}
@@ -55,52 +43,52 @@ pub
 +items·clause+items·if-else+items·let-in+items·seq+items·until+items·while-block+names·arguments+names·name-or-call+operands·assign+operands·atom+operands·rest+operands·tier+operands·un-spec =
     close μ-items·clause μ-items·if-else μ-items·let-in μ-items·seq μ-items·until μ-items·while-block μ-names·arguments μ-names·name-or-call
     μ-operands·assign μ-operands·atom μ-operands·rest μ-operands·tier μ-operands·un
-    (λ t. items·clause-lts.spec (items·clause-claims t) (items·clause-at t) items·clause.Post (Items·clause.kind-requires t)
+    (λ t. readers.Lts-items-clause.spec (items·clause-claims t) (items·clause-at t) items·clause.Post (Items·clause.kind-requires t)
     (Items·clause.let-in-requires t) (Items·clause.same-length t) (Items·clause.returns t) (Items·clause.if-else-requires t)
     (Items·clause.same-length-2 t) (Items·clause.returns-2 t) (Items·clause.while-block-requires t) (Items·clause.same-length-3 t)
     (Items·clause.returns-3 t) (Items·clause.assign-requires t) (Items·clause.same-length-4 t) (Items·clause.returns-4 t))
-    (λ t. items·if-else-lts.spec (items·if-else-claims t) (items·if-else-at t) items·if-else.Post (Items·ifElse.add-until t)
+    (λ t. readers.Lts-items-if_else.spec (items·if-else-claims t) (items·if-else-at t) items·if-else.Post (Items·ifElse.add-until t)
     (Items·ifElse.until-requires t) (Items·ifElse.enum-known-test t) (Items·ifElse.add-until-2 t) (Items·ifElse.until-requires-2 t)
     (Items·ifElse.enum-known-yes t) (Items·ifElse.add-clause t) (Items·ifElse.clause-requires t) (Items·ifElse.choice-requires t)
     (Items·ifElse.enum-known-yes-2 t) (Items·ifElse.enum-known-test-2 t) (Items·ifElse.same-length t) (Items·ifElse.returns t)
     (Items·ifElse.same-length-2 t) (Items·ifElse.returns-2 t) (Items·ifElse.same-length-3 t) (Items·ifElse.returns-3 t))
-    (λ t. items·let-in-lts.spec (items·let-in-claims t) (items·let-in-at t) items·let-in.Post (Items·letIn.add-kind t)
+    (λ t. readers.Lts-items-let_in.spec (items·let-in-claims t) (items·let-in-at t) items·let-in.Post (Items·letIn.add-kind t)
     (Items·letIn.kind-requires t) (Items·letIn.add-t16 t) (Items·letIn.same-length t) (Items·letIn.returns t) (Items·letIn.add-kind-2 t)
     (Items·letIn.kind-requires-2 t) (Items·letIn.add-t19 t) (Items·letIn.same-length-2 t) (Items·letIn.returns-2 t)
     (Items·letIn.add-until t) (Items·letIn.until-requires t) (Items·letIn.enum-known-value t) (Items·letIn.add-seq t)
     (Items·letIn.seq-requires t) (Items·letIn.pair-requires t) (Items·letIn.enum-known-value-2 t) (Items·letIn.same-length-3 t)
     (Items·letIn.returns-3 t) (Items·letIn.same-length-4 t) (Items·letIn.returns-4 t))
-    (λ t. items·seq-lts.spec (items·seq-claims t) (items·seq-at t) items·seq.Post (Items·seq.clause-requires t)
+    (λ t. readers.Lts-items-seq.spec (items·seq-claims t) (items·seq-at t) items·seq.Post (Items·seq.clause-requires t)
     (Items·seq.enum-known-first t) (Items·seq.kind-requires t) (Items·seq.add-seq t) (Items·seq.seq-requires t)
     (Items·seq.pair-requires t) (Items·seq.enum-known-first-2 t) (Items·seq.same-length t) (Items·seq.returns t)
     (Items·seq.same-length-2 t) (Items·seq.returns-2 t) (Items·seq.same-length-3 t) (Items·seq.returns-3 t))
-    (λ t. items·until-lts.spec (items·until-claims t) (items·until-at t) items·until.Post (Items·until.seq-requires t)
+    (λ t. readers.Lts-items-until.spec (items·until-claims t) (items·until-at t) items·until.Post (Items·until.seq-requires t)
     (Items·until.enum-known-whole t) (Items·until.kind-requires t) (Items·until.enum-known-whole-2 t) (Items·until.same-length t)
     (Items·until.returns t) (Items·until.same-length-2 t) (Items·until.returns-2 t) (Items·until.same-length-3 t)
     (Items·until.returns-3 t))
-    (λ t. items·while-block-lts.spec (items·while-block-claims t) (items·while-block-at t) items·while-block.Post
+    (λ t. readers.Lts-items-while_block.spec (items·while-block-claims t) (items·while-block-at t) items·while-block.Post
     (Items·whileBlock.add-until t) (Items·whileBlock.until-requires t) (Items·whileBlock.enum-known-test t)
     (Items·whileBlock.add-until-2 t) (Items·whileBlock.until-requires-2 t) (Items·whileBlock.around-requires t)
     (Items·whileBlock.pair-requires t) (Items·whileBlock.enum-known-test-2 t) (Items·whileBlock.same-length t)
     (Items·whileBlock.returns t) (Items·whileBlock.same-length-2 t) (Items·whileBlock.returns-2 t))
-    (λ t. names·arguments-lts.spec (names·arguments-claims t) (names·arguments-at t) names·arguments.Post (Names·arguments.seq-requires t)
+    (λ t. readers.Lts-names-arguments.spec (names·arguments-claims t) (names·arguments-at t) names·arguments.Post (Names·arguments.seq-requires t)
     (Names·arguments.enum-known-first t) (Names·arguments.kind-requires t) (Names·arguments.add-node t) (Names·arguments.node-requires t)
     (Names·arguments.same-length t) (Names·arguments.returns t) (Names·arguments.same-length-2 t) (Names·arguments.returns-2 t)
     (Names·arguments.add-arguments t) (Names·arguments.arguments-requires t) (Names·arguments.pair-requires t)
     (Names·arguments.enum-known-first-2 t) (Names·arguments.same-length-3 t) (Names·arguments.returns-3 t)
     (Names·arguments.same-length-4 t) (Names·arguments.returns-4 t))
-    (λ t. names·name-or-call-lts.spec (names·name-or-call-claims t) (names·name-or-call-at t) names·name-or-call.Post
+    (λ t. readers.Lts-names-name_or_call.spec (names·name-or-call-claims t) (names·name-or-call-at t) names·name-or-call.Post
     (Names·nameOrCall.add-kind t) (Names·nameOrCall.kind-requires t) (Names·nameOrCall.add-node t) (Names·nameOrCall.node-requires t)
     (Names·nameOrCall.same-length t) (Names·nameOrCall.returns t) (Names·nameOrCall.add-kind-2 t) (Names·nameOrCall.kind-requires-2 t)
     (Names·nameOrCall.add-node-2 t) (Names·nameOrCall.node-requires-2 t) (Names·nameOrCall.same-length-2 t) (Names·nameOrCall.returns-2 t)
     (Names·nameOrCall.add-arguments t) (Names·nameOrCall.arguments-requires t) (Names·nameOrCall.over-requires t)
     (Names·nameOrCall.same-length-3 t) (Names·nameOrCall.returns-3 t))
-    (λ t. operands·assign-lts.spec (operands·assign-claims t) (operands·assign-at t) operands·assign.Post
+    (λ t. readers.Lts-operands-assign.spec (operands·assign-claims t) (operands·assign-at t) operands·assign.Post
     (Operands·assign.tier-requires t) (Operands·assign.enum-known-target t) (Operands·assign.kind-requires t) (Operands·assign.add-tier t)
     (Operands·assign.tier-requires-2 t) (Operands·assign.pair-requires t) (Operands·assign.enum-known-target-2 t)
     (Operands·assign.same-length t) (Operands·assign.returns t) (Operands·assign.same-length-2 t) (Operands·assign.returns-2 t)
     (Operands·assign.same-length-3 t) (Operands·assign.returns-3 t))
-    (λ t. operands·atom-lts.spec (operands·atom-claims t) (operands·atom-at t) operands·atom.Post (Operands·atom.kind-requires t)
+    (λ t. readers.Lts-operands-atom.spec (operands·atom-claims t) (operands·atom-at t) operands·atom.Post (Operands·atom.kind-requires t)
     (Operands·atom.is-constant-requires t) (Operands·atom.add-node t) (Operands·atom.node-requires t) (Operands·atom.same-length t)
     (Operands·atom.returns t) (Operands·atom.add-node-2 t) (Operands·atom.node-requires-2 t) (Operands·atom.add-node-3 t)
     (Operands·atom.node-requires-3 t) (Operands·atom.name-or-call-requires t) (Operands·atom.add-until t) (Operands·atom.until-requires t)
@@ -108,16 +96,16 @@ pub
     (Operands·atom.same-length-2 t) (Operands·atom.returns-2 t) (Operands·atom.same-length-3 t) (Operands·atom.returns-3 t)
     (Operands·atom.same-length-4 t) (Operands·atom.returns-4 t) (Operands·atom.same-length-5 t) (Operands·atom.returns-5 t)
     (Operands·atom.same-length-6 t) (Operands·atom.returns-6 t) (Operands·atom.same-length-7 t) (Operands·atom.returns-7 t))
-    (λ t. operands·rest-lts.spec (operands·rest-claims t) (operands·rest-at t) operands·rest.Post (Operands·rest.kind-requires t)
+    (λ t. readers.Lts-operands-rest.spec (operands·rest-claims t) (operands·rest-at t) operands·rest.Post (Operands·rest.kind-requires t)
     (Operands·rest.tightness-requires t) (Operands·rest.same-length t) (Operands·rest.returns t) (Operands·rest.same-length-2 t)
     (Operands·rest.returns-2 t) (Operands·rest.add-tier t) (Operands·rest.add-tier-2 t) (Operands·rest.tier-requires t)
     (Operands·rest.enum-known-right t) (Operands·rest.cast-put t) (Operands·rest.put-requires t) (Operands·rest.after-requires t)
     (Operands·rest.add-rest t) (Operands·rest.cast-rest t) (Operands·rest.rest-requires t) (Operands·rest.enum-known-right-2 t)
     (Operands·rest.same-length-3 t) (Operands·rest.returns-3 t) (Operands·rest.same-length-4 t) (Operands·rest.returns-4 t))
-    (λ t. operands·tier-lts.spec (operands·tier-claims t) (operands·tier-at t) operands·tier.Post (Operands·tier.un-requires t)
+    (λ t. readers.Lts-operands-tier.spec (operands·tier-claims t) (operands·tier-at t) operands·tier.Post (Operands·tier.un-requires t)
     (Operands·tier.enum-known-first t) (Operands·tier.rest-requires t) (Operands·tier.enum-known-first-2 t) (Operands·tier.same-length t)
     (Operands·tier.returns t) (Operands·tier.same-length-2 t) (Operands·tier.returns-2 t))
-    λ t. operands·un-lts.spec (operands·un-claims t) (operands·un-at t) operands·un.Post (Operands·un.kind-requires t)
+    λ t. readers.Lts-operands-un.spec (operands·un-claims t) (operands·un-at t) operands·un.Post (Operands·un.kind-requires t)
     (Operands·un.is-prefix-requires t) (Operands·un.add-un t) (Operands·un.un-requires t) (Operands·un.add-over t)
     (Operands·un.over-requires t) (Operands·un.atom-requires t) (Operands·un.same-length t) (Operands·un.returns t)
     (Operands·un.same-length-2 t) (Operands·un.returns-2 t)

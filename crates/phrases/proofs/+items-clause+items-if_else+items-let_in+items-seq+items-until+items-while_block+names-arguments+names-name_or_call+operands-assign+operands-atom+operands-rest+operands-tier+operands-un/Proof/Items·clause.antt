@@ -3,8 +3,9 @@ use mathlib.Core.Path.{refl, sym, _∙_}
 use Prim.Native.Nat.{ℕ}
 use native.Mathlib.Omega.{arith}
 use Rattle.phrases.proofs.items.clause.Reads as items·clause
-use Rattle.phrases.proofs.+items-clause+items-if_else+items-let_in+items-seq+items-until+items-while_block+names-arguments+names-name_or_call+operands-assign+operands-atom+operands-rest+operands-tier+operands-un.Lts-items-clause as lts
-use Rattle.phrases.proofs.+items-clause+items-if_else+items-let_in+items-seq+items-until+items-while_block+names-arguments+names-name_or_call+operands-assign+operands-atom+operands-rest+operands-tier+operands-un.Proof.Setup.{items·clause-claims, items·clause-at}
+use Rattle.phrases.proofs.+items-clause+items-if_else+items-let_in+items-seq+items-until+items-while_block+names-arguments+names-name_or_call+operands-assign+operands-atom+operands-rest+operands-tier+operands-un as readers
+use readers.Lts-items-clause as lts
+use readers.Proof.Setup.{items·clause-claims, items·clause-at}
 use Rattle.phrases.proofs.Moving.{ask, lower, lower-with}
 use Rattle.phrases.proofs.ItemLaws.{clause-let, clause-assign}
 

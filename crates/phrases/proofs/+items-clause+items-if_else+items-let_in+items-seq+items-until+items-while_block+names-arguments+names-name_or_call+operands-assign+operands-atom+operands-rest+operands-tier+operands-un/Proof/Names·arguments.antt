@@ -4,15 +4,16 @@ use Prim.Native.Nat.{ℕ}
 use native.Mathlib.Omega.{arith}
 use borrow.Author.Needs.{needs}
 use Rattle.phrases.proofs.names.arguments.Reads as names·arguments
-use Rattle.phrases.proofs.+items-clause+items-if_else+items-let_in+items-seq+items-until+items-while_block+names-arguments+names-name_or_call+operands-assign+operands-atom+operands-rest+operands-tier+operands-un.Lts-names-arguments as lts
-use Rattle.phrases.proofs.+items-clause+items-if_else+items-let_in+items-seq+items-until+items-while_block+names-arguments+names-name_or_call+operands-assign+operands-atom+operands-rest+operands-tier+operands-un.Proof.Setup.{names·arguments-claims, names·arguments-at}
-use Rattle.phrases.proofs.Moving.{ask, node-fits, call-fits, lower, later-with}
+use Rattle.phrases.proofs.+items-clause+items-if_else+items-let_in+items-seq+items-until+items-while_block+names-arguments+names-name_or_call+operands-assign+operands-atom+operands-rest+operands-tier+operands-un as readers
+use readers.Lts-names-arguments as lts
+use readers.Proof.Setup.{names·arguments-claims, names·arguments-at}
+use Rattle.phrases.proofs.Moving.{ask, node-fits, call-fits, lower, second-with}
 use Rattle.phrases.proofs.Standing.{within}
 use Rattle.phrases.proofs.Answering.{known}
 use Rattle.phrases.proofs.CallLaws.{args-none, args-other, args-last, args-more}
 
 pub seq-requires : (t : ℕ) → lts.Need-seq-requires (names·arguments-claims t) (names·arguments-at t) names·arguments.Post
-seq-requires t c κs = lower (c .before .before .pre .1 .0) 9 8 (c .before .before .pre .0) (omega arith)
+seq-requires t c κs = lower (c .before .before .pre .1 .0) 17 8 (c .before .before .pre .0) (omega arith)
 
 pub enum-known-first : (t : ℕ) → lts.Need-enum-known-first (names·arguments-claims t) (names·arguments-at t) names·arguments.Post
 enum-known-first t c = search needs
@@ -87,7 +88,7 @@ arguments-requires t c κs =
     let p = start .pre .1 .0 in
     let o = (known (at-seq .seq .ensures) (at-first .first .given .1)) .ahead in
     let i = within _ _ _ _ (sym (at-kind .kind .ensures) ∙ c .before .if2 .left) (omega arith) in
-    later-with p 9 9 (start .pre .0) (at-seq .seq .kept .0) (omega arith) (omega arith) (omega arith) (omega arith) (start .pre .1 .1)
+    second-with p 17 17 (start .pre .0) (at-seq .seq .kept .0) (omega arith) (omega arith) (omega arith) (omega arith) (start .pre .1 .1)
 
 pub pair-requires : (t : ℕ) → lts.Need-pair-requires (names·arguments-claims t) (names·arguments-at t) names·arguments.Post
 pair-requires t c κs =

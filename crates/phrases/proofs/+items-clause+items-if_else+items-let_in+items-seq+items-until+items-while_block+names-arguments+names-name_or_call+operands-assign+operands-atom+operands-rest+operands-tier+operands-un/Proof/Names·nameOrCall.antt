@@ -3,9 +3,10 @@ use mathlib.Core.Path.{refl, sym, _∙_}
 use Prim.Native.Nat.{ℕ}
 use native.Mathlib.Omega.{arith}
 use Rattle.phrases.proofs.names.name_or_call.Reads as names·name-or-call
-use Rattle.phrases.proofs.+items-clause+items-if_else+items-let_in+items-seq+items-until+items-while_block+names-arguments+names-name_or_call+operands-assign+operands-atom+operands-rest+operands-tier+operands-un.Lts-names-name_or_call as lts
-use Rattle.phrases.proofs.+items-clause+items-if_else+items-let_in+items-seq+items-until+items-while_block+names-arguments+names-name_or_call+operands-assign+operands-atom+operands-rest+operands-tier+operands-un.Proof.Setup.{names·name-or-call-claims, names·name-or-call-at}
-use Rattle.phrases.proofs.Moving.{ask, node-fits, call-fits, later-with}
+use Rattle.phrases.proofs.+items-clause+items-if_else+items-let_in+items-seq+items-until+items-while_block+names-arguments+names-name_or_call+operands-assign+operands-atom+operands-rest+operands-tier+operands-un as readers
+use readers.Lts-names-name_or_call as lts
+use readers.Proof.Setup.{names·name-or-call-claims, names·name-or-call-at}
+use Rattle.phrases.proofs.Moving.{ask, node-fits, call-fits, second-with}
 use Rattle.phrases.proofs.Standing.{within}
 use Rattle.phrases.proofs.CallLaws.{just-name, call-none, call-some}
 
@@ -84,7 +85,7 @@ arguments-requires t c κs =
     let p = start .pre .1 .0 in
     let i = within _ _ _ _ (start .pre .1 .1) (omega arith) in
     let j = within _ _ _ _ (sym (at-kind .kind .ensures) ∙ at-if1 .if1 .left) (omega arith) in
-    later-with p 1 9 (start .pre .0) refl (omega arith) (omega arith) (omega arith) (omega arith) i
+    second-with p 1 17 (start .pre .0) refl (omega arith) (omega arith) (omega arith) (omega arith) i
 
 pub over-requires : (t : ℕ) → lts.Need-over-requires (names·name-or-call-claims t) (names·name-or-call-at t) names·name-or-call.Post
 over-requires t c κs =

@@ -1,5 +1,7 @@
--- The measure of each reader of expressions: twelve for each token that is left, and its rule's rank. Then for each what it is
--- given at a measure, what a call of it asks below one, and what all that it calls ask and ensure.
+-- The measure of each reader of expressions: twelve for each token that is left, and its rule's rank. Arguments stand two tokens
+-- behind their name, so their rank may be, and is, more than twelve: `tools/stack` tells from the ranks how many tokens a call
+-- passes at least. Then for each reader what it is given at a measure, what a call of it asks below one, and what all that it calls
+-- ask and ensure.
 use Prim.Native.Nat.{ℕ, _+_, _*_, _-_, _<_}
 use borrow.Fn.Kinds.{In}
 use borrow.Fn.PlainCycle.{Measures, is, falls, and}
@@ -7,43 +9,31 @@ use Rattle.layout.proofs.rows.put.Reads as put-reads
 use Rattle.layout.proofs.token.kind.Reads as kind-reads
 use Rattle.phrases.proofs.items.clause.Reads as items·clause
 use Rattle.phrases.proofs.items.clause.Kinds as items·clause-kinds
-use Rattle.phrases.proofs.+items-clause+items-if_else+items-let_in+items-seq+items-until+items-while_block+names-arguments+names-name_or_call+operands-assign+operands-atom+operands-rest+operands-tier+operands-un.Lts-items-clause as items·clause-lts
+use Rattle.phrases.proofs.+items-clause+items-if_else+items-let_in+items-seq+items-until+items-while_block+names-arguments+names-name_or_call+operands-assign+operands-atom+operands-rest+operands-tier+operands-un as readers
 use Rattle.phrases.proofs.items.if_else.Reads as items·if-else
 use Rattle.phrases.proofs.items.if_else.Kinds as items·if-else-kinds
-use Rattle.phrases.proofs.+items-clause+items-if_else+items-let_in+items-seq+items-until+items-while_block+names-arguments+names-name_or_call+operands-assign+operands-atom+operands-rest+operands-tier+operands-un.Lts-items-if_else as items·if-else-lts
 use Rattle.phrases.proofs.items.let_in.Reads as items·let-in
 use Rattle.phrases.proofs.items.let_in.Kinds as items·let-in-kinds
-use Rattle.phrases.proofs.+items-clause+items-if_else+items-let_in+items-seq+items-until+items-while_block+names-arguments+names-name_or_call+operands-assign+operands-atom+operands-rest+operands-tier+operands-un.Lts-items-let_in as items·let-in-lts
 use Rattle.phrases.proofs.items.seq.Reads as items·seq
 use Rattle.phrases.proofs.items.seq.Kinds as items·seq-kinds
-use Rattle.phrases.proofs.+items-clause+items-if_else+items-let_in+items-seq+items-until+items-while_block+names-arguments+names-name_or_call+operands-assign+operands-atom+operands-rest+operands-tier+operands-un.Lts-items-seq as items·seq-lts
 use Rattle.phrases.proofs.items.until.Reads as items·until
 use Rattle.phrases.proofs.items.until.Kinds as items·until-kinds
-use Rattle.phrases.proofs.+items-clause+items-if_else+items-let_in+items-seq+items-until+items-while_block+names-arguments+names-name_or_call+operands-assign+operands-atom+operands-rest+operands-tier+operands-un.Lts-items-until as items·until-lts
 use Rattle.phrases.proofs.items.while_block.Reads as items·while-block
 use Rattle.phrases.proofs.items.while_block.Kinds as items·while-block-kinds
-use Rattle.phrases.proofs.+items-clause+items-if_else+items-let_in+items-seq+items-until+items-while_block+names-arguments+names-name_or_call+operands-assign+operands-atom+operands-rest+operands-tier+operands-un.Lts-items-while_block as items·while-block-lts
 use Rattle.phrases.proofs.names.arguments.Reads as names·arguments
 use Rattle.phrases.proofs.names.arguments.Kinds as names·arguments-kinds
-use Rattle.phrases.proofs.+items-clause+items-if_else+items-let_in+items-seq+items-until+items-while_block+names-arguments+names-name_or_call+operands-assign+operands-atom+operands-rest+operands-tier+operands-un.Lts-names-arguments as names·arguments-lts
 use Rattle.phrases.proofs.names.name_or_call.Reads as names·name-or-call
 use Rattle.phrases.proofs.names.name_or_call.Kinds as names·name-or-call-kinds
-use Rattle.phrases.proofs.+items-clause+items-if_else+items-let_in+items-seq+items-until+items-while_block+names-arguments+names-name_or_call+operands-assign+operands-atom+operands-rest+operands-tier+operands-un.Lts-names-name_or_call as names·name-or-call-lts
 use Rattle.phrases.proofs.operands.assign.Reads as operands·assign
 use Rattle.phrases.proofs.operands.assign.Kinds as operands·assign-kinds
-use Rattle.phrases.proofs.+items-clause+items-if_else+items-let_in+items-seq+items-until+items-while_block+names-arguments+names-name_or_call+operands-assign+operands-atom+operands-rest+operands-tier+operands-un.Lts-operands-assign as operands·assign-lts
 use Rattle.phrases.proofs.operands.atom.Reads as operands·atom
 use Rattle.phrases.proofs.operands.atom.Kinds as operands·atom-kinds
-use Rattle.phrases.proofs.+items-clause+items-if_else+items-let_in+items-seq+items-until+items-while_block+names-arguments+names-name_or_call+operands-assign+operands-atom+operands-rest+operands-tier+operands-un.Lts-operands-atom as operands·atom-lts
 use Rattle.phrases.proofs.operands.rest.Reads as operands·rest
 use Rattle.phrases.proofs.operands.rest.Kinds as operands·rest-kinds
-use Rattle.phrases.proofs.+items-clause+items-if_else+items-let_in+items-seq+items-until+items-while_block+names-arguments+names-name_or_call+operands-assign+operands-atom+operands-rest+operands-tier+operands-un.Lts-operands-rest as operands·rest-lts
 use Rattle.phrases.proofs.operands.tier.Reads as operands·tier
 use Rattle.phrases.proofs.operands.tier.Kinds as operands·tier-kinds
-use Rattle.phrases.proofs.+items-clause+items-if_else+items-let_in+items-seq+items-until+items-while_block+names-arguments+names-name_or_call+operands-assign+operands-atom+operands-rest+operands-tier+operands-un.Lts-operands-tier as operands·tier-lts
 use Rattle.phrases.proofs.operands.un.Reads as operands·un
 use Rattle.phrases.proofs.operands.un.Kinds as operands·un-kinds
-use Rattle.phrases.proofs.+items-clause+items-if_else+items-let_in+items-seq+items-until+items-while_block+names-arguments+names-name_or_call+operands-assign+operands-atom+operands-rest+operands-tier+operands-un.Lts-operands-un as operands·un-lts
 use Rattle.phrases.proofs.operators.after.Reads as after-reads
 use Rattle.phrases.proofs.operators.is_constant.Reads as is-constant-reads
 use Rattle.phrases.proofs.operators.is_prefix.Reads as is-prefix-reads
@@ -73,7 +63,7 @@ abbrev pub μ-items·while-block : Measures 1 items·while-block-kinds.ps ℕ
 μ-items·while-block κs a = 12 * (a .1 .0 - a .1 .1 .0) + 6
 
 abbrev pub μ-names·arguments : Measures 1 names·arguments-kinds.ps ℕ
-μ-names·arguments κs a = 12 * (a .1 .0 - a .1 .1 .0) + 9
+μ-names·arguments κs a = 12 * (a .1 .0 - a .1 .1 .0) + 17
 
 abbrev pub μ-names·name-or-call : Measures 1 names·name-or-call-kinds.ps ℕ
 μ-names·name-or-call κs a = 12 * (a .1 .0 - a .1 .1 .0) + 1
@@ -171,7 +161,7 @@ operands·un-at t = and 1 operands·un-kinds.ps (is 1 operands·un-kinds.ps μ-o
 abbrev pub operands·un-below : ℕ → In 1 operands·un-kinds.ps
 operands·un-below t = and 1 operands·un-kinds.ps (falls 1 operands·un-kinds.ps _<_ μ-operands·un t) operands·un.Pre
 
-abbrev pub items·clause-claims : ℕ → items·clause-lts.Claims
+abbrev pub items·clause-claims : ℕ → readers.Lts-items-clause.Claims
 items·clause-claims t = (
   kind-reads.Asked,
   kind-reads.Learnt,
@@ -185,11 +175,11 @@ items·clause-claims t = (
   operands·assign.Post,
 )
 
-abbrev pub items·if-else-claims : ℕ → items·if-else-lts.Claims
+abbrev pub items·if-else-claims : ℕ → readers.Lts-items-if_else.Claims
 items·if-else-claims t =
     (items·until-below t, items·until.Post, items·clause-below t, items·clause.Post, choice-reads.Asked, choice-reads.Learnt)
 
-abbrev pub items·let-in-claims : ℕ → items·let-in-lts.Claims
+abbrev pub items·let-in-claims : ℕ → readers.Lts-items-let_in.Claims
 items·let-in-claims t = (
   kind-reads.Asked,
   kind-reads.Learnt,
@@ -201,7 +191,7 @@ items·let-in-claims t = (
   pair-reads.Learnt,
 )
 
-abbrev pub items·seq-claims : ℕ → items·seq-lts.Claims
+abbrev pub items·seq-claims : ℕ → readers.Lts-items-seq.Claims
 items·seq-claims t = (
   items·clause-below t,
   items·clause.Post,
@@ -213,14 +203,14 @@ items·seq-claims t = (
   pair-reads.Learnt,
 )
 
-abbrev pub items·until-claims : ℕ → items·until-lts.Claims
+abbrev pub items·until-claims : ℕ → readers.Lts-items-until.Claims
 items·until-claims t = (items·seq-below t, items·seq.Post, kind-reads.Asked, kind-reads.Learnt)
 
-abbrev pub items·while-block-claims : ℕ → items·while-block-lts.Claims
+abbrev pub items·while-block-claims : ℕ → readers.Lts-items-while_block.Claims
 items·while-block-claims t =
     (items·until-below t, items·until.Post, around-reads.Asked, around-reads.Learnt, pair-reads.Asked, pair-reads.Learnt)
 
-abbrev pub names·arguments-claims : ℕ → names·arguments-lts.Claims
+abbrev pub names·arguments-claims : ℕ → readers.Lts-names-arguments.Claims
 names·arguments-claims t = (
   items·seq-below t,
   items·seq.Post,
@@ -234,7 +224,7 @@ names·arguments-claims t = (
   pair-reads.Learnt,
 )
 
-abbrev pub names·name-or-call-claims : ℕ → names·name-or-call-lts.Claims
+abbrev pub names·name-or-call-claims : ℕ → readers.Lts-names-name_or_call.Claims
 names·name-or-call-claims t = (
   kind-reads.Asked,
   kind-reads.Learnt,
@@ -246,11 +236,11 @@ names·name-or-call-claims t = (
   over-reads.Learnt,
 )
 
-abbrev pub operands·assign-claims : ℕ → operands·assign-lts.Claims
+abbrev pub operands·assign-claims : ℕ → readers.Lts-operands-assign.Claims
 operands·assign-claims t =
     (operands·tier-below t, operands·tier.Post, kind-reads.Asked, kind-reads.Learnt, pair-reads.Asked, pair-reads.Learnt)
 
-abbrev pub operands·atom-claims : ℕ → operands·atom-lts.Claims
+abbrev pub operands·atom-claims : ℕ → readers.Lts-operands-atom.Claims
 operands·atom-claims t = (
   kind-reads.Asked,
   kind-reads.Learnt,
@@ -266,7 +256,7 @@ operands·atom-claims t = (
   around-reads.Learnt,
 )
 
-abbrev pub operands·rest-claims : ℕ → operands·rest-lts.Claims
+abbrev pub operands·rest-claims : ℕ → readers.Lts-operands-rest.Claims
 operands·rest-claims t = (
   kind-reads.Asked,
   kind-reads.Learnt,
@@ -282,10 +272,10 @@ operands·rest-claims t = (
   operands·rest.Post,
 )
 
-abbrev pub operands·tier-claims : ℕ → operands·tier-lts.Claims
+abbrev pub operands·tier-claims : ℕ → readers.Lts-operands-tier.Claims
 operands·tier-claims t = (operands·un-below t, operands·un.Post, operands·rest-below t, operands·rest.Post)
 
-abbrev pub operands·un-claims : ℕ → operands·un-lts.Claims
+abbrev pub operands·un-claims : ℕ → readers.Lts-operands-un.Claims
 operands·un-claims t = (
   kind-reads.Asked,
   kind-reads.Learnt,
