@@ -1,12 +1,15 @@
--- The readers of expressions, which call each other, meet their contracts. `Setup` has their measures, and each other file
--- below has the answers to what the borrow checker leaves of one of them.
+-- The readers of expressions, which call each other, meet their contracts. `Setup` has their measures, `Claims` what they
+-- may ask of each other, and each other file below has the answers to what the borrow checker leaves of one of them.
 mod Setup
+mod Claims
 mod Items·clause
 mod Items·ifElse
 mod Items·letIn
 mod Items·seq
 mod Items·until
 mod Items·whileBlock
+mod Loops·ends
+mod Loops·forIn
 mod Names·arguments
 mod Names·nameOrCall
 mod Operands·assign
@@ -15,12 +18,14 @@ mod Operands·rest
 mod Operands·tier
 mod Operands·un
 use Rattle.phrases.proofs.items.clause.Reads as items·clause
-use Rattle.phrases.proofs.+items-clause+items-if_else+items-let_in+items-seq+items-until+items-while_block+names-arguments+names-name_or_call+operands-assign+operands-atom+operands-rest+operands-tier+operands-un as readers
+use Rattle.phrases.proofs.+items-clause+items-if_else+items-let_in+items-seq+items-until+items-while_block+loops-ends+loops-for_in+names-arguments+names-name_or_call+operands-assign+operands-atom+operands-rest+operands-tier+operands-un as readers
 use Rattle.phrases.proofs.items.if_else.Reads as items·if-else
 use Rattle.phrases.proofs.items.let_in.Reads as items·let-in
 use Rattle.phrases.proofs.items.seq.Reads as items·seq
 use Rattle.phrases.proofs.items.until.Reads as items·until
 use Rattle.phrases.proofs.items.while_block.Reads as items·while-block
+use Rattle.phrases.proofs.loops.ends.Reads as loops·ends
+use Rattle.phrases.proofs.loops.for_in.Reads as loops·for-in
 use Rattle.phrases.proofs.names.arguments.Reads as names·arguments
 use Rattle.phrases.proofs.names.name_or_call.Reads as names·name-or-call
 use Rattle.phrases.proofs.operands.assign.Reads as operands·assign
@@ -30,23 +35,26 @@ use Rattle.phrases.proofs.operands.tier.Reads as operands·tier
 use Rattle.phrases.proofs.operands.un.Reads as operands·un
 use readers.{statement}
 use readers.Tie.{close}
-use Setup.{μ-items·clause, items·clause-at, items·clause-claims, μ-items·if-else, items·if-else-at, items·if-else-claims, μ-items·let-in}
-use Setup.{items·let-in-at, items·let-in-claims, μ-items·seq, items·seq-at, items·seq-claims, μ-items·until, items·until-at, items·until-claims}
-use Setup.{μ-items·while-block, items·while-block-at, items·while-block-claims, μ-names·arguments, names·arguments-at, names·arguments-claims}
-use Setup.{μ-names·name-or-call, names·name-or-call-at, names·name-or-call-claims, μ-operands·assign, operands·assign-at}
-use Setup.{operands·assign-claims, μ-operands·atom, operands·atom-at, operands·atom-claims, μ-operands·rest, operands·rest-at}
-use Setup.{operands·rest-claims, μ-operands·tier, operands·tier-at, operands·tier-claims, μ-operands·un, operands·un-at, operands·un-claims}
+use Setup.{μ-items·clause, items·clause-at, μ-items·if-else, items·if-else-at, μ-items·let-in, items·let-in-at, μ-items·seq}
+use Setup.{items·seq-at, μ-items·until, items·until-at, μ-items·while-block, items·while-block-at, μ-loops·ends, loops·ends-at}
+use Setup.{μ-loops·for-in, loops·for-in-at, μ-names·arguments, names·arguments-at, μ-names·name-or-call, names·name-or-call-at}
+use Setup.{μ-operands·assign, operands·assign-at, μ-operands·atom, operands·atom-at, μ-operands·rest, operands·rest-at, μ-operands·tier}
+use Setup.{operands·tier-at, μ-operands·un, operands·un-at}
+use Claims.{items·clause-claims, items·if-else-claims, items·let-in-claims, items·seq-claims, items·until-claims}
+use Claims.{items·while-block-claims, loops·ends-claims, loops·for-in-claims, names·arguments-claims, names·name-or-call-claims}
+use Claims.{operands·assign-claims, operands·atom-claims, operands·rest-claims, operands·tier-claims, operands·un-claims}
 
 pub
-    +items·clause+items·if-else+items·let-in+items·seq+items·until+items·while-block+names·arguments+names·name-or-call+operands·assign+operands·atom+operands·rest+operands·tier+operands·un-spec :
+    +items·clause+items·if-else+items·let-in+items·seq+items·until+items·while-block+loops·ends+loops·for-in+names·arguments+names·name-or-call+operands·assign+operands·atom+operands·rest+operands·tier+operands·un-spec :
     {M : Type 1} → statement M
-+items·clause+items·if-else+items·let-in+items·seq+items·until+items·while-block+names·arguments+names·name-or-call+operands·assign+operands·atom+operands·rest+operands·tier+operands·un-spec =
-    close μ-items·clause μ-items·if-else μ-items·let-in μ-items·seq μ-items·until μ-items·while-block μ-names·arguments μ-names·name-or-call
-    μ-operands·assign μ-operands·atom μ-operands·rest μ-operands·tier μ-operands·un
++items·clause+items·if-else+items·let-in+items·seq+items·until+items·while-block+loops·ends+loops·for-in+names·arguments+names·name-or-call+operands·assign+operands·atom+operands·rest+operands·tier+operands·un-spec =
+    close μ-items·clause μ-items·if-else μ-items·let-in μ-items·seq μ-items·until μ-items·while-block μ-loops·ends μ-loops·for-in
+    μ-names·arguments μ-names·name-or-call μ-operands·assign μ-operands·atom μ-operands·rest μ-operands·tier μ-operands·un
     (λ t. readers.Lts-items-clause.spec (items·clause-claims t) (items·clause-at t) items·clause.Post (Items·clause.kind-requires t)
     (Items·clause.let-in-requires t) (Items·clause.same-length t) (Items·clause.returns t) (Items·clause.if-else-requires t)
     (Items·clause.same-length-2 t) (Items·clause.returns-2 t) (Items·clause.while-block-requires t) (Items·clause.same-length-3 t)
-    (Items·clause.returns-3 t) (Items·clause.assign-requires t) (Items·clause.same-length-4 t) (Items·clause.returns-4 t))
+    (Items·clause.returns-3 t) (Items·clause.for-in-requires t) (Items·clause.same-length-4 t) (Items·clause.returns-4 t)
+    (Items·clause.assign-requires t) (Items·clause.same-length-5 t) (Items·clause.returns-5 t))
     (λ t. readers.Lts-items-if_else.spec (items·if-else-claims t) (items·if-else-at t) items·if-else.Post (Items·ifElse.add-until t)
     (Items·ifElse.until-requires t) (Items·ifElse.enum-known-test t) (Items·ifElse.add-until-2 t) (Items·ifElse.until-requires-2 t)
     (Items·ifElse.enum-known-yes t) (Items·ifElse.add-clause t) (Items·ifElse.clause-requires t) (Items·ifElse.choice-requires t)
@@ -71,6 +79,20 @@ pub
     (Items·whileBlock.add-until-2 t) (Items·whileBlock.until-requires-2 t) (Items·whileBlock.around-requires t)
     (Items·whileBlock.pair-requires t) (Items·whileBlock.enum-known-test-2 t) (Items·whileBlock.same-length t)
     (Items·whileBlock.returns t) (Items·whileBlock.same-length-2 t) (Items·whileBlock.returns-2 t))
+    (λ t. readers.Lts-loops-ends.spec (loops·ends-claims t) (loops·ends-at t) loops·ends.Post (Loops·ends.add-tier t)
+    (Loops·ends.tier-requires t) (Loops·ends.enum-known-end t) (Loops·ends.kind-requires t) (Loops·ends.add-tier-2 t)
+    (Loops·ends.tier-requires-2 t) (Loops·ends.over-requires t) (Loops·ends.pair-requires t) (Loops·ends.node-requires t)
+    (Loops·ends.enum-known-end-2 t) (Loops·ends.same-length t) (Loops·ends.returns t) (Loops·ends.same-length-2 t) (Loops·ends.returns-2 t)
+    (Loops·ends.same-length-3 t) (Loops·ends.returns-3 t))
+    (λ t. readers.Lts-loops-for_in.spec (loops·for-in-claims t) (loops·for-in-at t) loops·for-in.Post (Loops·forIn.add-kind t)
+    (Loops·forIn.kind-requires t) (Loops·forIn.add-t24 t) (Loops·forIn.same-length t) (Loops·forIn.returns t) (Loops·forIn.add-kind-2 t)
+    (Loops·forIn.kind-requires-2 t) (Loops·forIn.add-t27 t) (Loops·forIn.same-length-2 t) (Loops·forIn.returns-2 t) (Loops·forIn.add-tier t)
+    (Loops·forIn.tier-requires t) (Loops·forIn.enum-known-start t) (Loops·forIn.kind-requires-3 t) (Loops·forIn.is-range-requires t)
+    (Loops·forIn.same-length-3 t) (Loops·forIn.returns-3 t) (Loops·forIn.ends-requires t) (Loops·forIn.pair-requires t)
+    (Loops·forIn.enum-known-list t) (Loops·forIn.kind-requires-4 t) (Loops·forIn.same-length-4 t) (Loops·forIn.returns-4 t)
+    (Loops·forIn.add-until t) (Loops·forIn.until-requires t) (Loops·forIn.around-requires t) (Loops·forIn.pair-requires-2 t)
+    (Loops·forIn.enum-known-list-2 t) (Loops·forIn.enum-known-start-2 t) (Loops·forIn.same-length-5 t) (Loops·forIn.returns-5 t)
+    (Loops·forIn.same-length-6 t) (Loops·forIn.returns-6 t) (Loops·forIn.same-length-7 t) (Loops·forIn.returns-7 t))
     (λ t. readers.Lts-names-arguments.spec (names·arguments-claims t) (names·arguments-at t) names·arguments.Post (Names·arguments.seq-requires t)
     (Names·arguments.enum-known-first t) (Names·arguments.kind-requires t) (Names·arguments.add-node t) (Names·arguments.node-requires t)
     (Names·arguments.same-length t) (Names·arguments.returns t) (Names·arguments.same-length-2 t) (Names·arguments.returns-2 t)

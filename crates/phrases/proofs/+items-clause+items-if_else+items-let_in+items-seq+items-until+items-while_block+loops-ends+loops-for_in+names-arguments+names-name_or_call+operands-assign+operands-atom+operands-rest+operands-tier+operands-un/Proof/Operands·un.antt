@@ -4,9 +4,10 @@ use Prim.Native.Nat.{ℕ}
 use native.Mathlib.Omega.{arith}
 use borrow.Author.Needs.{needs}
 use Rattle.phrases.proofs.operands.un.Reads as operands·un
-use Rattle.phrases.proofs.+items-clause+items-if_else+items-let_in+items-seq+items-until+items-while_block+names-arguments+names-name_or_call+operands-assign+operands-atom+operands-rest+operands-tier+operands-un as readers
+use Rattle.phrases.proofs.+items-clause+items-if_else+items-let_in+items-seq+items-until+items-while_block+loops-ends+loops-for_in+names-arguments+names-name_or_call+operands-assign+operands-atom+operands-rest+operands-tier+operands-un as readers
 use readers.Lts-operands-un as lts
-use readers.Proof.Setup.{operands·un-claims, operands·un-at}
+use readers.Proof.Setup.{operands·un-at}
+use readers.Proof.Claims.{operands·un-claims}
 use Rattle.phrases.proofs.Moving.{ask, top-fits, lower, later}
 use Rattle.phrases.proofs.OperandLaws.{un-prefix, un-atom}
 use Rattle.phrases.proofs.RowKinds.{prefix-within, prefix-small}

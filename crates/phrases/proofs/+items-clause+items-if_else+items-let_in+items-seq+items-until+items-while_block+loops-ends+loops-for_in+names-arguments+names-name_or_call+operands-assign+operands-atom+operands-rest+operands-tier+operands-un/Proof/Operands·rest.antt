@@ -4,9 +4,10 @@ use Prim.Native.Nat.{ℕ}
 use native.Mathlib.Omega.{arith}
 use borrow.Author.Needs.{needs}
 use Rattle.phrases.proofs.operands.rest.Reads as operands·rest
-use Rattle.phrases.proofs.+items-clause+items-if_else+items-let_in+items-seq+items-until+items-while_block+names-arguments+names-name_or_call+operands-assign+operands-atom+operands-rest+operands-tier+operands-un as readers
+use Rattle.phrases.proofs.+items-clause+items-if_else+items-let_in+items-seq+items-until+items-while_block+loops-ends+loops-for_in+names-arguments+names-name_or_call+operands-assign+operands-atom+operands-rest+operands-tier+operands-un as readers
 use readers.Lts-operands-rest as lts
-use readers.Proof.Setup.{operands·rest-claims, operands·rest-at}
+use readers.Proof.Setup.{operands·rest-at}
+use readers.Proof.Claims.{operands·rest-claims}
 use Rattle.phrases.proofs.Moving.{ask, row-fits, later-with}
 use Rattle.phrases.proofs.Answering.{known}
 use Rattle.phrases.proofs.OperatorLaws.{binding, follows, rest-end, rest-none, rest-more}

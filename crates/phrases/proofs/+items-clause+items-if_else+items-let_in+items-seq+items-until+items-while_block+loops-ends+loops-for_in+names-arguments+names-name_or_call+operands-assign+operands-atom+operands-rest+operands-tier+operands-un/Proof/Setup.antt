@@ -1,15 +1,12 @@
 -- The measure of each reader of expressions: twelve for each token that is left, and its rule's rank. Arguments stand two tokens
 -- behind their name, so their rank may be, and is, more than twelve: `tools/stack` tells from the ranks how many tokens a call
--- passes at least. Then for each reader what it is given at a measure, what a call of it asks below one, and what all that it calls
--- ask and ensure.
+-- passes at least. A `for` asks for no Or but at later tokens, and what is behind its mark neither: theirs is below Or's. Then for
+-- each reader what it is given at a measure, and what a call of it asks below one.
 use Prim.Native.Nat.{ℕ, _+_, _*_, _-_, _<_}
 use borrow.Fn.Kinds.{In}
 use borrow.Fn.PlainCycle.{Measures, is, falls, and}
-use Rattle.layout.proofs.rows.put.Reads as put-reads
-use Rattle.layout.proofs.token.kind.Reads as kind-reads
 use Rattle.phrases.proofs.items.clause.Reads as items·clause
 use Rattle.phrases.proofs.items.clause.Kinds as items·clause-kinds
-use Rattle.phrases.proofs.+items-clause+items-if_else+items-let_in+items-seq+items-until+items-while_block+names-arguments+names-name_or_call+operands-assign+operands-atom+operands-rest+operands-tier+operands-un as readers
 use Rattle.phrases.proofs.items.if_else.Reads as items·if-else
 use Rattle.phrases.proofs.items.if_else.Kinds as items·if-else-kinds
 use Rattle.phrases.proofs.items.let_in.Reads as items·let-in
@@ -20,6 +17,10 @@ use Rattle.phrases.proofs.items.until.Reads as items·until
 use Rattle.phrases.proofs.items.until.Kinds as items·until-kinds
 use Rattle.phrases.proofs.items.while_block.Reads as items·while-block
 use Rattle.phrases.proofs.items.while_block.Kinds as items·while-block-kinds
+use Rattle.phrases.proofs.loops.ends.Reads as loops·ends
+use Rattle.phrases.proofs.loops.ends.Kinds as loops·ends-kinds
+use Rattle.phrases.proofs.loops.for_in.Reads as loops·for-in
+use Rattle.phrases.proofs.loops.for_in.Kinds as loops·for-in-kinds
 use Rattle.phrases.proofs.names.arguments.Reads as names·arguments
 use Rattle.phrases.proofs.names.arguments.Kinds as names·arguments-kinds
 use Rattle.phrases.proofs.names.name_or_call.Reads as names·name-or-call
@@ -34,15 +35,6 @@ use Rattle.phrases.proofs.operands.tier.Reads as operands·tier
 use Rattle.phrases.proofs.operands.tier.Kinds as operands·tier-kinds
 use Rattle.phrases.proofs.operands.un.Reads as operands·un
 use Rattle.phrases.proofs.operands.un.Kinds as operands·un-kinds
-use Rattle.phrases.proofs.operators.after.Reads as after-reads
-use Rattle.phrases.proofs.operators.is_constant.Reads as is-constant-reads
-use Rattle.phrases.proofs.operators.is_prefix.Reads as is-prefix-reads
-use Rattle.phrases.proofs.operators.tightness.Reads as tightness-reads
-use Rattle.phrases.proofs.parts.around.Reads as around-reads
-use Rattle.phrases.proofs.parts.choice.Reads as choice-reads
-use Rattle.phrases.proofs.parts.node.Reads as node-reads
-use Rattle.phrases.proofs.parts.over.Reads as over-reads
-use Rattle.phrases.proofs.parts.pair.Reads as pair-reads
 
 abbrev pub μ-items·clause : Measures 1 items·clause-kinds.ps ℕ
 μ-items·clause κs a = 12 * (a .1 .0 - a .1 .1 .0) + 7
@@ -61,6 +53,12 @@ abbrev pub μ-items·until : Measures 1 items·until-kinds.ps ℕ
 
 abbrev pub μ-items·while-block : Measures 1 items·while-block-kinds.ps ℕ
 μ-items·while-block κs a = 12 * (a .1 .0 - a .1 .1 .0) + 6
+
+abbrev pub μ-loops·ends : Measures 1 loops·ends-kinds.ps ℕ
+μ-loops·ends κs a = 12 * (a .1 .0 - a .1 .1 .0) + 3
+
+abbrev pub μ-loops·for-in : Measures 1 loops·for-in-kinds.ps ℕ
+μ-loops·for-in κs a = 12 * (a .1 .0 - a .1 .1 .0) + 3
 
 abbrev pub μ-names·arguments : Measures 1 names·arguments-kinds.ps ℕ
 μ-names·arguments κs a = 12 * (a .1 .0 - a .1 .1 .0) + 17
@@ -119,6 +117,18 @@ items·while-block-at t = and 1 items·while-block-kinds.ps (is 1 items·while-b
 abbrev pub items·while-block-below : ℕ → In 1 items·while-block-kinds.ps
 items·while-block-below t = and 1 items·while-block-kinds.ps (falls 1 items·while-block-kinds.ps _<_ μ-items·while-block t) items·while-block.Pre
 
+abbrev pub loops·ends-at : ℕ → In 1 loops·ends-kinds.ps
+loops·ends-at t = and 1 loops·ends-kinds.ps (is 1 loops·ends-kinds.ps μ-loops·ends t) loops·ends.Pre
+
+abbrev pub loops·ends-below : ℕ → In 1 loops·ends-kinds.ps
+loops·ends-below t = and 1 loops·ends-kinds.ps (falls 1 loops·ends-kinds.ps _<_ μ-loops·ends t) loops·ends.Pre
+
+abbrev pub loops·for-in-at : ℕ → In 1 loops·for-in-kinds.ps
+loops·for-in-at t = and 1 loops·for-in-kinds.ps (is 1 loops·for-in-kinds.ps μ-loops·for-in t) loops·for-in.Pre
+
+abbrev pub loops·for-in-below : ℕ → In 1 loops·for-in-kinds.ps
+loops·for-in-below t = and 1 loops·for-in-kinds.ps (falls 1 loops·for-in-kinds.ps _<_ μ-loops·for-in t) loops·for-in.Pre
+
 abbrev pub names·arguments-at : ℕ → In 1 names·arguments-kinds.ps
 names·arguments-at t = and 1 names·arguments-kinds.ps (is 1 names·arguments-kinds.ps μ-names·arguments t) names·arguments.Pre
 
@@ -160,131 +170,3 @@ operands·un-at t = and 1 operands·un-kinds.ps (is 1 operands·un-kinds.ps μ-o
 
 abbrev pub operands·un-below : ℕ → In 1 operands·un-kinds.ps
 operands·un-below t = and 1 operands·un-kinds.ps (falls 1 operands·un-kinds.ps _<_ μ-operands·un t) operands·un.Pre
-
-abbrev pub items·clause-claims : ℕ → readers.Lts-items-clause.Claims
-items·clause-claims t = (
-  kind-reads.Asked,
-  kind-reads.Learnt,
-  items·let-in-below t,
-  items·let-in.Post,
-  items·if-else-below t,
-  items·if-else.Post,
-  items·while-block-below t,
-  items·while-block.Post,
-  operands·assign-below t,
-  operands·assign.Post,
-)
-
-abbrev pub items·if-else-claims : ℕ → readers.Lts-items-if_else.Claims
-items·if-else-claims t =
-    (items·until-below t, items·until.Post, items·clause-below t, items·clause.Post, choice-reads.Asked, choice-reads.Learnt)
-
-abbrev pub items·let-in-claims : ℕ → readers.Lts-items-let_in.Claims
-items·let-in-claims t = (
-  kind-reads.Asked,
-  kind-reads.Learnt,
-  items·until-below t,
-  items·until.Post,
-  items·seq-below t,
-  items·seq.Post,
-  pair-reads.Asked,
-  pair-reads.Learnt,
-)
-
-abbrev pub items·seq-claims : ℕ → readers.Lts-items-seq.Claims
-items·seq-claims t = (
-  items·clause-below t,
-  items·clause.Post,
-  kind-reads.Asked,
-  kind-reads.Learnt,
-  items·seq-below t,
-  items·seq.Post,
-  pair-reads.Asked,
-  pair-reads.Learnt,
-)
-
-abbrev pub items·until-claims : ℕ → readers.Lts-items-until.Claims
-items·until-claims t = (items·seq-below t, items·seq.Post, kind-reads.Asked, kind-reads.Learnt)
-
-abbrev pub items·while-block-claims : ℕ → readers.Lts-items-while_block.Claims
-items·while-block-claims t =
-    (items·until-below t, items·until.Post, around-reads.Asked, around-reads.Learnt, pair-reads.Asked, pair-reads.Learnt)
-
-abbrev pub names·arguments-claims : ℕ → readers.Lts-names-arguments.Claims
-names·arguments-claims t = (
-  items·seq-below t,
-  items·seq.Post,
-  kind-reads.Asked,
-  kind-reads.Learnt,
-  node-reads.Asked,
-  node-reads.Learnt,
-  names·arguments-below t,
-  names·arguments.Post,
-  pair-reads.Asked,
-  pair-reads.Learnt,
-)
-
-abbrev pub names·name-or-call-claims : ℕ → readers.Lts-names-name_or_call.Claims
-names·name-or-call-claims t = (
-  kind-reads.Asked,
-  kind-reads.Learnt,
-  node-reads.Asked,
-  node-reads.Learnt,
-  names·arguments-below t,
-  names·arguments.Post,
-  over-reads.Asked,
-  over-reads.Learnt,
-)
-
-abbrev pub operands·assign-claims : ℕ → readers.Lts-operands-assign.Claims
-operands·assign-claims t =
-    (operands·tier-below t, operands·tier.Post, kind-reads.Asked, kind-reads.Learnt, pair-reads.Asked, pair-reads.Learnt)
-
-abbrev pub operands·atom-claims : ℕ → readers.Lts-operands-atom.Claims
-operands·atom-claims t = (
-  kind-reads.Asked,
-  kind-reads.Learnt,
-  is-constant-reads.Asked,
-  is-constant-reads.Learnt,
-  node-reads.Asked,
-  node-reads.Learnt,
-  names·name-or-call-below t,
-  names·name-or-call.Post,
-  items·until-below t,
-  items·until.Post,
-  around-reads.Asked,
-  around-reads.Learnt,
-)
-
-abbrev pub operands·rest-claims : ℕ → readers.Lts-operands-rest.Claims
-operands·rest-claims t = (
-  kind-reads.Asked,
-  kind-reads.Learnt,
-  tightness-reads.Asked,
-  tightness-reads.Learnt,
-  operands·tier-below t,
-  operands·tier.Post,
-  put-reads.Asked,
-  put-reads.Learnt,
-  after-reads.Asked,
-  after-reads.Learnt,
-  operands·rest-below t,
-  operands·rest.Post,
-)
-
-abbrev pub operands·tier-claims : ℕ → readers.Lts-operands-tier.Claims
-operands·tier-claims t = (operands·un-below t, operands·un.Post, operands·rest-below t, operands·rest.Post)
-
-abbrev pub operands·un-claims : ℕ → readers.Lts-operands-un.Claims
-operands·un-claims t = (
-  kind-reads.Asked,
-  kind-reads.Learnt,
-  is-prefix-reads.Asked,
-  is-prefix-reads.Learnt,
-  operands·un-below t,
-  operands·un.Post,
-  over-reads.Asked,
-  over-reads.Learnt,
-  operands·atom-below t,
-  operands·atom.Post,
-)

@@ -3,9 +3,10 @@ use mathlib.Core.Path.{refl, sym, _∙_}
 use Prim.Native.Nat.{ℕ}
 use native.Mathlib.Omega.{arith}
 use Rattle.phrases.proofs.names.name_or_call.Reads as names·name-or-call
-use Rattle.phrases.proofs.+items-clause+items-if_else+items-let_in+items-seq+items-until+items-while_block+names-arguments+names-name_or_call+operands-assign+operands-atom+operands-rest+operands-tier+operands-un as readers
+use Rattle.phrases.proofs.+items-clause+items-if_else+items-let_in+items-seq+items-until+items-while_block+loops-ends+loops-for_in+names-arguments+names-name_or_call+operands-assign+operands-atom+operands-rest+operands-tier+operands-un as readers
 use readers.Lts-names-name_or_call as lts
-use readers.Proof.Setup.{names·name-or-call-claims, names·name-or-call-at}
+use readers.Proof.Setup.{names·name-or-call-at}
+use readers.Proof.Claims.{names·name-or-call-claims}
 use Rattle.phrases.proofs.Moving.{ask, node-fits, call-fits, second-with}
 use Rattle.phrases.proofs.Standing.{within}
 use Rattle.phrases.proofs.CallLaws.{just-name, call-none, call-some}

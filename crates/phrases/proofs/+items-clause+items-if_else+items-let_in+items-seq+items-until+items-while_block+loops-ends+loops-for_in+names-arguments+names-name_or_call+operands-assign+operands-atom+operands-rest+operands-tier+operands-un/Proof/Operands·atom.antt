@@ -4,9 +4,10 @@ use Prim.Native.Nat.{ℕ}
 use native.Mathlib.Omega.{arith}
 use borrow.Author.Needs.{needs}
 use Rattle.phrases.proofs.operands.atom.Reads as operands·atom
-use Rattle.phrases.proofs.+items-clause+items-if_else+items-let_in+items-seq+items-until+items-while_block+names-arguments+names-name_or_call+operands-assign+operands-atom+operands-rest+operands-tier+operands-un as readers
+use Rattle.phrases.proofs.+items-clause+items-if_else+items-let_in+items-seq+items-until+items-while_block+loops-ends+loops-for_in+names-arguments+names-name_or_call+operands-assign+operands-atom+operands-rest+operands-tier+operands-un as readers
 use readers.Lts-operands-atom as lts
-use readers.Proof.Setup.{operands·atom-claims, operands·atom-at}
+use readers.Proof.Setup.{operands·atom-at}
+use readers.Proof.Claims.{operands·atom-claims}
 use Rattle.phrases.proofs.Moving.{ask, node-fits, top-fits, lower-with, later-with}
 use Rattle.phrases.proofs.Standing.{within}
 use Rattle.phrases.proofs.OperandLaws.{atom-constant, atom-number, atom-float, atom-group, atom-block, atom-other}
