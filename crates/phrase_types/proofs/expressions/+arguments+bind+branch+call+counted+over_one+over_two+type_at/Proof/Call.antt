@@ -5,8 +5,8 @@ use Prim.Native.Nat.{ℕ}
 use borrow.Author.Needs.{needs}
 use native.Mathlib.Omega.{arith}
 use Rattle.phrase_types.proofs.expressions.call.Reads as call
-use Rattle.phrase_types.proofs.expressions.+arguments+bind+branch+call+over_one+over_two+type_at.Lts-call as lts
-use Rattle.phrase_types.proofs.expressions.+arguments+bind+branch+call+over_one+over_two+type_at.Proof.Setup.{call-claims, call-at}
+use Rattle.phrase_types.proofs.expressions.+arguments+bind+branch+call+counted+over_one+over_two+type_at.Lts-call as lts
+use Rattle.phrase_types.proofs.expressions.+arguments+bind+branch+call+counted+over_one+over_two+type_at.Proof.Setup.{call-claims, call-at}
 
 pub word-requires : (t : ℕ) → lts.Need-word-requires (call-claims t) (call-at t) call.Post
 word-requires t c κs = (c .before .before .pre .1 .0 .long, ready-inside (c .before .before .pre .1 .0), omega arith)

@@ -7,8 +7,8 @@ use Prim.Native.Nat.{ℕ}
 use borrow.Author.Needs.{needs}
 use native.Mathlib.Omega.{arith}
 use Rattle.phrase_types.proofs.expressions.branch.Reads as branch
-use Rattle.phrase_types.proofs.expressions.+arguments+bind+branch+call+over_one+over_two+type_at.Lts-branch as lts
-use Rattle.phrase_types.proofs.expressions.+arguments+bind+branch+call+over_one+over_two+type_at.Proof.Setup.{branch-claims, branch-at}
+use Rattle.phrase_types.proofs.expressions.+arguments+bind+branch+call+counted+over_one+over_two+type_at.Lts-branch as lts
+use Rattle.phrase_types.proofs.expressions.+arguments+bind+branch+call+counted+over_one+over_two+type_at.Proof.Setup.{branch-claims, branch-at}
 
 pub word-requires : (t : ℕ) → lts.Need-word-requires (branch-claims t) (branch-at t) branch.Post
 word-requires t c κs = (c .before .before .pre .1 .0 .long, ready-inside (c .before .before .pre .1 .0), omega arith)

@@ -7,8 +7,8 @@ use Prim.Native.Nat.{ℕ}
 use borrow.Author.Needs.{needs}
 use native.Mathlib.Omega.{arith}
 use Rattle.phrase_types.proofs.expressions.over_two.Reads as over-two
-use Rattle.phrase_types.proofs.expressions.+arguments+bind+branch+call+over_one+over_two+type_at.Lts-over_two as lts
-use Rattle.phrase_types.proofs.expressions.+arguments+bind+branch+call+over_one+over_two+type_at.Proof.Setup.{over-two-claims, over-two-at}
+use Rattle.phrase_types.proofs.expressions.+arguments+bind+branch+call+counted+over_one+over_two+type_at.Lts-over_two as lts
+use Rattle.phrase_types.proofs.expressions.+arguments+bind+branch+call+counted+over_one+over_two+type_at.Proof.Setup.{over-two-claims, over-two-at}
 
 pub word-requires :
     (t : ℕ) → lts.Need-word-requires (over-two-claims t) (over-two-at t) over-two.Post

@@ -1,39 +1,44 @@
--- The proof of the cycle of calls {arguments, bind, branch, call, over-one, over-two, type-at}. `Setup` has the measures, and each other file the
+-- The proof of the cycle of calls {arguments, bind, branch, call, counted, over-one, over-two, type-at}. `Setup` has the measures, and each other file the
 -- answers of one member.
 mod Setup
 mod Arguments
 mod Bind
 mod Branch
 mod Call
+mod Counted
 mod OverOne
 mod OverTwo
 mod TypeAt
 use Rattle.phrase_types.proofs.expressions.arguments.Reads as arguments
-use Rattle.phrase_types.proofs.expressions.+arguments+bind+branch+call+over_one+over_two+type_at.Lts-arguments as arguments-lts
+use Rattle.phrase_types.proofs.expressions.+arguments+bind+branch+call+counted+over_one+over_two+type_at.Lts-arguments as arguments-lts
 use Rattle.phrase_types.proofs.expressions.bind.Reads as bind
-use Rattle.phrase_types.proofs.expressions.+arguments+bind+branch+call+over_one+over_two+type_at.Lts-bind as bind-lts
+use Rattle.phrase_types.proofs.expressions.+arguments+bind+branch+call+counted+over_one+over_two+type_at.Lts-bind as bind-lts
 use Rattle.phrase_types.proofs.expressions.branch.Reads as branch
-use Rattle.phrase_types.proofs.expressions.+arguments+bind+branch+call+over_one+over_two+type_at.Lts-branch as branch-lts
+use Rattle.phrase_types.proofs.expressions.+arguments+bind+branch+call+counted+over_one+over_two+type_at.Lts-branch as branch-lts
 use Rattle.phrase_types.proofs.expressions.call.Reads as call
-use Rattle.phrase_types.proofs.expressions.+arguments+bind+branch+call+over_one+over_two+type_at.Lts-call as call-lts
+use Rattle.phrase_types.proofs.expressions.+arguments+bind+branch+call+counted+over_one+over_two+type_at.Lts-call as call-lts
+use Rattle.phrase_types.proofs.expressions.counted.Reads as counted
+use Rattle.phrase_types.proofs.expressions.+arguments+bind+branch+call+counted+over_one+over_two+type_at.Lts-counted as counted-lts
 use Rattle.phrase_types.proofs.expressions.over_one.Reads as over-one
-use Rattle.phrase_types.proofs.expressions.+arguments+bind+branch+call+over_one+over_two+type_at.Lts-over_one as over-one-lts
+use Rattle.phrase_types.proofs.expressions.+arguments+bind+branch+call+counted+over_one+over_two+type_at.Lts-over_one as over-one-lts
 use Rattle.phrase_types.proofs.expressions.over_two.Reads as over-two
-use Rattle.phrase_types.proofs.expressions.+arguments+bind+branch+call+over_one+over_two+type_at.Lts-over_two as over-two-lts
+use Rattle.phrase_types.proofs.expressions.+arguments+bind+branch+call+counted+over_one+over_two+type_at.Lts-over_two as over-two-lts
 use Rattle.phrase_types.proofs.expressions.type_at.Reads as type-at
-use Rattle.phrase_types.proofs.expressions.+arguments+bind+branch+call+over_one+over_two+type_at.Lts-type_at as type-at-lts
-use Rattle.phrase_types.proofs.expressions.+arguments+bind+branch+call+over_one+over_two+type_at.{statement}
-use Rattle.phrase_types.proofs.expressions.+arguments+bind+branch+call+over_one+over_two+type_at.Tie.{close}
+use Rattle.phrase_types.proofs.expressions.+arguments+bind+branch+call+counted+over_one+over_two+type_at.Lts-type_at as type-at-lts
+use Rattle.phrase_types.proofs.expressions.+arguments+bind+branch+call+counted+over_one+over_two+type_at.{statement}
+use Rattle.phrase_types.proofs.expressions.+arguments+bind+branch+call+counted+over_one+over_two+type_at.Tie.{close}
 use Setup.{μ-arguments, arguments-at, arguments-claims, μ-bind, bind-at, bind-claims, μ-branch, branch-at, branch-claims, μ-call, call-at}
-use Setup.{call-claims, μ-over-one, over-one-at, over-one-claims, μ-over-two, over-two-at, over-two-claims, μ-type-at, type-at-at, type-at-claims}
+use Setup.{call-claims, μ-counted, counted-at, counted-claims, μ-over-one, over-one-at, over-one-claims, μ-over-two, over-two-at}
+use Setup.{over-two-claims, μ-type-at, type-at-at, type-at-claims}
 
-pub +arguments+bind+branch+call+over-one+over-two+type-at-spec : {M : Type 1} → statement M
-+arguments+bind+branch+call+over-one+over-two+type-at-spec =
+pub +arguments+bind+branch+call+counted+over-one+over-two+type-at-spec : {M : Type 1} → statement M
++arguments+bind+branch+call+counted+over-one+over-two+type-at-spec =
     close
     μ-arguments
     μ-bind
     μ-branch
     μ-call
+    μ-counted
     μ-over-one
     μ-over-two
     μ-type-at
@@ -43,7 +48,7 @@ pub +arguments+bind+branch+call+over-one+over-two+type-at-spec : {M : Type 1} �
     (Arguments.returns t)
     (Arguments.link-requires t)
     (Arguments.link-requires-2 t)
-    (Arguments.wanted-requires t)
+    (Arguments.expected-requires t)
     (Arguments.type-at-requires t)
     (Arguments.enum-known-first t)
     (Arguments.enum-known-first-2 t)
@@ -113,6 +118,30 @@ pub +arguments+bind+branch+call+over-one+over-two+type-at-spec : {M : Type 1} �
     (Call.returns t)
     (Call.same-length-2 t)
     (Call.returns-2 t))
+    (λ t. counted-lts.spec (counted-claims t)
+    (counted-at t)
+    counted.Post
+    (Counted.word-requires t)
+    (Counted.link-requires t)
+    (Counted.add-value t)
+    (Counted.value-requires t)
+    (Counted.link-requires-2 t)
+    (Counted.link-requires-3 t)
+    (Counted.arguments-requires t)
+    (Counted.enum-known-bounds t)
+    (Counted.enum-known-bounds-2 t)
+    (Counted.put-requires t)
+    (Counted.add-type-at t)
+    (Counted.type-at-requires t)
+    (Counted.enum-known-pass t)
+    (Counted.enum-known-pass-2 t)
+    (Counted.counted-requires t)
+    (Counted.same-length t)
+    (Counted.returns t)
+    (Counted.same-length-2 t)
+    (Counted.returns-2 t)
+    (Counted.same-length-3 t)
+    (Counted.returns-3 t))
     (λ t. over-one-lts.spec (over-one-claims t)
     (over-one-at t)
     over-one.Post
@@ -160,16 +189,20 @@ pub +arguments+bind+branch+call+over-one+over-two+type-at-spec : {M : Type 1} �
     (TypeAt.bind-requires t)
     (TypeAt.same-length-3 t)
     (TypeAt.returns-3 t)
-    (TypeAt.children-requires t)
-    (TypeAt.constant-requires t)
+    (TypeAt.counts-requires t)
+    (TypeAt.counted-requires t)
     (TypeAt.same-length-4 t)
     (TypeAt.returns-4 t)
-    (TypeAt.over-one-requires t)
+    (TypeAt.children-requires t)
+    (TypeAt.constant-requires t)
     (TypeAt.same-length-5 t)
     (TypeAt.returns-5 t)
-    (TypeAt.over-two-requires t)
+    (TypeAt.over-one-requires t)
     (TypeAt.same-length-6 t)
     (TypeAt.returns-6 t)
-    (TypeAt.branch-requires t)
+    (TypeAt.over-two-requires t)
     (TypeAt.same-length-7 t)
     (TypeAt.returns-7 t)
+    (TypeAt.branch-requires t)
+    (TypeAt.same-length-8 t)
+    (TypeAt.returns-8 t)

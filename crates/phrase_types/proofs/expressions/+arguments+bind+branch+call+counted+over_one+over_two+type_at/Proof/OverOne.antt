@@ -6,8 +6,8 @@ use Prim.Native.Nat.{ℕ}
 use borrow.Author.Needs.{needs}
 use native.Mathlib.Omega.{arith}
 use Rattle.phrase_types.proofs.expressions.over_one.Reads as over-one
-use Rattle.phrase_types.proofs.expressions.+arguments+bind+branch+call+over_one+over_two+type_at.Lts-over_one as lts
-use Rattle.phrase_types.proofs.expressions.+arguments+bind+branch+call+over_one+over_two+type_at.Proof.Setup.{over-one-claims, over-one-at}
+use Rattle.phrase_types.proofs.expressions.+arguments+bind+branch+call+counted+over_one+over_two+type_at.Lts-over_one as lts
+use Rattle.phrase_types.proofs.expressions.+arguments+bind+branch+call+counted+over_one+over_two+type_at.Proof.Setup.{over-one-claims, over-one-at}
 
 pub word-requires :
     (t : ℕ) → lts.Need-word-requires (over-one-claims t) (over-one-at t) over-one.Post

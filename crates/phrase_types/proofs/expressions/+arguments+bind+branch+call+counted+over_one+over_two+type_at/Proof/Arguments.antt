@@ -1,13 +1,13 @@
 -- What the borrow checker leaves of `arguments`.
 use mathlib.Core.Path.{_∙_}
-use Rattle.phrase_types.proofs.ReadyArguments.{args-inside, args-rowed, args-first, args-next}
+use Rattle.phrase_types.proofs.ReadyArguments.{args-inside, args-readable, args-first, args-next}
 use Rattle.phrase_types.proofs.InferredLaws.{end-inferred, stop-inferred, more-inferred}
 use Prim.Native.Nat.{ℕ}
 use borrow.Author.Needs.{needs}
 use native.Mathlib.Omega.{arith}
 use Rattle.phrase_types.proofs.expressions.arguments.Reads as arguments
-use Rattle.phrase_types.proofs.expressions.+arguments+bind+branch+call+over_one+over_two+type_at.Lts-arguments as lts
-use Rattle.phrase_types.proofs.expressions.+arguments+bind+branch+call+over_one+over_two+type_at.Proof.Setup.{arguments-claims, arguments-at}
+use Rattle.phrase_types.proofs.expressions.+arguments+bind+branch+call+counted+over_one+over_two+type_at.Lts-arguments as lts
+use Rattle.phrase_types.proofs.expressions.+arguments+bind+branch+call+counted+over_one+over_two+type_at.Proof.Setup.{arguments-claims, arguments-at}
 
 pub returns : (t : ℕ) → lts.Need-returns (arguments-claims t) (arguments-at t) arguments.Post
 returns t c = end-inferred (c .if1 .taken)
@@ -23,12 +23,12 @@ link-requires-2 t c κs =
     let start = at-if1 .before .before in
     (start .pre .1 .long, args-inside (start .pre .1) (at-if1 .if1 .left), omega arith)
 
-pub wanted-requires :
-    (t : ℕ) → lts.Need-wanted-requires (arguments-claims t) (arguments-at t) arguments.Post
-wanted-requires t c κs =
+pub expected-requires :
+    (t : ℕ) → lts.Need-expected-requires (arguments-claims t) (arguments-at t) arguments.Post
+expected-requires t c κs =
     let at-if1 = c .before .before .before .before .before in
     let start = at-if1 .before .before in
-    (start .pre .1 .long, args-rowed (start .pre .1) (at-if1 .if1 .left))
+    (start .pre .1 .long, args-readable (start .pre .1) (at-if1 .if1 .left))
 
 pub type-at-requires :
     (t : ℕ) → lts.Need-type-at-requires (arguments-claims t) (arguments-at t) arguments.Post
@@ -92,10 +92,10 @@ returns-3 t c =
     let at-still = c .before .before .before .before in
     let at-first2 = at-still .before .before in
     let at-type-at = at-first2 .before .before .before .before in
-    let at-wanted = at-type-at .before .before in
-    let at-link2 = at-wanted .before .before in
+    let at-expected = at-type-at .before .before in
+    let at-link2 = at-expected .before .before in
     let at-link = at-link2 .before .before in
     let at-if1 = at-link .before .before in
     let start = at-if1 .before .before in
     more-inferred (start .pre .1) (at-if1 .if1 .left) (at-link .link .ensures) (at-type-at .type-at .ensures) (at-first2 .first2 .given .1)
-    (at-wanted .wanted .ensures) (at-link2 .link2 .ensures) (at-still .still .ensures) (c .before .before .arguments .ensures)
+    (at-expected .expected .ensures) (at-link2 .link2 .ensures) (at-still .still .ensures) (c .before .before .arguments .ensures)
