@@ -4,8 +4,8 @@ use native.Mathlib.Omega.{arith}
 use mathlib.Core.Path.{refl}
 use lib.ListN.{length-set}
 use Rattle.grumpy_c.specs.Pairs.{spot-words}
-use Rattle.grumpy_c.proofs.write_spot.Statement.{statement}
-use Rattle.grumpy_c.proofs.write_spot.Tie as tie
+use Rattle.grumpy_c.proofs.reports.write_spot.Statement.{statement}
+use Rattle.grumpy_c.proofs.reports.write_spot.Tie as tie
 
 cast-report : tie.Need-cast-report
 cast-report c = search needs

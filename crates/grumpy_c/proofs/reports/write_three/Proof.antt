@@ -3,8 +3,8 @@ use borrow.Author.Needs.{needs}
 use mathlib.Core.Path.{refl}
 use lib.ListN.{length-set}
 use Rattle.grumpy_c.specs.Reports.{three}
-use Rattle.grumpy_c.proofs.write_three.Statement.{statement}
-use Rattle.grumpy_c.proofs.write_three.Tie as tie
+use Rattle.grumpy_c.proofs.reports.write_three.Statement.{statement}
+use Rattle.grumpy_c.proofs.reports.write_three.Tie as tie
 
 slice-write-report : tie.Need-slice-write-report
 slice-write-report c = search needs

@@ -2,8 +2,8 @@ use borrow.Author.Needs.{needs}
 use mathlib.Core.Path.{refl}
 use Rattle.grumpy_c.proofs.Told.{three-long}
 use Rattle.grumpy_c.specs.Reports.{six}
-use Rattle.grumpy_c.proofs.write_run_report.Statement.{statement}
-use Rattle.grumpy_c.proofs.write_run_report.Tie as tie
+use Rattle.grumpy_c.proofs.reports.write_run_report.Statement.{statement}
+use Rattle.grumpy_c.proofs.reports.write_run_report.Tie as tie
 
 write-three-requires : tie.Need-write-three-requires
 write-three-requires c κs = search needs
