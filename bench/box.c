@@ -37,8 +37,8 @@ static void fine(const char *name, uint32_t number) {
 /* Runs the sheet once; the nanoseconds it took. */
 static uint64_t run(const char *name, size_t length, uint64_t allowance) {
   uint64_t began = now();
-  uint32_t number = grumpy_run(sheet, length, table, GRUMPY_TABLE, work, GRUMPY_WORK, out, sizeof out,
-                               allowance, report, GRUMPY_RUN_REPORT);
+  uint32_t number = grumpy_run(GRUMPY_EDITION_1, sheet, length, table, GRUMPY_TABLE, work, GRUMPY_WORK, out,
+                               sizeof out, allowance, report, GRUMPY_RUN_REPORT);
   uint64_t took = now() - began;
   fine(name, number);
   return took;
@@ -58,7 +58,8 @@ int main(int count, char **words) {
   fclose(file);
 
   if (strcmp(words[3], "check") == 0) {
-    fine(words[1], grumpy_check(sheet, length, table, GRUMPY_TABLE, report, GRUMPY_CHECK_REPORT));
+    fine(words[1],
+         grumpy_check(GRUMPY_EDITION_1, sheet, length, table, GRUMPY_TABLE, report, GRUMPY_CHECK_REPORT));
     return 0;
   }
   uint64_t allowance = strtoull(words[2], NULL, 10);

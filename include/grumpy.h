@@ -4,6 +4,11 @@
  * GRUMPY_STACK bytes are enough, and call nothing from outside but memset. They may be called from several
  * threads at once, each with memory of its own.
  *
+ * Editions. The first argument of each is the edition of the language that the sheet is written in:
+ * GRUMPY_EDITION_1, or GRUMPY_EDITION_2, which has counted loops, with the words `for` and `by` and the marks
+ * `..` and `..=`. A sheet with none of these is answered the same in both. Another number is answered with
+ * GRUMPY_NO_EDITION.
+ *
  * Lent memory. The caller lends `table` and, to those that run, `work`, of at least the words named below;
  * what they hold before the call does not matter. After the call the required words are zero and all
  * further words are as they were. If a memory is too short the answer is GRUMPY_SHORT_MEMORY and nothing
@@ -72,6 +77,10 @@ extern "C" {
 #define GRUMPY_CHECK_PAIR_REPORT 6
 #define GRUMPY_RUN_PAIR_REPORT 9
 
+/* the editions */
+#define GRUMPY_EDITION_1 1
+#define GRUMPY_EDITION_2 2
+
 /* bytes of stack that a thread which calls these functions should have: worked out from the compiled code
  * (tools/stack) and tried on the worst sheets that a search has found, not proved */
 #define GRUMPY_STACK 786432
@@ -99,6 +108,7 @@ extern "C" {
 #define GRUMPY_WRONG_NUMBER 37    /* a call with too many or too few arguments */
 #define GRUMPY_SHORT_MEMORY 40    /* a lent memory or the report is too short */
 #define GRUMPY_LARGE_ALLOWANCE 41 /* the allowance is too large */
+#define GRUMPY_NO_EDITION 42      /* the edition is neither 1 nor 2 */
 #define GRUMPY_LONG_TEXT 44       /* the text is longer than `out` or than a source; nothing is written */
 #define GRUMPY_OUT_OF_UNITS 50    /* the allowance is used up */
 #define GRUMPY_TOO_DEEP 51        /* more than 512 nodes active at once */
@@ -108,6 +118,7 @@ extern "C" {
 #define GRUMPY_MANY_CELLS 55      /* 1,024 cells are live already */
 #define GRUMPY_NOT_A_BYTE 56      /* putchar of something outside 0 to 255 */
 #define GRUMPY_OUTPUT_FULL 57     /* no room for another byte */
+#define GRUMPY_ZERO_STEP 58       /* a counted loop with a step of zero */
 
 /* the types; 8 more for each ref around one of them: 12 is a float ref, 124 the largest */
 #define GRUMPY_INT 1
@@ -117,12 +128,14 @@ extern "C" {
 #define GRUMPY_REF 8
 
 /* Reads and checks a sheet. */
-uint32_t grumpy_check(const uint8_t *source, size_t source_length,
+uint32_t grumpy_check(uint32_t edition,
+                      const uint8_t *source, size_t source_length,
                       uint32_t *table, size_t table_length,
                       uint64_t *report, size_t report_length);
 
 /* Reads and checks a sheet, and runs it if it passes. */
-uint32_t grumpy_run(const uint8_t *source, size_t source_length,
+uint32_t grumpy_run(uint32_t edition,
+                    const uint8_t *source, size_t source_length,
                     uint32_t *table, size_t table_length,
                     uint32_t *work, size_t work_length,
                     uint8_t *out, size_t out_length,
@@ -132,18 +145,21 @@ uint32_t grumpy_run(const uint8_t *source, size_t source_length,
 /* Reads and checks a sheet, and writes it out again if it passes: its tokens as they are spelled, one space
  * between every two, a line feed at the end and no comments. An `out` of GRUMPY_SOURCE bytes is as much as
  * is ever of use. What is written is a sheet with the same meaning; written again it is itself. */
-uint32_t grumpy_write(const uint8_t *source, size_t source_length,
+uint32_t grumpy_write(uint32_t edition,
+                      const uint8_t *source, size_t source_length,
                       uint32_t *table, size_t table_length,
                       uint8_t *out, size_t out_length,
                       uint64_t *report, size_t report_length);
 
 /* Check and run of two sheets, read as one. */
-uint32_t grumpy_check_pair(const uint8_t *first, size_t first_length,
+uint32_t grumpy_check_pair(uint32_t edition,
+                           const uint8_t *first, size_t first_length,
                            const uint8_t *second, size_t second_length,
                            uint32_t *table, size_t table_length,
                            uint64_t *report, size_t report_length);
 
-uint32_t grumpy_run_pair(const uint8_t *first, size_t first_length,
+uint32_t grumpy_run_pair(uint32_t edition,
+                         const uint8_t *first, size_t first_length,
                          const uint8_t *second, size_t second_length,
                          uint32_t *table, size_t table_length,
                          uint32_t *work, size_t work_length,

@@ -15,6 +15,9 @@
 
 #include "grumpy.h"
 
+/* the edition in which the shed writes its sheets */
+#define EDITION GRUMPY_EDITION_1
+
 /* the largest number that a sheet, and so a call, can have */
 #define LARGEST 2147483647u
 
@@ -84,15 +87,15 @@ static int pay(size_t own, uint32_t picks, uint32_t rate) {
 
   /* A sheet that passes may still give something else than an int, and its value would be booked as one. */
   uint32_t number =
-      grumpy_check_pair(sheet, own, second, length, table, GRUMPY_TABLE, report, GRUMPY_CHECK_PAIR_REPORT);
+      grumpy_check_pair(EDITION, sheet, own, second, length, table, GRUMPY_TABLE, report, GRUMPY_CHECK_PAIR_REPORT);
   if (number != GRUMPY_OK) return refuse(number, report[1], report + GRUMPY_CHECK_REPORT);
   if (report[2] != GRUMPY_INT) {
     fprintf(stderr, "not paid: what pay gives is of type %" PRIu64 ", and a wage is an int\n", report[2]);
     return 1;
   }
 
-  number = grumpy_run_pair(sheet, own, second, length, table, GRUMPY_TABLE, work, GRUMPY_WORK, slip, sizeof slip,
-                           GRUMPY_ALLOWANCE, report, GRUMPY_RUN_PAIR_REPORT);
+  number = grumpy_run_pair(EDITION, sheet, own, second, length, table, GRUMPY_TABLE, work, GRUMPY_WORK, slip,
+                           sizeof slip, GRUMPY_ALLOWANCE, report, GRUMPY_RUN_PAIR_REPORT);
   if (fwrite(slip, 1, report[5], stdout) != report[5] || fflush(stdout) != 0) {
     perror("standard output");
     return 2;

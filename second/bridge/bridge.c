@@ -5,11 +5,11 @@
  * which nothing can be written. With `paint` the stack is filled with a pattern before each call, to see
  * afterwards how far down it was written.
  *
- * A request is eight words of 64 bits (the service, as in the enum below; the lengths of source, second source,
- * table, work, output and report; the allowance), then these six memories as they are. The answer is four words
- * (the number returned; how many bytes were changed that were not lent; with `paint` the bytes of stack that
- * the call took and those left below it, else 0 and 0), then the four memories that may be written. All in
- * the machine's own order of bytes.
+ * A request is nine words of 64 bits (the service, as in the enum below; the edition; the lengths of source,
+ * second source, table, work, output and report; the allowance), then these six memories as they are. The
+ * answer is four words (the number returned; how many bytes were changed that were not lent; with `paint` the
+ * bytes of stack that the call took and those left below it, else 0 and 0), then the four memories that may
+ * be written. All in the machine's own order of bytes.
  */
 #define _GNU_SOURCE
 #include <pthread.h>
@@ -26,8 +26,8 @@ enum { SOURCE, SECOND, TABLE, WORK, OUT, REPORT, MEMORIES };
 
 static const size_t width[MEMORIES] = {1, 1, 4, 4, 1, 8};
 
-/* a request: the service, the length of each memory, the allowance */
-enum { SERVICE, LENGTHS, ALLOWANCE = LENGTHS + MEMORIES, ASKED };
+/* a request: the service, the edition, the length of each memory, the allowance */
+enum { SERVICE, EDITION, LENGTHS, ALLOWANCE = LENGTHS + MEMORIES, ASKED };
 
 /* bytes kept before and behind each loan, to see whether they are touched */
 #define MARGIN 256
@@ -76,6 +76,7 @@ static uint64_t touched(const struct memory *m) {
 
 static uint64_t call(const uint64_t *asked, struct memory *m) {
   const uint64_t *length = asked + LENGTHS;
+  const uint32_t edition = (uint32_t)asked[EDITION];
   const uint64_t allowance = asked[ALLOWANCE];
   uint8_t *source = m[SOURCE].all + MARGIN, *second = m[SECOND].all + MARGIN;
   uint32_t *table = (uint32_t *)(m[TABLE].all + MARGIN), *work = (uint32_t *)(m[WORK].all + MARGIN);
@@ -83,18 +84,19 @@ static uint64_t call(const uint64_t *asked, struct memory *m) {
   uint64_t *report = (uint64_t *)(m[REPORT].all + MARGIN);
 #define LENT(memory, which) memory, length[which]
   switch (asked[SERVICE]) {
-    case CHECK: return grumpy_check(LENT(source, SOURCE), LENT(table, TABLE), LENT(report, REPORT));
+    case CHECK: return grumpy_check(edition, LENT(source, SOURCE), LENT(table, TABLE), LENT(report, REPORT));
     case RUN:
-      return grumpy_run(LENT(source, SOURCE), LENT(table, TABLE), LENT(work, WORK), LENT(out, OUT), allowance,
-                        LENT(report, REPORT));
+      return grumpy_run(edition, LENT(source, SOURCE), LENT(table, TABLE), LENT(work, WORK), LENT(out, OUT),
+                        allowance, LENT(report, REPORT));
     case WRITE:
-      return grumpy_write(LENT(source, SOURCE), LENT(table, TABLE), LENT(out, OUT), LENT(report, REPORT));
+      return grumpy_write(edition, LENT(source, SOURCE), LENT(table, TABLE), LENT(out, OUT),
+                          LENT(report, REPORT));
     case CHECK_PAIR:
-      return grumpy_check_pair(LENT(source, SOURCE), LENT(second, SECOND), LENT(table, TABLE),
+      return grumpy_check_pair(edition, LENT(source, SOURCE), LENT(second, SECOND), LENT(table, TABLE),
                                LENT(report, REPORT));
     case RUN_PAIR:
-      return grumpy_run_pair(LENT(source, SOURCE), LENT(second, SECOND), LENT(table, TABLE), LENT(work, WORK),
-                             LENT(out, OUT), allowance, LENT(report, REPORT));
+      return grumpy_run_pair(edition, LENT(source, SOURCE), LENT(second, SECOND), LENT(table, TABLE),
+                             LENT(work, WORK), LENT(out, OUT), allowance, LENT(report, REPORT));
   }
   fail("no such service");
   return 0;

@@ -8,9 +8,11 @@ pub const MOST_UNITS: u64 = 1_000_000;
 pub const TABLE_WORDS: usize = 12_288;
 pub const WORK_WORDS: usize = 16_384;
 
-/// Lengths of what is lent to a run, in words or bytes, and its allowance.
+/// Lengths of what is lent to a run, in words or bytes, its allowance, and the
+/// edition that the caller names.
 #[derive(Clone, Copy, Debug, PartialEq, Eq)]
 pub struct Lent {
+    pub edition: u32,
     pub table: usize,
     pub work: usize,
     pub output: usize,
@@ -20,6 +22,7 @@ pub struct Lent {
 impl Default for Lent {
     fn default() -> Lent {
         Lent {
+            edition: 1,
             table: TABLE_WORDS,
             work: WORK_WORDS,
             output: 64,
@@ -51,11 +54,11 @@ pub struct Answer {
 
 /// The answer of Check: value, units and printed are of no meaning there and
 /// stay 0, and so does the work memory, which Check is never lent.
-pub fn check(source: &[u8], table: usize) -> Answer {
-    if table < TABLE_WORDS {
+pub fn check(source: &[u8], lent: &Lent) -> Answer {
+    if lent.table < TABLE_WORDS {
         return refused(Refusal::new(40, 0), Left::AsBefore);
     }
-    let answer = match prepare(source) {
+    let answer = match prepare(source, lent.edition) {
         Ok((_, kind)) => Answer {
             kind: kind.code(),
             ..refused(Refusal::new(0, 0), Left::RequiredZero)
@@ -75,7 +78,7 @@ pub fn run(source: &[u8], lent: &Lent) -> Answer {
     if lent.allowance > MOST_UNITS {
         return refused(Refusal::new(41, 0), Left::RequiredZero);
     }
-    let (program, kind) = match prepare(source) {
+    let (program, kind) = match prepare(source, lent.edition) {
         Ok(prepared) => prepared,
         Err(refusal) => return refused(refusal, Left::RequiredZero),
     };
@@ -96,12 +99,16 @@ pub fn run(source: &[u8], lent: &Lent) -> Answer {
     }
 }
 
-/// Everything the services share once the loans are known to be long enough.
-pub fn prepare(source: &[u8]) -> Result<(tree::Program, types::Type), Refusal> {
+/// Everything the services share once the loans are known to be long enough
+/// and the allowance is not too large.
+pub fn prepare(source: &[u8], edition: u32) -> Result<(tree::Program, types::Type), Refusal> {
+    if ![1, 2].contains(&edition) {
+        return Err(Refusal::new(42, 0));
+    }
     if source.len() > MOST_BYTES {
         return Err(Refusal::new(10, 0));
     }
-    let tokens = text::tokens(source)?;
+    let tokens = text::tokens(source, edition)?;
     let program = grammar::read(&tokens).ok_or_else(|| no_reading(source, &tokens))?;
     let kind = types::check(&program)?;
     Ok((program, kind))

@@ -8,6 +8,8 @@ use std::collections::{HashMap, HashSet};
 
 /// One production a line. A word that stands left of an arrow is a part of the
 /// grammar, `name`, `number` and `decimal` are any of these, all else is itself.
+/// Both editions are in it: without the word `for` there is no way into what
+/// edition 2 has more, and outside of that no need of it.
 const PRODUCTIONS: &str = "
 Program -> Defs Seq
 Defs ->
@@ -31,6 +33,10 @@ Last -> if Seq then Seq else Let
 Last -> if Seq then Seq else Last
 Item -> if Seq then Seq else Item
 Item -> while Seq { Seq }
+Item -> for name in Or Mark Or { Seq }
+Item -> for name in Or Mark Or by Or { Seq }
+Mark -> ..
+Mark -> ..=
 Item -> Assign
 Assign -> Or
 Assign -> Or := Or
@@ -234,8 +240,8 @@ mod tests {
 
     /// What a beginning still needs: of these, the first that may come, until it
     /// is a program. What closes stands before what opens.
-    const ENDINGS: [&str; 13] = [
-        ")", "}", "in", "then", "else", "=", ":", "int", "x", "1", "{", "(", ",",
+    const ENDINGS: [&str; 14] = [
+        ")", "}", "in", "then", "else", "=", ":", "int", "x", "1", "{", "(", ",", "..",
     ];
 
     fn ended(begin: &[Token]) -> Vec<Token> {
@@ -246,7 +252,7 @@ mod tests {
         }
         while !recogniser.complete() {
             let next = ENDINGS.iter().find_map(|word| {
-                let token = tokens(word.as_bytes()).expect("a token").remove(0);
+                let token = tokens(word.as_bytes(), 2).expect("a token").remove(0);
                 recogniser.take(&token.kind).then_some(token)
             });
             all.push(next.expect("a beginning can be ended"));
@@ -260,8 +266,10 @@ mod tests {
     fn what_is_before_the_place_can_be_ended() {
         let check = |index: u64| {
             let mut chance = Chance::new(20, index);
-            let sheet = slips::sheet(&mut chance);
-            let Ok(tokens) = tokens(&sheet) else { return };
+            let sheet = slips::sheet(&mut chance, 2);
+            let Ok(tokens) = tokens(&sheet, 2) else {
+                return;
+            };
             if grammar::read(&tokens).is_some() {
                 return;
             }
@@ -277,8 +285,10 @@ mod tests {
     fn two_ways_to_one_grammar() {
         let check = |index: u64| {
             let mut chance = Chance::new(22, index);
-            let sheet = slips::sheet(&mut chance);
-            let Ok(tokens) = tokens(&sheet) else { return };
+            let sheet = slips::sheet(&mut chance, 2);
+            let Ok(tokens) = tokens(&sheet, 2) else {
+                return;
+            };
             let mut recogniser = Recogniser::default();
             let taken = tokens.iter().all(|t| recogniser.take(&t.kind));
             let program = taken && recogniser.complete();

@@ -2,6 +2,7 @@
 //!
 //! ```text
 //! * a title, which starts the case
+//! edition 2
 //! allowance 10
 //! output 0
 //! table 12288
@@ -19,13 +20,13 @@
 //!
 //! The value of a float is told by its bits, as `0x3FF0000000000000`.
 //!
-//! The loans may be left out where they are the usual ones; `room` is what is
-//! lent to Write. The `?` line is the answer of Check and may be left out where
-//! it follows from the `=` line, which is the answer of Run and ends the case.
-//! The `>` line is the answer of Write, if that is laid down. Of two sheets these
-//! answers are those of the whole, and the `@` line says where the place is among
-//! the two, and where the line around it begins and ends. Lines that start with
-//! `#` and empty lines are nothing. See `quote` for the escapes.
+//! The loans may be left out where they are the usual ones, and so may edition
+//! 1; `room` is what is lent to Write. The `?` line is the answer of Check and
+//! may be left out where it follows from the `=` line, which is the answer of Run
+//! and ends the case. The `>` line is the answer of Write, if that is laid down.
+//! Of two sheets these answers are those of the whole, and the `@` line says where
+//! the place is among the two, and where the line around it begins and ends. Lines
+//! that start with `#` and empty lines are nothing. See `quote` for the escapes.
 
 use crate::answer::Lent;
 use crate::cases::{check_from_run, in_pair, ran, told, Case};
@@ -116,6 +117,7 @@ impl Draft {
             "|" => add_line(&mut self.sheet, rest)?,
             "&" => add_line(&mut self.second, rest)?,
             "@" => self.place = Some(four(rest)?),
+            "edition" => lent.edition = number(rest)?,
             "allowance" => lent.allowance = number(rest)?,
             "output" => lent.output = number(rest)?,
             "table" => lent.table = number(rest)?,

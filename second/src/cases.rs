@@ -57,7 +57,7 @@ pub fn check_from_run(run: &Wanted) -> Option<Wanted> {
 /// and end, where the number has one.
 pub fn in_pair(whole: &Wanted, place: [u64; 4]) -> Wanted {
     let [sheet, place, begin, end] = match whole.number {
-        0 | 10 | 40 | 41 => [1, 0, 0, 0],
+        0 | 10 | 40 | 41 | 42 => [1, 0, 0, 0],
         _ => place,
     };
     let mut told = whole.clone();
@@ -130,6 +130,7 @@ pub fn show_case(title: &str, trial: &Trial) -> String {
     let (lent, usual) = (&trial.lent, Lent::default());
     let usual_room = Trial::of(b"", usual).room;
     let loans = [
+        ("edition", lent.edition.into(), usual.edition.into()),
         ("allowance", lent.allowance, usual.allowance),
         ("output", lent.output as u64, usual.output as u64),
         ("table", lent.table as u64, usual.table as u64),

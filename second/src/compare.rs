@@ -12,6 +12,7 @@ use std::fmt::Debug;
 /// A call with all that is lent for it.
 pub struct Call<'a> {
     pub service: Service,
+    pub edition: u32,
     pub source: &'a [u8],
     /// The second of two sources, if there are two.
     pub second: &'a [u8],
@@ -92,7 +93,7 @@ pub fn compare(other: &dyn Other, trial: &Trial) -> Result<(), String> {
     if trial.fill.is_multiple_of(2) {
         promise::kept(other, trial).map_err(|e| format!("promise: {e}"))?;
     }
-    let text = write(&trial.sheet, trial.lent.table, trial.room).text;
+    let text = write(&trial.sheet, &trial.lent, trial.room).text;
     if text.is_empty() || !trial.fill.is_multiple_of(3) {
         return Ok(());
     }
@@ -120,6 +121,7 @@ fn differs(other: &dyn Other, trial: &Trial, service: Service) -> Result<(), Str
     let (source, second) = service.sources(trial);
     let number = other.call(Call {
         service,
+        edition: trial.lent.edition,
         source,
         second,
         table: table.lent(),
@@ -163,6 +165,14 @@ mod tests {
     }
 
     impl Mirror {
+        fn edition(&self, named: u32) -> u32 {
+            match self.0 {
+                "one edition" => 1,
+                "any other edition is the second" => named.clamp(1, 2),
+                _ => named,
+            }
+        }
+
         fn spoil(&self, call: &mut Call, number: u32, used: usize) {
             let Call { work, output, .. } = call;
             match self.0 {
@@ -202,6 +212,7 @@ mod tests {
                 return Ok(40);
             }
             let lent = Lent {
+                edition: self.edition(call.edition),
                 table: call.table.len(),
                 work: call.work.len(),
                 output: call.output.len(),
@@ -253,6 +264,8 @@ mod tests {
     #[test]
     fn faults_are_found() {
         for fault in [
+            "one edition",
+            "any other edition is the second",
             "a unit too many",
             "a word not cleared",
             "a word past the end",

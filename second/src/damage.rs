@@ -1,7 +1,7 @@
 //! From tokens to bytes in many spellings, and ways to spoil either.
 
 use crate::chance::Chance;
-use crate::text::{MARKS, RESERVED};
+use crate::text::{MARKS, MARKS_2, RESERVED, RESERVED_2};
 
 const GAPS: [&str; 6] = [" ", "\t", "\r", "  ", "/* a */", "/*/**/ // */"];
 
@@ -82,14 +82,17 @@ fn runs_together(left: &str, right: &str) -> bool {
     (first.is_ascii_alphabetic() && wordlike)
         || (first.is_ascii_digit() && next.is_ascii_digit())
         || (left.starts_with("0x") && next.is_ascii_hexdigit())
-        || (matches!(left, "=" | ":") && next == b'=')
+        || (matches!(left, "=" | ":" | "..") && next == b'=')
+        || (left.ends_with('.') && next == b'.')
         || (left == "/" && matches!(next, b'/' | b'*'))
 }
 
 pub fn any_token(chance: &mut Chance) -> String {
-    match chance.below(3) {
-        0 => chance.pick(&RESERVED).to_string(),
-        1 => chance.pick(&MARKS).to_string(),
+    match chance.below(16) {
+        0..=4 => chance.pick(&RESERVED).to_string(),
+        5..=9 => chance.pick(&MARKS).to_string(),
+        10 => chance.pick(&RESERVED_2).to_string(),
+        11 => chance.pick(&MARKS_2).to_string(),
         _ => chance.pick(&LOOSE).to_string(),
     }
 }

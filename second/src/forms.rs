@@ -125,6 +125,9 @@ impl Writer<'_> {
     /// An `if` or a loop; whether it is the last of its sequence matters, as
     /// only then its last branch may be a let.
     fn item(&mut self, kind: &Type, last: bool) {
+        if *kind == Type::Unit && self.edition == 2 && self.chance.one_in(3) {
+            return self.counted();
+        }
         if *kind == Type::Unit && self.chance.one_in(12) {
             self.put("while");
             self.expression(&Type::Bool, SEQ);
@@ -139,6 +142,39 @@ impl Writer<'_> {
             0 if last => self.binding(kind),
             1 if last && self.fuel > 0 => self.item(kind, true),
             _ => self.expression(kind, ITEM),
+        }
+    }
+
+    /// A loop of edition 2, mostly with few passes.
+    fn counted(&mut self) {
+        let name = self.name();
+        self.put(&format!("for {name} in"));
+        self.bound();
+        let mark = self.chance.pick(&["..", "..="]);
+        self.put(mark);
+        self.bound();
+        if self.chance.one_in(3) {
+            self.put("by");
+            match self.chance.one_in(3) {
+                true => self.bound(),
+                false => {
+                    let step = self.chance.pick(&["1", "2", "- 1", "- 2", "3", "0"]);
+                    self.put(step);
+                }
+            }
+        }
+        self.variables.push((name, Type::Int));
+        self.wrapped("{", &Type::Unit, "}");
+        self.variables.pop();
+    }
+
+    fn bound(&mut self) {
+        match self.chance.one_in(4) {
+            true => self.expression(&Type::Int, OR),
+            false => {
+                let number = self.chance.below(6).to_string();
+                self.put(&number);
+            }
         }
     }
 

@@ -2,7 +2,7 @@
 //! Assign down to Atom are in `operators`.
 
 use crate::text::{Kind, Token};
-use crate::tree::{infix, Form, Function, Infix, Node, Parameter, Program};
+use crate::tree::{infix, For, Form, Function, Infix, Node, Parameter, Program};
 use crate::types::Type;
 
 /// The only reading of the tokens, or nothing.
@@ -186,7 +186,33 @@ impl Reader<'_> {
                 form: Form::While(test, body),
             });
         }
+        if let Some(place) = self.take("for") {
+            let form = Form::For(Box::new(self.counted()?));
+            return Some(Node { place, form });
+        }
         self.assign()
+    }
+
+    /// What stands behind `for`, which is a word in edition 2 only.
+    fn counted(&mut self) -> Option<For> {
+        let (name, _) = self.name()?;
+        self.take("in")?;
+        let start = self.or()?;
+        let (_, with_end) = self.take_any(&[("..", false), ("..=", true)])?;
+        let end = self.or()?;
+        let step = match self.take("by") {
+            Some(_) => Some(self.or()?),
+            None => None,
+        };
+        let body = self.block()?;
+        Some(For {
+            name,
+            start,
+            end,
+            with_end,
+            step,
+            body,
+        })
     }
 
     /// A let here reaches as far right as it can, so nothing of the sequence
@@ -211,7 +237,7 @@ mod tests {
         let (mut before, mut now) = (0, 0);
         on_big_stack(|| {
             for trial in (0..3000).map(|index| trial::make(5, index)) {
-                let tokens = tokens(&trial.sheet).unwrap_or_default();
+                let tokens = tokens(&trial.sheet, trial.lent.edition).unwrap_or_default();
                 let reading = read(&tokens);
                 now += u32::from(reading.is_some());
                 if let Some(program) = read_before(&tokens) {

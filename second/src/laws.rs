@@ -17,6 +17,7 @@ pub fn hold(trial: &Trial) -> Result<(), String> {
     laws.extend(write_laws(trial, &answer));
     laws.extend(pair_laws(trial));
     laws.extend(promises(trial, &answer));
+    laws.extend(edition_laws(trial, &answer));
     match laws.iter().find(|(holds, _)| !holds) {
         Some((_, law)) => Err(law.to_string()),
         None => Ok(()),
@@ -48,7 +49,7 @@ fn run_laws(trial: &Trial, answer: &Answer) -> Vec<Law> {
 
 /// R03.3 and R03.4.
 fn write_laws(trial: &Trial, answer: &Answer) -> Vec<Law> {
-    let told = write::write(&trial.sheet, trial.lent.table, trial.room);
+    let told = write::write(&trial.sheet, &trial.lent, trial.room);
     let passes = answer.number == 0 || answer.number >= 50;
     let Written { number, text, .. } = told;
     if number != 0 {
@@ -59,18 +60,17 @@ fn write_laws(trial: &Trial, answer: &Answer) -> Vec<Law> {
         };
         return vec![(due, "written otherwise than refused")];
     }
-    let again = write::write(&text, trial.lent.table, trial.room);
+    let again = write::write(&text, &trial.lent, trial.room);
     let back = answer::run(&text, &trial.lent);
+    let kinds = |source: &[u8]| kinds(source, trial.lent.edition);
+    let same_tokens = kinds(&text) == kinds(&trial.sheet);
     let places_aside = |a: &Answer| Answer {
         place: 0,
         ..a.clone()
     };
     vec![
         (again.text == text, "written twice is another text"),
-        (
-            kinds(&text) == kinds(&trial.sheet),
-            "other tokens read back",
-        ),
+        (same_tokens, "other tokens read back"),
         (
             places_aside(&back) == places_aside(answer),
             "another answer read back",
@@ -80,7 +80,7 @@ fn write_laws(trial: &Trial, answer: &Answer) -> Vec<Law> {
 
 /// R11.2 and R11.3.
 fn promises(trial: &Trial, answer: &Answer) -> Vec<Law> {
-    let passes = answer::check(&trial.sheet, trial.lent.table).number == 0;
+    let passes = answer::check(&trial.sheet, &trial.lent).number == 0;
     if !passes || [40, 41].contains(&answer.number) {
         return vec![];
     }
@@ -100,6 +100,21 @@ fn promises(trial: &Trial, answer: &Answer) -> Vec<Law> {
             "more units, another end",
         ),
     ]
+}
+
+/// R12.14: a sheet that is the same tokens in both editions has one answer.
+fn edition_laws(trial: &Trial, answer: &Answer) -> Vec<Law> {
+    let Lent { edition, .. } = trial.lent;
+    let sheet = &trial.sheet;
+    if ![1, 2].contains(&edition) || text::tokens(sheet, 1) != text::tokens(sheet, 2) {
+        return vec![];
+    }
+    let other = Lent {
+        edition: 3 - edition,
+        ..trial.lent
+    };
+    let same = answer::run(sheet, &other) == *answer;
+    vec![(same, "another answer in the other edition")]
 }
 
 /// R07.2: wherever a sheet is cut, the place is the same byte of the whole, and
@@ -131,7 +146,7 @@ fn pair_laws(trial: &Trial) -> Vec<Law> {
     laws
 }
 
-fn kinds(source: &[u8]) -> Vec<Kind> {
-    let tokens = text::tokens(source).unwrap_or_default();
+fn kinds(source: &[u8], edition: u32) -> Vec<Kind> {
+    let tokens = text::tokens(source, edition).unwrap_or_default();
     tokens.into_iter().map(|token| token.kind).collect()
 }

@@ -76,6 +76,17 @@ pub fn layers() -> Vec<Layer> {
         [ITEM, SEQ],
     ));
     all.push(layer("while true{", "}", [Kind::Unit; 2], [ITEM, SEQ]));
+    let bound = [Kind::Unit, Kind::Int];
+    all.push(layer("for i in ", "..1{tt}", bound, [ITEM, OR]));
+    all.push(layer("for i in 1..", "{tt}", bound, [ITEM, OR]));
+    all.push(layer("for i in 1..2 by ", "{tt}", bound, [ITEM, OR]));
+    all.push(layer("for i in 1..2{", "}", [Kind::Unit; 2], [ITEM, SEQ]));
+    all.push(layer(
+        "for i in 1..=1 by 1{",
+        "}",
+        [Kind::Unit; 2],
+        [ITEM, SEQ],
+    ));
     all.push(layer("putchar(", ")", [Kind::Int; 2], [ATOM, SEQ]));
     for count in 1..=8 {
         all.extend((0..count).map(|hole| call(count, hole)));

@@ -17,6 +17,7 @@ pub mod grammar;
 pub mod laws;
 pub mod layers;
 pub mod long;
+pub mod loops;
 pub mod near;
 pub mod neighbours;
 pub mod nests;

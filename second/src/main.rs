@@ -168,19 +168,30 @@ fn all_cases() -> u64 {
             }
         }
     }
-    for sheet in follows::ends() {
-        tally.add("an end", Trial::of(&sheet, Lent::default()));
-    }
-    for follow in follows::all() {
-        tally.add("a token", Trial::of(&follow.sheet, Lent::default()));
-    }
-    for (sheet, _) in near::sheets() {
-        tally.add("near misses", Trial::of(&sheet, Lent::default()));
-    }
-    for sheet in neighbours::all() {
-        tally.add("neighbours", Trial::of(&sheet, Lent::default()));
+    for edition in [1, 2] {
+        systematic(&mut tally, edition);
     }
     tally.close()
+}
+
+/// What is tried by a system, not by hand.
+fn systematic(tally: &mut Tally, edition: u32) {
+    let lent = Lent {
+        edition,
+        ..Lent::default()
+    };
+    for sheet in follows::ends(edition) {
+        tally.add("an end", Trial::of(&sheet, lent));
+    }
+    for follow in follows::all(edition) {
+        tally.add("a token", Trial::of(&follow.sheet, lent));
+    }
+    for (sheet, _) in near::sheets(edition) {
+        tally.add("near misses", Trial::of(&sheet, lent));
+    }
+    for sheet in neighbours::all(edition) {
+        tally.add("neighbours", Trial::of(&sheet, lent));
+    }
 }
 
 /// Of a file whose lines are a sheet and its answer in turn, the answers begun

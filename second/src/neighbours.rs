@@ -1,7 +1,7 @@
 //! Sheets in which, taken together, every two kinds of token that can be
 //! neighbours in a sheet that passes are neighbours.
 
-use crate::answer::{self, TABLE_WORDS};
+use crate::answer::{self, Lent};
 use crate::chance::Chance;
 use crate::text::{tokens, Kind, Token};
 use crate::{damage, sheets};
@@ -19,8 +19,8 @@ fn word(token: &Token) -> String {
     }
 }
 
-fn pairs(sheet: &[u8]) -> Vec<Pair> {
-    let tokens = tokens(sheet).unwrap_or_default();
+fn pairs(sheet: &[u8], edition: u32) -> Vec<Pair> {
+    let tokens = tokens(sheet, edition).unwrap_or_default();
     let both = |pair: &[Token]| (word(&pair[0]), word(&pair[1]));
     tokens.windows(2).map(both).collect()
 }
@@ -30,24 +30,35 @@ const BY_HAND: [&str; 2] = [
     "while while false{tt};false{tt}",
     "while ref 1:=2;false{tt}",
 ];
+const BY_HAND_2: [&str; 3] = [
+    "while for i in 0..1{tt};false{tt}",
+    "for i in {1}..{2}by{1}{tt}",
+    "for i in !ref 1..=!ref 1 by!ref 2{tt}",
+];
 
 /// So many random sheets without new neighbours are enough.
 const IDLE: u64 = 4000;
 
 /// Sheets that pass, each with two neighbours that none before it has, spelled
 /// with no more blanks than needed.
-pub fn all() -> Vec<Vec<u8>> {
-    let mut seen = BTreeSet::new();
-    let mut found: Vec<Vec<u8>> = BY_HAND.iter().map(|s| s.as_bytes().to_vec()).collect();
+pub fn all(edition: u32) -> Vec<Vec<u8>> {
+    let more: &[&str] = if edition == 2 { &BY_HAND_2 } else { &[] };
+    let by_hand = BY_HAND.iter().chain(more);
+    let mut found: Vec<Vec<u8>> = by_hand.map(|s| s.as_bytes().to_vec()).collect();
+    let mut seen: BTreeSet<Pair> = found.iter().flat_map(|s| pairs(s, edition)).collect();
+    let lent = Lent {
+        edition,
+        ..Lent::default()
+    };
     let (mut index, mut last) = (0, 0);
     while index < last + IDLE {
         let mut chance = Chance::new(3, index);
         let fuel = chance.pick(&[4, 8, 16, 30]);
-        let sheet = damage::closely(&sheets::program(&mut chance, fuel));
+        let sheet = damage::closely(&sheets::program(&mut chance, fuel, edition));
         index += 1;
-        let here = pairs(&sheet);
+        let here = pairs(&sheet, edition);
         let new = here.iter().any(|pair| !seen.contains(pair));
-        if new && answer::check(&sheet, TABLE_WORDS).number == 0 {
+        if new && answer::check(&sheet, &lent).number == 0 {
             seen.extend(here);
             found.push(sheet);
             last = index;
@@ -144,6 +155,8 @@ mod tests {
         }
     }
 
+    const NOT_AN_INT: [&str; 6] = ["true", "false", "tt", "ref", "not", "decimal"];
+
     /// Neighbours that the grammar lets be and the types do not.
     fn untyped(left: &str, right: &str) -> bool {
         const BETWEEN_INTS: [&str; 6] = ["+", "-", "*", "/", "<", "=="];
@@ -155,9 +168,11 @@ mod tests {
             || (BETWEEN_BOOLS.contains(&right) && left == "tt")
             || (left == "!" && NEVER_CELLS.contains(&right))
             || (left == "not" && ["-", "number", "decimal", "ref", "tt"].contains(&right))
-            || (left == "tt" && ["then", "{"].contains(&right))
+            || (left == "tt" && ["then", "{", "..", "..=", "by"].contains(&right))
             || (left == "==" && right == "decimal")
             || (left == "decimal" && right == "==")
+            || (["..", "..=", "by"].contains(&left) && NOT_AN_INT.contains(&right))
+            || (["..", "..=", "by"].contains(&right) && NOT_AN_INT.contains(&left))
     }
 
     /// What is one number in hex or binary was a number and a name before, and
@@ -172,7 +187,7 @@ mod tests {
     #[test]
     fn all_neighbours_are_there() {
         let seen: BTreeSet<Pair> =
-            on_big_stack(|| all().iter().flat_map(|sheet| pairs(sheet)).collect());
+            on_big_stack(|| all(2).iter().flat_map(|sheet| pairs(sheet, 2)).collect());
         let possible = Grammar::new().neighbours();
         assert!(seen.is_subset(&possible));
         let due = possible.into_iter().filter(|(l, r)| !untyped(l, r));

@@ -32,7 +32,7 @@ pub fn sheet(walk: &[&Layer], shape: Shape) -> String {
 
 fn count(text: &str) -> usize {
     let bytes = quote::decode(text).expect("a text of this module");
-    tokens(&bytes).expect("tokens").len()
+    tokens(&bytes, 2).expect("tokens").len()
 }
 
 /// The functions that the walk calls, but for the one named.
@@ -126,7 +126,11 @@ mod tests {
                 let walk: Vec<&Layer> = walk.iter().map(|l| &all[*l]).collect();
                 let text = sheet(&walk, shape);
                 let bytes = quote::decode(&text).expect("a text of this module");
-                let number = on_big_stack(|| answer::run(&bytes, &Lent::default()).number);
+                let lent = Lent {
+                    edition: 2,
+                    ..Lent::default()
+                };
+                let number = on_big_stack(|| answer::run(&bytes, &lent).number);
                 assert!(number == 0 || number >= 50, "{number} of {text}");
             }
         }

@@ -19,7 +19,7 @@ pub fn whole(first: &[u8], second: &[u8]) -> Vec<u8> {
 }
 
 /// Numbers whose place is 0 for want of one.
-const NOWHERE: [u32; 4] = [0, 10, 40, 41];
+pub const NOWHERE: [u32; 5] = [0, 10, 40, 41, 42];
 
 /// Where the place that this number has in the whole is among the two.
 pub fn placed(number: u32, place: u64, first: &[u8], second: &[u8]) -> Placed {

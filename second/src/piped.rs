@@ -102,7 +102,7 @@ impl Pipes {
             call.output.len(),
             call.report.len(),
         ];
-        self.send_long(&[call.service.code()])?;
+        self.send_long(&[call.service.code(), u64::from(call.edition)])?;
         self.send_long(&lengths.map(|n| n as u64))?;
         self.send_long(&[call.allowance])?;
         self.asked.write_all(call.source)?;

@@ -10,7 +10,7 @@ use crate::services::Service;
 use crate::trial::Trial;
 
 /// What a passing sheet may end in.
-pub const ENDS: [u32; 9] = [0, 50, 51, 52, 53, 54, 55, 56, 57];
+pub const ENDS: [u32; 10] = [0, 50, 51, 52, 53, 54, 55, 56, 57, 58];
 
 /// Whether a value told with this type can be one of it.
 pub fn fits(kind: u64, value: i64) -> bool {
@@ -38,6 +38,7 @@ fn call(other: &dyn Other, service: Service, trial: &Trial, lent: &Lent) -> Resu
     let mut report = vec![0; service.words()];
     other.call(Call {
         service,
+        edition: lent.edition,
         source: &trial.sheet,
         second: &[],
         table: &mut table,

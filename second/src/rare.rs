@@ -5,6 +5,7 @@ use crate::chance::Chance;
 use crate::floats;
 use crate::forms::SEQ;
 use crate::long;
+use crate::loops;
 use crate::sheets::Writer;
 use crate::types::Type;
 
@@ -20,6 +21,9 @@ pub fn sheet(chance: &mut Chance) -> Vec<u8> {
         floats::edge,
         floats::edge,
         floats::mixed,
+        loops::ends,
+        loops::far,
+        loops::wrong,
         long::open_comment,
         many_functions,
         many_parameters,

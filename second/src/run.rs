@@ -1,6 +1,6 @@
 //! The interpreter. It only ever sees programs the checker has passed.
 
-use crate::tree::{Form, Function, Infix, Node, Prefix, Program};
+use crate::tree::{For, Form, Function, Infix, Node, Prefix, Program};
 use crate::values::{in_range, operate, Value};
 use crate::Refusal;
 use std::collections::{BTreeMap, HashMap};
@@ -113,12 +113,34 @@ impl<'a> Machine<'a> {
                 _ => self.node(no, scope),
             },
             Form::While(test, body) => self.repeated(test, body, scope),
+            Form::For(counted) => self.counted(node, counted, scope),
         }
     }
 
     fn repeated(&mut self, test: &'a Node, body: &'a Node, scope: &mut Scope<'a>) -> Step {
         while self.node(test, scope)? == Value::Bool(true) {
             self.node(body, scope)?;
+        }
+        Ok(Value::Unit)
+    }
+
+    /// The bounds are worked out once, in the order they are written in; without
+    /// a step the loop goes toward its end by one.
+    fn counted(&mut self, node: &'a Node, counted: &'a For, scope: &mut Scope<'a>) -> Step {
+        let start = self.node(&counted.start, scope)?.code();
+        let end = self.node(&counted.end, scope)?.code();
+        let step = match &counted.step {
+            Some(step) => self.node(step, scope)?.code(),
+            None if start > end => -1,
+            None => 1,
+        };
+        if step == 0 {
+            return stop(58, node);
+        }
+        for pass in passes(start, end, step, counted.with_end) {
+            scope.push((&counted.name, Value::Int(pass)));
+            self.node(&counted.body, scope)?;
+            scope.pop();
         }
         Ok(Value::Unit)
     }
@@ -212,6 +234,19 @@ impl<'a> Machine<'a> {
             _ => at(node, operate(mark, left, right)),
         }
     }
+}
+
+/// What the name of a counted loop is in each pass. Counted in 64 bits, where a
+/// step never leaves the range; past 32 bits there is no pass.
+fn passes(start: i64, end: i64, step: i64, with_end: bool) -> impl Iterator<Item = i32> {
+    let within = move |at: &i64| match *at == end {
+        true => with_end,
+        false => (*at < end) == (step > 0),
+    };
+    let steps = (0..).map(move |count: i64| start + count * step);
+    steps
+        .take_while(within)
+        .map_while(|at| i32::try_from(at).ok())
 }
 
 fn nearest(scope: &Scope, name: &str) -> Value {

@@ -91,7 +91,7 @@ pub fn wanted(service: Service, trial: &Trial) -> Wanted {
 }
 
 fn checked(trial: &Trial) -> Wanted {
-    let told = answer::check(&trial.sheet, trial.lent.table);
+    let told = answer::check(&trial.sheet, &trial.lent);
     Wanted {
         number: told.number,
         report: vec![told.place, told.kind],
@@ -114,7 +114,7 @@ fn ran(trial: &Trial) -> Wanted {
 }
 
 fn written(trial: &Trial) -> Wanted {
-    let told = write::write(&trial.sheet, trial.lent.table, trial.room);
+    let told = write::write(&trial.sheet, &trial.lent, trial.room);
     Wanted {
         number: told.number,
         report: vec![told.place, told.text.len() as u64],

@@ -25,14 +25,17 @@ pub struct Writer<'a> {
     pub fuel: i32,
     pub counters: usize,
     pub loops: usize,
+    /// 1 or 2, or 0 for what is the same in both.
+    pub edition: u32,
 }
 
 /// Few names, so that they hide one another often. One is a function's too.
 pub const NAMES: [&str; 8] = ["x", "y", "z", "w", "f0", "putchar", "ints", "a_1"];
 
-/// The tokens of one program.
-pub fn program(chance: &mut Chance, fuel: i32) -> Vec<String> {
+/// The tokens of one program of this edition.
+pub fn program(chance: &mut Chance, fuel: i32, edition: u32) -> Vec<String> {
     let mut writer = Writer::new(chance, fuel);
+    writer.edition = edition;
     for index in 0..writer.chance.pick(&[0, 0, 1, 1, 2, 3, 4]) {
         writer.function(index);
     }
@@ -65,6 +68,7 @@ impl<'a> Writer<'a> {
             fuel,
             counters: 0,
             loops: 0,
+            edition: 0,
         }
     }
 
@@ -85,7 +89,7 @@ impl<'a> Writer<'a> {
     /// A name to be bound, now and then one that is all but reserved.
     pub fn name(&mut self) -> String {
         match self.chance.one_in(6) {
-            true => near::name(self.chance),
+            true => near::name(self.chance, self.edition),
             false => self.chance.pick(&NAMES).to_string(),
         }
     }

@@ -48,7 +48,8 @@ fn accept(best: &mut Trial, parts: &[Vec<u8>], fails: &mut impl FnMut(&Trial) ->
 /// Puts the usual loan in place of each one that does not matter.
 fn plain_loans(best: &mut Trial, fails: &mut impl FnMut(&Trial) -> bool) {
     let usual = Lent::default();
-    let changes: [fn(&mut Trial, Lent); 8] = [
+    let changes: [fn(&mut Trial, Lent); 9] = [
+        |t, usual| t.lent.edition = usual.edition,
         |t, usual| t.lent.table = usual.table,
         |t, usual| t.lent.work = usual.work,
         |t, usual| t.lent.output = usual.output,

@@ -8,26 +8,24 @@ use crate::rare::part;
 use crate::sheets;
 use crate::types::Type;
 
-pub fn sheet(chance: &mut Chance) -> Vec<u8> {
-    let make = chance.pick(&[
-        cut_off as fn(&mut Chance) -> Vec<u8>,
-        wrong_token,
-        wrong_token,
-        unknown_name,
-        unknown_call,
-        wrong_count,
-    ]);
-    make(chance)
+pub fn sheet(chance: &mut Chance, edition: u32) -> Vec<u8> {
+    match chance.below(6) {
+        0 => cut_off(chance, edition),
+        1 | 2 => wrong_token(chance, edition),
+        3 => unknown_name(chance),
+        4 => unknown_call(chance),
+        _ => wrong_count(chance),
+    }
 }
 
-fn program(chance: &mut Chance) -> Vec<String> {
+fn program(chance: &mut Chance, edition: u32) -> Vec<String> {
     let fuel = chance.pick(&[3, 8, 20, 50]);
-    sheets::program(chance, fuel)
+    sheets::program(chance, fuel, edition)
 }
 
 /// The beginning of a program, maybe with more behind it that is no token.
-fn cut_off(chance: &mut Chance) -> Vec<u8> {
-    let mut tokens = program(chance);
+fn cut_off(chance: &mut Chance, edition: u32) -> Vec<u8> {
+    let mut tokens = program(chance, edition);
     tokens.truncate(chance.below(tokens.len() + 1));
     let mut sheet = spell(chance, &tokens);
     sheet.extend(
@@ -39,8 +37,8 @@ fn cut_off(chance: &mut Chance) -> Vec<u8> {
 }
 
 /// One token put in, left out or put in another's stead.
-fn wrong_token(chance: &mut Chance) -> Vec<u8> {
-    let mut tokens = program(chance);
+fn wrong_token(chance: &mut Chance, edition: u32) -> Vec<u8> {
+    let mut tokens = program(chance, edition);
     let at = chance.below(tokens.len());
     match chance.below(3) {
         0 => drop(tokens.remove(at)),

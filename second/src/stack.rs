@@ -73,10 +73,14 @@ impl Tally {
 /// Whether this sheet is as it should be, and how much stack it took.
 fn one(other: &Piped, service: Service, sheet: &str) -> (Result<(), String>, u64) {
     let bytes = quote::decode(sheet).expect("a sheet in the spelling of the case files");
+    let lent = Lent {
+        edition: 2,
+        ..Lent::default()
+    };
     // Of two sheets the second is the sheet, and the first is empty.
     let trial = match service {
-        Service::CheckPair | Service::RunPair => Trial::of_pair(b"", &bytes, Lent::default()),
-        _ => Trial::of(&bytes, Lent::default()),
+        Service::CheckPair | Service::RunPair => Trial::of_pair(b"", &bytes, lent),
+        _ => Trial::of(&bytes, lent),
     };
     let verdict = hold(other, &trial, service);
     let stack = other.stack();

@@ -20,6 +20,10 @@ pub const MARKS: [&str; 18] = [
     "&&", "||", "==", ":=", "+", "-", "*", "/", "<", "=", "!", ";", ",", ":", "(", ")", "{", "}",
 ];
 
+/// What edition 2 has more.
+pub const RESERVED_2: [&str; 2] = ["for", "by"];
+pub const MARKS_2: [&str; 2] = ["..=", ".."];
+
 #[derive(Clone, Debug, PartialEq)]
 pub enum Kind {
     /// A reserved word or a mark: its spelling says all there is to say.
@@ -43,7 +47,8 @@ impl Token {
     }
 }
 
-pub fn tokens(source: &[u8]) -> Result<Vec<Token>, Refusal> {
+/// The tokens of a source in edition 1 or 2.
+pub fn tokens(source: &[u8], edition: u32) -> Result<Vec<Token>, Refusal> {
     let mut found = Vec::new();
     let mut at = 0;
     while at < source.len() {
@@ -57,7 +62,8 @@ pub fn tokens(source: &[u8]) -> Result<Vec<Token>, Refusal> {
         } else {
             // The token is read in full before it is counted: a number that
             // is too large is told before there being one token too many.
-            let (kind, length) = token(rest).map_err(|number| Refusal::new(number, at))?;
+            let read = token(rest, edition);
+            let (kind, length) = read.map_err(|number| Refusal::new(number, at))?;
             if found.len() == MOST_TOKENS {
                 return Err(Refusal::new(14, at));
             }
@@ -104,27 +110,32 @@ fn nested_comment(rest: &[u8]) -> Option<usize> {
 }
 
 /// The token at the start of `rest` with its length, or the refusal's number.
-fn token(rest: &[u8]) -> Result<(Kind, usize), u32> {
+fn token(rest: &[u8], edition: u32) -> Result<(Kind, usize), u32> {
     if rest[0].is_ascii_alphabetic() {
-        return Ok(word(rest));
+        return Ok(word(rest, edition));
     }
     if rest[0].is_ascii_digit() {
-        return number(rest);
+        return number(rest, edition);
     }
-    let mark = MARKS.iter().find(|m| rest.starts_with(m.as_bytes()));
+    let more: &[&str] = if edition == 2 { &MARKS_2 } else { &[] };
+    let mark = more
+        .iter()
+        .chain(&MARKS)
+        .find(|m| rest.starts_with(m.as_bytes()));
     mark.map(|m| (Kind::Fixed(m), m.len())).ok_or(11)
 }
 
-fn word(rest: &[u8]) -> (Kind, usize) {
+fn word(rest: &[u8], edition: u32) -> (Kind, usize) {
     let length = run_of(rest, |b| b.is_ascii_alphanumeric() || b == b'_');
     let spelling = String::from_utf8_lossy(&rest[..length]).into_owned();
-    match RESERVED.iter().find(|r| **r == spelling) {
+    let more: &[&str] = if edition == 2 { &RESERVED_2 } else { &[] };
+    match more.iter().chain(&RESERVED).find(|r| **r == spelling) {
         Some(reserved) => (Kind::Fixed(reserved), length),
         None => (Kind::Name(spelling), length),
     }
 }
 
-fn number(rest: &[u8]) -> Result<(Kind, usize), u32> {
+fn number(rest: &[u8], edition: u32) -> Result<(Kind, usize), u32> {
     // Without a digit behind it, `0x` or `0b` is the number 0 and a name.
     let marked = [(&b"0x"[..], 16), (&b"0b"[..], 2)]
         .into_iter()
@@ -133,7 +144,9 @@ fn number(rest: &[u8]) -> Result<(Kind, usize), u32> {
         });
     let (start, base) = marked.map_or((0, 10), |(mark, base)| (mark.len(), base));
     let length = start + run_of(&rest[start..], |b| is_digit(b, base));
-    if base == 10 && rest.get(length) == Some(&b'.') {
+    // Before two points, where these are a mark, a run of digits is an int.
+    let before_mark = edition == 2 && rest[length..].starts_with(b"..");
+    if base == 10 && rest.get(length) == Some(&b'.') && !before_mark {
         return float_number(rest, length);
     }
     let mut value = 0u64;
@@ -172,13 +185,17 @@ mod tests {
     use super::*;
 
     fn spelled(source: &str) -> Vec<String> {
+        spelled_in(1, source)
+    }
+
+    fn spelled_in(edition: u32, source: &str) -> Vec<String> {
         let show = |t: Token| match t.kind {
             Kind::Fixed(f) => f.to_string(),
             Kind::Name(n) => format!("name {n}"),
             Kind::Number(n) => format!("number {n}"),
             Kind::Float(f) => format!("float {f:?}"),
         };
-        tokens(source.as_bytes())
+        tokens(source.as_bytes(), edition)
             .unwrap()
             .into_iter()
             .map(show)
@@ -206,9 +223,26 @@ mod tests {
     }
 
     #[test]
+    fn two_points_are_a_mark_in_edition_2() {
+        assert_eq!(spelled_in(2, "1..5"), ["number 1", "..", "number 5"]);
+        assert_eq!(spelled_in(2, "1.5..=2"), ["float 1.5", "..=", "number 2"]);
+        assert_eq!(
+            spelled_in(2, "0x1..==x"),
+            ["number 1", "..=", "=", "name x"]
+        );
+        assert_eq!(
+            spelled_in(2, "3..0by-1"),
+            ["number 3", "..", "number 0", "by", "-", "number 1"]
+        );
+        assert_eq!(tokens(b"1...2", 2), Err(Refusal::new(11, 3)));
+        assert_eq!(tokens(b"1..5", 1), Err(Refusal::new(11, 2)));
+        assert_eq!(spelled_in(1, "for by"), ["name for", "name by"]);
+    }
+
+    #[test]
     fn comments_swallow_any_byte() {
-        assert_eq!(tokens(b"/*\xff\x00&*/").unwrap(), vec![]);
-        assert_eq!(tokens(b"//\xff").unwrap(), vec![]);
-        assert_eq!(tokens(b" /*//*/"), Err(Refusal::new(12, 1)));
+        assert_eq!(tokens(b"/*\xff\x00&*/", 1).unwrap(), vec![]);
+        assert_eq!(tokens(b"//\xff", 1).unwrap(), vec![]);
+        assert_eq!(tokens(b" /*//*/", 1), Err(Refusal::new(12, 1)));
     }
 }

@@ -68,6 +68,19 @@ pub enum Form {
     Let(String, Box<Node>, Box<Node>),
     If(Box<Node>, Box<Node>, Box<Node>),
     While(Box<Node>, Box<Node>),
+    For(Box<For>),
+}
+
+/// A counted loop.
+#[derive(Debug, PartialEq)]
+pub struct For {
+    pub name: String,
+    pub start: Node,
+    pub end: Node,
+    /// Whether the end is a pass too.
+    pub with_end: bool,
+    pub step: Option<Node>,
+    pub body: Node,
 }
 
 pub fn infix(place: usize, mark: Infix, left: Node, right: Node) -> Node {
@@ -87,6 +100,10 @@ impl Node {
             Form::Group(a) | Form::Block(a) | Form::Prefix(_, a) => vec![a],
             Form::Infix(_, a, b) | Form::Let(_, a, b) | Form::While(a, b) => vec![a, b],
             Form::If(a, b, c) => vec![a, b, c],
+            Form::For(f) => {
+                let bounds = [&f.start, &f.end].into_iter().chain(&f.step);
+                bounds.chain([&f.body]).collect()
+            }
         }
     }
 }
@@ -110,9 +127,11 @@ mod tests {
     fn every_node_has_a_token_of_its_own() {
         let check = |index: u64| {
             let mut chance = Chance::new(21, index);
-            let words = sheets::program(&mut chance, 40);
+            let words = sheets::program(&mut chance, 40, 2);
             let sheet = damage::spell(&mut chance, &words);
-            let Ok(tokens) = tokens(&sheet) else { return };
+            let Ok(tokens) = tokens(&sheet, 2) else {
+                return;
+            };
             let program = read(&tokens).expect("it has a reading");
             let mut found = Vec::new();
             for function in &program.functions {

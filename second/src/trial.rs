@@ -74,10 +74,14 @@ impl Trial {
 /// The trial of this number in the series of this seed.
 pub fn make(seed: u64, index: u64) -> Trial {
     let mut chance = Chance::new(seed, index);
-    let mut sheet = make_sheet(&mut chance);
+    let edition = 1 + chance.below(2) as u32;
+    let mut sheet = make_sheet(&mut chance, edition);
     let cut = make_cut(&mut chance, &mut sheet);
-    let lent = make_loans(&mut chance, &sheet);
-    let room = make_room(&mut chance, &sheet);
+    let mut lent = make_loans(&mut chance, &sheet, edition);
+    let room = make_room(&mut chance, &sheet, &lent);
+    if chance.one_in(100) {
+        lent.edition = chance.pick(&[0, 3, 1 << 16, u32::MAX]);
+    }
     let short = chance.one_in(300).then(|| chance.below(100));
     Trial {
         sheet,
@@ -120,8 +124,8 @@ fn places_of(byte: u8, sheet: &[u8]) -> Vec<usize> {
 }
 
 /// Room for what is written of the sheet, or not quite.
-fn make_room(chance: &mut Chance, sheet: &[u8]) -> usize {
-    let written = write(sheet, TABLE_WORDS, usize::MAX).text.len();
+fn make_room(chance: &mut Chance, sheet: &[u8], lent: &Lent) -> usize {
+    let written = write(sheet, lent, usize::MAX).text.len();
     match chance.below(8) {
         0 => chance.below(40),
         1 => written.saturating_sub(1),
@@ -132,7 +136,7 @@ fn make_room(chance: &mut Chance, sheet: &[u8]) -> usize {
     }
 }
 
-fn make_sheet(chance: &mut Chance) -> Vec<u8> {
+fn make_sheet(chance: &mut Chance, edition: u32) -> Vec<u8> {
     let choice = chance.below(100);
     if choice < 22 {
         return damaged_at_times(chance);
@@ -145,10 +149,10 @@ fn make_sheet(chance: &mut Chance) -> Vec<u8> {
         return damage::spell(chance, &tokens);
     }
     if choice < 36 {
-        return slips::sheet(chance);
+        return slips::sheet(chance, edition);
     }
     let fuel = chance.pick(&[2, 5, 10, 20, 40, 80]);
-    let mut tokens = sheets::program(chance, fuel);
+    let mut tokens = sheets::program(chance, fuel, edition);
     if choice < 44 {
         damage::damage_tokens(chance, &mut tokens);
     }
@@ -168,7 +172,7 @@ fn damaged_at_times(chance: &mut Chance) -> Vec<u8> {
     sheet
 }
 
-fn make_loans(chance: &mut Chance, sheet: &[u8]) -> Lent {
+fn make_loans(chance: &mut Chance, sheet: &[u8], edition: u32) -> Lent {
     let table = length(chance, TABLE_WORDS);
     let work = length(chance, WORK_WORDS);
     let output = match chance.below(5) {
@@ -177,6 +181,7 @@ fn make_loans(chance: &mut Chance, sheet: &[u8]) -> Lent {
         _ => chance.between(5, 300),
     };
     let lent = Lent {
+        edition,
         table,
         work,
         output,
@@ -230,9 +235,14 @@ mod tests {
         let wrong = on_big_stack(|| {
             let number = |index: u64| {
                 let mut chance = Chance::new(11, index);
-                let tokens = sheets::program(&mut chance, 40);
+                let edition = 1 + index as u32 % 2;
+                let tokens = sheets::program(&mut chance, 40, edition);
                 let sheet = damage::spell(&mut chance, &tokens);
-                answer::check(&sheet, TABLE_WORDS).number
+                let lent = Lent {
+                    edition,
+                    ..Lent::default()
+                };
+                answer::check(&sheet, &lent).number
             };
             (0..3000)
                 .map(number)

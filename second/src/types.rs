@@ -1,6 +1,6 @@
 //! The checker: which type a program has, or the first refusal in it.
 
-use crate::tree::{Form, Function, Infix, Node, Prefix, Program};
+use crate::tree::{For, Form, Function, Infix, Node, Prefix, Program};
 use crate::Refusal;
 use std::collections::HashMap;
 
@@ -101,13 +101,16 @@ impl Checker {
     }
 
     fn node(&mut self, node: &Node) -> Result<Type, Refusal> {
-        // A let is the one form whose second child sees more than the first.
+        // Of a let and a counted loop the last child sees more than the others.
         if let Form::Let(name, bound, body) = &node.form {
             let kind = self.node(bound)?;
             self.variables.push((name.clone(), kind));
             let result = self.node(body)?;
             self.variables.pop();
             return Ok(result);
+        }
+        if let Form::For(counted) = &node.form {
+            return self.counted(node, counted);
         }
         let mut inside = Vec::new();
         for child in node.children() {
@@ -120,6 +123,25 @@ impl Checker {
         }
         self.rule(&node.form, &inside)
             .map_err(|number| Refusal::new(number, node.place))
+    }
+
+    /// Bounds and body have types before the loop asks which, the body with the
+    /// name as an int whatever the bounds are.
+    fn counted(&mut self, node: &Node, counted: &For) -> Result<Type, Refusal> {
+        let bounds = [&counted.start, &counted.end]
+            .into_iter()
+            .chain(&counted.step);
+        let mut fits = true;
+        for bound in bounds {
+            fits &= self.node(bound)? == Type::Int;
+        }
+        self.variables.push((counted.name.clone(), Type::Int));
+        fits &= self.node(&counted.body)? == Type::Unit;
+        self.variables.pop();
+        match fits {
+            true => Ok(Type::Unit),
+            false => refuse(33, node.place),
+        }
     }
 
     /// The type of a form whose children have these types, or the number of

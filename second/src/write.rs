@@ -1,7 +1,7 @@
 //! The writer: a sheet that passes, written out again with one space between
 //! two tokens and an LF at the end.
 
-use crate::answer::{prepare, Left, MOST_BYTES, TABLE_WORDS};
+use crate::answer::{prepare, Left, Lent, MOST_BYTES, TABLE_WORDS};
 use crate::text;
 use crate::Refusal;
 
@@ -14,14 +14,14 @@ pub struct Written {
     pub table: Left,
 }
 
-pub fn write(source: &[u8], table: usize, room: usize) -> Written {
-    if table < TABLE_WORDS {
+pub fn write(source: &[u8], lent: &Lent, room: usize) -> Written {
+    if lent.table < TABLE_WORDS {
         return refused(Refusal::new(40, 0), Left::AsBefore);
     }
-    if let Err(refusal) = prepare(source) {
+    if let Err(refusal) = prepare(source, lent.edition) {
         return refused(refusal, Left::RequiredZero);
     }
-    let text = tokens_apart(source);
+    let text = tokens_apart(source, lent.edition);
     if text.len() > room || text.len() > MOST_BYTES {
         return refused(Refusal::new(44, 0), Left::RequiredZero);
     }
@@ -32,8 +32,8 @@ pub fn write(source: &[u8], table: usize, room: usize) -> Written {
 }
 
 /// The tokens as they are spelled, of a source that has some.
-pub fn tokens_apart(source: &[u8]) -> Vec<u8> {
-    let tokens = text::tokens(source).expect("a sheet that passes has tokens");
+fn tokens_apart(source: &[u8], edition: u32) -> Vec<u8> {
+    let tokens = text::tokens(source, edition).expect("a sheet that passes has tokens");
     let spelled: Vec<&[u8]> = tokens.iter().map(|t| t.spelling(source)).collect();
     let mut text = spelled.join(&b' ');
     text.push(b'\n');

@@ -6,7 +6,11 @@ use lib.Dec.{eqb, ltb}
 use lib.ListN.{length, getD}
 use Prim.Native.Char.{code}
 use Prim.Native.Nat.{ℕ}
+use Rattle.language.specs.Sizes.{LARGEST}
 use Rattle.language.specs.Tokens.{spell}
+use Rattle.page.specs.Amounts.{number-up-to}
+use Rattle.page.specs.declared.amounts.Number.{Number}
+use Rattle.page.specs.declared.amounts.Number.the-variants.{Of}
 use Rattle.clerk.specs.declared.asked.Asked.{Asked}
 use Rattle.clerk.specs.declared.asked.Count.{Count}
 use Rattle.clerk.specs.declared.asked.Task.{Task}
@@ -40,6 +44,7 @@ Means t (Word.Command k) = CommandIs t k
 Means t (Word.Instead k) = CommandIs t k
 Means t Word.Whole = t ≡ spell "--whole"
 Means t Word.Report = t ≡ spell "--report"
+Means t Word.Edition = t ≡ spell "--edition"
 Means t Word.Rest = t ≡ spell "--"
 Means t Word.Strange = looks-optional t ≡ true
 Means t Word.Plain = Not t (spell "check") × Not t (spell "run") × Not t (spell "write") × (looks-optional t ≡ false)
@@ -56,6 +61,7 @@ with-task a t =
       second = a .second;
       third = a .third;
       report = a .report;
+      edition = a .edition;
       strange = a .strange;
     }
 
@@ -69,6 +75,7 @@ with-turn a t =
       second = a .second;
       third = a .third;
       report = a .report;
+      edition = a .edition;
       strange = a .strange;
     }
 
@@ -82,6 +89,21 @@ with-report a i =
       second = a .second;
       third = a .third;
       report = i;
+      edition = a .edition;
+      strange = a .strange;
+    }
+
+abbrev pub with-edition : Asked → ℕ → Asked
+with-edition a i =
+    record {
+      task = a .task;
+      turn = Turn.Meaning;
+      plain = a .plain;
+      sheet = a .sheet;
+      second = a .second;
+      third = a .third;
+      report = a .report;
+      edition = i;
       strange = a .strange;
     }
 
@@ -95,6 +117,7 @@ with-strange a i =
       second = a .second;
       third = a .third;
       report = a .report;
+      edition = a .edition;
       strange = i;
     }
 
@@ -108,6 +131,7 @@ unasked =
       second = 0;
       third = 0;
       report = 0;
+      edition = 0;
       strange = 0;
     }
 
@@ -122,6 +146,7 @@ with-plain Count.None a i =
       second = a .second;
       third = a .third;
       report = a .report;
+      edition = a .edition;
       strange = a .strange;
     }
 with-plain Count.One a i =
@@ -133,6 +158,7 @@ with-plain Count.One a i =
       second = i;
       third = a .third;
       report = a .report;
+      edition = a .edition;
       strange = a .strange;
     }
 with-plain Count.Two a i =
@@ -144,6 +170,7 @@ with-plain Count.Two a i =
       second = a .second;
       third = i;
       report = a .report;
+      edition = a .edition;
       strange = a .strange;
     }
 with-plain Count.Three a i =
@@ -155,6 +182,7 @@ with-plain Count.Three a i =
       second = a .second;
       third = a .third;
       report = a .report;
+      edition = a .edition;
       strange = a .strange;
     }
 with-plain Count.More a i = a
@@ -190,6 +218,7 @@ with-word a (Word.Command t) i = with-command (a .plain) a t i
 with-word a (Word.Instead t) i = with-task a t
 with-word a Word.Whole i = with-whole (a .task) a i
 with-word a Word.Report i = with-turn a Turn.Name
+with-word a Word.Edition i = with-turn a Turn.Edition
 with-word a Word.Rest i = with-turn a Turn.Plain
 with-word a Word.Strange i = with-strange a i
 with-word a Word.Plain i = with-plain (a .plain) a i
@@ -197,6 +226,7 @@ with-word a Word.Plain i = with-plain (a .plain) a i
 abbrev pub in-turn : Turn → Asked → Word → ℕ → Asked
 in-turn Turn.Meaning a w i = with-word a w i
 in-turn Turn.Name a w i = with-report a i
+in-turn Turn.Edition a w i = with-edition a i
 in-turn Turn.Plain a w i = with-plain (a .plain) a i
 
 -- ---- what all of them ask for
@@ -237,4 +267,9 @@ wanted-if fit t = cond fit (Wanted.Do t) Wanted.Unclear
 abbrev pub wanted-of : Turn → Asked → Wanted
 wanted-of Turn.Meaning a = wanted-if (fitting (a .task) (a .plain)) (a .task)
 wanted-of Turn.Name a = Wanted.NoName
+wanted-of Turn.Edition a = Wanted.NoEdition
 wanted-of Turn.Plain a = wanted-if (fitting (a .task) (a .plain)) (a .task)
+
+-- the edition by the word that is kept for it: 1 where there is none, and no edition where it is no number
+abbrev pub edition-of : (kept : ℕ) → List ℕ → Number
+edition-of kept t = cond (eqb kept 0) (Of 1) (number-up-to LARGEST t)

@@ -18,6 +18,7 @@ cause-number (NoWage k) = 0
 abbrev pub refusal-placed : Refusal → Bool
 refusal-placed Refusal.ShortMemory = false
 refusal-placed Refusal.LargeAllowance = false
+refusal-placed Refusal.NoEdition = false
 refusal-placed Refusal.LongSource = false
 refusal-placed (Refusal.Text f) = true
 refusal-placed Refusal.NoReading = true

@@ -15,6 +15,7 @@ use Rattle.clerk.specs.declared.ends.End.the-variants.{Passed, Value, Re
 abbrev pub is-long : Refusal → Bool
 is-long Refusal.ShortMemory = false
 is-long Refusal.LargeAllowance = false
+is-long Refusal.NoEdition = false
 is-long Refusal.LongSource = true
 is-long (Refusal.Text f) = false
 is-long Refusal.NoReading = false
@@ -24,6 +25,7 @@ is-long Refusal.LongText = false
 abbrev pub is-unread : Refusal → Bool
 is-unread Refusal.ShortMemory = false
 is-unread Refusal.LargeAllowance = false
+is-unread Refusal.NoEdition = false
 is-unread Refusal.LongSource = false
 is-unread (Refusal.Text f) = false
 is-unread Refusal.NoReading = true

@@ -3,7 +3,7 @@
 // new command is a task, its row in `meaning` and its row in `tasks::fits`.
 ghost use mathlib.Core.Path.{_≡_};
 ghost use Rattle.clerk.specs.Asked.{looks-optional, Means, unasked, with-task, with-turn, with-report};
-ghost use Rattle.clerk.specs.Asked.{with-strange, with-plain, first-word, with-command};
+ghost use Rattle.clerk.specs.Asked.{with-edition, with-strange, with-plain, first-word, with-command};
 ghost use Rattle.clerk.specs.Asked.{with-whole, with-word, in-turn};
 use check::same;
 
@@ -25,6 +25,7 @@ pub enum Word {
     Instead(Task),
     Whole,
     Report,
+    Edition,
     // No word behind it means anything by itself.
     Rest,
     // It looks like an option and is none.
@@ -32,10 +33,12 @@ pub enum Word {
     Plain,
 }
 
-// How the next word is taken: by what it means, as the name of the report's file, or as it stands.
+// How the next word is taken: by what it means, as the name of the report's file, as the number of the edition,
+// or as it stands.
 pub enum Turn {
     Meaning,
     Name,
+    Edition,
     Plain,
 }
 
@@ -59,14 +62,17 @@ pub struct Asked {
     pub third: usize,
     // The report's file.
     pub report: usize,
+    // The number of the edition.
+    pub edition: usize,
     // The last word that looks like an option and is none here.
     pub strange: usize,
 }
 
-// What all the words ask for: a task; a file's name is missing; there are too many words or too few.
+// What all the words ask for: a task; a file's name or an edition is missing; there are too many words or too few.
 pub enum Wanted {
     Do(Task),
     NoName,
+    NoEdition,
     Unclear,
 }
 
@@ -102,6 +108,9 @@ pub fn meaning(text: &[u8]) -> Word
     if same(text, b"--report") {
         return Word::Report;
     }
+    if same(text, b"--edition") {
+        return Word::Edition;
+    }
     if same(text, b"--help") {
         return Word::Instead(Task::Help);
     }
@@ -128,6 +137,7 @@ pub fn nothing() -> Asked
         second: 0,
         third: 0,
         report: 0,
+        edition: 0,
         strange: 0,
     }
 }
@@ -150,6 +160,17 @@ fn named(asked: Asked, i: usize) -> Asked
 {
     Asked {
         report: i,
+        turn: Turn::Meaning,
+        ..asked
+    }
+}
+
+// A word that says the edition.
+fn in_edition(asked: Asked, i: usize) -> Asked
+    ensures { λ r. ⌜ r ≡ with-edition asked i ⌝ }
+{
+    Asked {
+        edition: i,
         turn: Turn::Meaning,
         ..asked
     }
@@ -247,6 +268,7 @@ fn meant(asked: Asked, word: Word, i: usize) -> Asked
         Word::Instead(task) => tasked(asked, task),
         Word::Whole => whole(asked, i),
         Word::Report => turned(asked, Turn::Name),
+        Word::Edition => turned(asked, Turn::Edition),
         Word::Rest => turned(asked, Turn::Plain),
         Word::Strange => unknown(asked, i),
         Word::Plain => plain(asked, i),
@@ -261,6 +283,7 @@ pub fn take(asked: Asked, word: Word, i: usize) -> Asked
     match turn {
         Turn::Meaning => meant(asked, word, i),
         Turn::Name => named(asked, i),
+        Turn::Edition => in_edition(asked, i),
         Turn::Plain => plain(asked, i),
     }
 }

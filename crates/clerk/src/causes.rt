@@ -36,6 +36,7 @@ fn has_place(refusal: Refusal) -> bool
     match refusal {
         Refusal::ShortMemory => false,
         Refusal::LargeAllowance => false,
+        Refusal::NoEdition => false,
         Refusal::LongSource => false,
         Refusal::Text(_) => true,
         Refusal::NoReading => true,

@@ -43,6 +43,7 @@ fn is_long(why: Refusal) -> bool
     match why {
         Refusal::ShortMemory => false,
         Refusal::LargeAllowance => false,
+        Refusal::NoEdition => false,
         Refusal::LongSource => true,
         Refusal::Text(_) => false,
         Refusal::NoReading => false,
@@ -57,6 +58,7 @@ fn is_unread(why: Refusal) -> bool
     match why {
         Refusal::ShortMemory => false,
         Refusal::LargeAllowance => false,
+        Refusal::NoEdition => false,
         Refusal::LongSource => false,
         Refusal::Text(_) => false,
         Refusal::NoReading => true,

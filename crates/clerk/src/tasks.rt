@@ -1,11 +1,20 @@
-// Whether as many plain words stand there as a task takes.
+// Whether as many plain words stand there as a task takes; and which edition is asked for.
 ghost use mathlib.Core.Path.{_≡_};
 ghost use Rattle.clerk.specs.Asked.{one-word, two-words, three-words, fitting, wanted-if, wanted-of};
+ghost use Rattle.clerk.specs.Asked.{edition-of};
 use crate::asked::Asked;
 use crate::asked::Count;
 use crate::asked::Task;
 use crate::asked::Turn;
 use crate::asked::Wanted;
+use page::Number;
+use page::up_to;
+
+// The edition where no word says one.
+const FIRST: u32 = 1;
+
+// The largest number that a word can say.
+pub const LARGEST: u32 = language::LARGEST as u32;
 
 fn one(plain: Count) -> bool
     ensures { λ r. ⌜ r ≡ one-word plain ⌝ }
@@ -78,6 +87,17 @@ pub fn settled(asked: Asked) -> Wanted
     match turn {
         Turn::Meaning => wanted(task, fits(task, plain)),
         Turn::Name => Wanted::NoName,
+        Turn::Edition => Wanted::NoEdition,
         Turn::Plain => wanted(task, fits(task, plain)),
     }
+}
+
+// The edition that the word kept for it says.
+pub fn edition(asked: Asked, word: &[u8]) -> Number
+    ensures { λ r. ⌜ r ≡ edition-of (asked .edition) (now (word .entry)) ⌝ }
+{
+    if asked.edition == 0 {
+        return Number::Of(FIRST);
+    }
+    up_to(word, LARGEST)
 }

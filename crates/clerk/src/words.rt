@@ -34,12 +34,9 @@ fn reason(out: &mut [u8], at: usize, why: Reason) -> usize
         Reason::WrongArgument => put(out, at, b"the function takes an argument of another type"),
         Reason::WrongOperand => put(out, at, b"the operator takes an operand of another type"),
         Reason::WrongOperands => put(out, at, b"the operator takes operands of other types"),
-        Reason::NotUnit => put(
-            out,
-            at,
-            b"what stands before ; or in a while has to be unit",
-        ),
+        Reason::NotUnit => put(out, at, b"what stands before ; or in a loop has to be unit"),
         Reason::NotBool => put(out, at, b"the condition has to be a bool"),
+        Reason::NotInt => put(out, at, b"start, end and step have to be ints"),
         Reason::BranchesDiffer => put(out, at, b"then and else have different types"),
         Reason::WrongBody => put(out, at, b"the body has another type than the function says"),
         Reason::TooManyRefs => put(out, at, b"a type with more than 15 ref"),
@@ -52,6 +49,7 @@ fn refusal(out: &mut [u8], at: usize, why: Refusal) -> usize
     match why {
         Refusal::ShortMemory => put(out, at, b"a memory is too short"),
         Refusal::LargeAllowance => put(out, at, b"the allowance is over 1000000"),
+        Refusal::NoEdition => put(out, at, b"the edition is neither 1 nor 2"),
         Refusal::LongSource => put(out, at, b"the sheet has more than 8192 bytes"),
         Refusal::Text(why) => flaw(out, at, why),
         Refusal::NoReading => put(
@@ -117,6 +115,7 @@ fn stop(out: &mut [u8], at: usize, why: Stop) -> usize
             at,
             b"stopped: the output is full, it holds 65536 bytes",
         ),
+        Stop::ZeroStep => put(out, at, b"stopped: a counted loop with a step of zero"),
     }
 }
 

@@ -8,6 +8,9 @@ use layout::floats;
 use layout::values::Value;
 use libc::STDOUT_FILENO;
 
+// The edition that they are written in.
+const EDITION: u32 = 1;
+
 fn main() {
     proved();
     easily_wrong();
@@ -89,7 +92,7 @@ fn show(sheet: &[u8], allowance: u64) {
     io::write_all(STDOUT_FILENO, b"\n   ");
     field(allowance);
     io::write_all(STDOUT_FILENO, b":");
-    let answer = grumpy::run(sheet, &mut table, &mut work, &mut out, allowance);
+    let answer = grumpy::run(EDITION, sheet, &mut table, &mut work, &mut out, allowance);
     report(answer, &out);
     io::write_all(STDOUT_FILENO, b"\n");
 }

@@ -12,9 +12,10 @@ use Rattle.language.specs.Trees.{Ty, Program}
 use Rattle.language.specs.State.{Stop}
 use Rattle.language.specs.Meaning.{run, type-number}
 use Rattle.language.specs.Numbers.{Refusal, no-reading, passed, refused, stopped, long-text}
-use Rattle.language.specs.Answers.{from-text, Passes, left, Ending, ending, CheckReport, Check, Enough, RunReport, after-run, run-ended, Run, Lent}
+use Rattle.language.specs.Answers.{Passes, left, Ending, ending, CheckReport, Check, Enough, RunReport, after-run, run-ended, Run, Lent}
 use Rattle.language.specs.Writing.{WriteReport, Write}
-use Rattle.language.proofs.Answers.Origins.{text-lawful}
+use Rattle.language.specs.Edition.{text-in}
+use Rattle.language.proofs.Answers.Editions.{text-in-lawful}
 use Rattle.language.proofs.Answers.OneAnswer.{one-ran}
 use Rattle.language.proofs.Answers.Endings.{IsRun}
 use Rattle.language.proofs.Answers.Demand1.{Listed, ran-listed, checked-listed, wrote-listed, check-never-stops, write-never-stops, silent, unwritten}
@@ -28,31 +29,33 @@ use Rattle.grumpy.specs.declared.answers.Wrote.{Wrote}
 
 -- ---- demand 1
 
--- Whatever is lent, what check tells is a row of the table, at the place that the row sets, and memory is left as it says.
-pub record CheckDemand1 (source table : List ℕ) (report : CheckReport ℕ) (table′ : List ℕ) : Type 0 where
-  pub listed : Listed source record { table = length table; work = WORK; output = 0; allowance = 0 } (report .told) (report .place)
+-- Whatever edition is named and whatever is lent, what check tells is a row of the table, at the place that the row sets, and memory is left as it says.
+pub record CheckDemand1 (edition : ℕ) (source table : List ℕ) (report : CheckReport ℕ) (table′ : List ℕ) : Type 0 where
+  pub listed : Listed edition source record { table = length table; work = WORK; output = 0; allowance = 0 } (report .told) (report .place)
   pub no-stop : (w : Stop) → report .told ≡ stopped w → ⊥
   pub table-left : table′ ≡ left (report .told) TABLE table
 
-pub check-demand-one : {source table t′ : List ℕ} (r : Checked) → Check (from-text source) table (checked-report r) t′
-    → CheckDemand1 source table (checked-report r) t′
-check-demand-one {source} r a = record {
-  listed = checked-listed source _ (a .answer);
+pub check-demand-one : {edition : ℕ} {source table t′ : List ℕ} (r : Checked) → Check (text-in edition source) table (checked-report r) t′
+    → CheckDemand1 edition source table (checked-report r) t′
+check-demand-one {edition} {source} r a = record {
+  listed = checked-listed edition source _ (a .answer);
   no-stop = check-never-stops (a .answer);
   table-left = a .table-left;
 }
 
 -- The same of run; and where nothing is run, nothing is printed and the output is as it was.
-pub record RunDemand1 (source table work output : List ℕ) (allowance : ℕ) (report : RunReport ℕ) (table′ work′ output′ : List ℕ) : Type 0 where
-  pub listed : Listed source record { table = length table; work = length work; output = length output; allowance = allowance } (report .told) (report .place)
+pub record RunDemand1 (edition : ℕ) (source table work output : List ℕ) (allowance : ℕ) (report : RunReport ℕ) (table′ work′ output′ : List ℕ) : Type 0 where
+  pub listed : Listed edition source record { table = length table; work = length work; output = length output; allowance = allowance }
+      (report .told) (report .place)
   pub table-left : table′ ≡ left (report .told) TABLE table
   pub work-left : work′ ≡ left (report .told) WORK work
   pub silent : (y : Refusal) → report .told ≡ refused y → (report .printed ≡ 0) × (output′ ≡ output)
 
-pub run-demand-one : {source table work output : List ℕ} {allowance : ℕ} {t′ w′ o′ : List ℕ} (r : Ran)
-    → Run (from-text source) table work output allowance (ran-report r) t′ w′ o′ → RunDemand1 source table work output allowance (ran-report r) t′ w′ o′
-run-demand-one {source} {output = output} r a = record {
-  listed = ran-listed source _ (a .answer);
+pub run-demand-one : {edition : ℕ} {source table work output : List ℕ} {allowance : ℕ} {t′ w′ o′ : List ℕ} (r : Ran)
+    → Run (text-in edition source) table work output allowance (ran-report r) t′ w′ o′
+    → RunDemand1 edition source table work output allowance (ran-report r) t′ w′ o′
+run-demand-one {edition} {source} {output = output} r a = record {
+  listed = ran-listed edition source _ (a .answer);
   table-left = a .table-left;
   work-left = a .work-left;
   silent = λ y e.
@@ -64,52 +67,53 @@ run-demand-one {source} {output = output} r a = record {
 
 -- A sheet that passes, with memory and allowance in order, is answered exactly by the end of its meaning: value or stop and
 -- its place, units and bytes printed.
-pub demand-two : {source table work output : List ℕ} {allowance : ℕ} {t′ w′ o′ : List ℕ} {ts : List Token} {p : Program} {t : Ty} {e : Ending}
-    → TABLE ≤ length table → WORK ≤ length work → allowance ≤ ALLOWANCE → Passes (from-text source) ts p t
+pub demand-two : {edition : ℕ} {source table work output : List ℕ} {allowance : ℕ} {t′ w′ o′ : List ℕ} {ts : List Token} {p : Program} {t : Ty} {e : Ending}
+    → TABLE ≤ length table → WORK ≤ length work → allowance ≤ ALLOWANCE → Passes (text-in edition source) ts p t
     → ending allowance (run p allowance (length output)) ≡ some e → (r : Ran)
-    → Run (from-text source) table work output allowance (ran-report r) t′ w′ o′
-    → (ran-report r ≡ after-run (from-text source) ts t e) × (o′ ≡ e .printed ++ drop (length (e .printed)) output)
-demand-two {source} {output = output} long wide fair passes ends r a =
-    let x = one-ran (text-lawful source) _ (a .answer) (run-ended record { table = long; work = wide } fair passes ends) in
+    → Run (text-in edition source) table work output allowance (ran-report r) t′ w′ o′
+    → (ran-report r ≡ after-run (text-in edition source) ts t e) × (o′ ≡ e .printed ++ drop (length (e .printed)) output)
+demand-two {edition} {source} {output = output} long wide fair passes ends r a =
+    let x = one-ran (text-in-lawful edition source) _ (a .answer) (run-ended record { table = long; work = wide } fair passes ends) in
     (x .0, a .output-left ∙ ap (λ (bs : List ℕ). bs ++ drop (length bs) output) (x .1))
 
 -- ---- demand 3
 
 -- Check passes with the type t exactly when the text, not too long, splits into tokens, the tokens have a reading and the
 -- reading has the type t; it says "not a program" exactly when the text splits and no reading exists.
-module _ {source table t′ : List ℕ} (long : TABLE ≤ length table) (r : Checked) (a : Check (from-text source) table (checked-report r) t′) where
-  pub check-demand-three : (t : Ty) → ((checked-report r .told ≡ passed) × (checked-report r .type ≡ type-number t)) ↔ IsProgram (from-text source) t
-  check-demand-three t = check-type-exactly (text-lawful source) long (a .answer) t
+module _ {edition : ℕ} {source table t′ : List ℕ} (long : TABLE ≤ length table) (r : Checked)
+    (a : Check (text-in edition source) table (checked-report r) t′) where
+  pub check-demand-three : (t : Ty) → ((checked-report r .told ≡ passed) × (checked-report r .type ≡ type-number t)) ↔ IsProgram (text-in edition source) t
+  check-demand-three t = check-type-exactly (text-in-lawful edition source) long (a .answer) t
 
-  pub check-demand-three-none : (checked-report r .told ≡ refused no-reading) ↔ NoProgram (from-text source)
-  check-demand-three-none = check-none-exactly (text-lawful source) long (a .answer)
+  pub check-demand-three-none : (checked-report r .told ≡ refused no-reading) ↔ NoProgram (text-in edition source)
+  check-demand-three-none = check-none-exactly (text-in-lawful edition source) long (a .answer)
 
 -- Run ends in a value or a stop with the type t exactly then, and says "not a program" exactly then.
-module _ {source table work output : List ℕ} {allowance : ℕ} {t′ w′ o′ : List ℕ} (long : TABLE ≤ length table) (wide : WORK ≤ length work)
-    (fair : allowance ≤ ALLOWANCE) (r : Ran) (a : Run (from-text source) table work output allowance (ran-report r) t′ w′ o′) where
+module _ {edition : ℕ} {source table work output : List ℕ} {allowance : ℕ} {t′ w′ o′ : List ℕ} (long : TABLE ≤ length table) (wide : WORK ≤ length work)
+    (fair : allowance ≤ ALLOWANCE) (r : Ran) (a : Run (text-in edition source) table work output allowance (ran-report r) t′ w′ o′) where
   enough : Enough record { table = length table; work = length work; output = length output; allowance = allowance }
   enough = record { table = long; work = wide }
 
-  pub run-demand-three : (t : Ty) → (IsRun (ran-report r .told) × (ran-report r .type ≡ type-number t)) ↔ IsProgram (from-text source) t
-  run-demand-three t = run-type-exactly (text-lawful source) enough fair (a .answer) t
+  pub run-demand-three : (t : Ty) → (IsRun (ran-report r .told) × (ran-report r .type ≡ type-number t)) ↔ IsProgram (text-in edition source) t
+  run-demand-three t = run-type-exactly (text-in-lawful edition source) enough fair (a .answer) t
 
-  pub run-demand-three-none : (ran-report r .told ≡ refused no-reading) ↔ NoProgram (from-text source)
-  run-demand-three-none = run-none-exactly (text-lawful source) enough fair (a .answer)
+  pub run-demand-three-none : (ran-report r .told ≡ refused no-reading) ↔ NoProgram (text-in edition source)
+  run-demand-three-none = run-none-exactly (text-in-lawful edition source) enough fair (a .answer)
 
 -- ---- write (R03)
 
 -- Whatever is lent, what write tells is a row of the table, at the place that the row sets, and memory is left as it says; and
 -- where the sheet is refused, nothing is written.
-pub record WriteDemand1 (source table output : List ℕ) (report : WriteReport ℕ) (table′ output′ : List ℕ) : Type 0 where
-  pub listed : Listed source record { table = length table; work = WORK; output = length output; allowance = 0 } (report .told) (report .place)
+pub record WriteDemand1 (edition : ℕ) (source table output : List ℕ) (report : WriteReport ℕ) (table′ output′ : List ℕ) : Type 0 where
+  pub listed : Listed edition source record { table = length table; work = WORK; output = length output; allowance = 0 } (report .told) (report .place)
   pub no-stop : (w : Stop) → report .told ≡ stopped w → ⊥
   pub table-left : table′ ≡ left (report .told) TABLE table
   pub unwritten : (y : Refusal) → report .told ≡ refused y → (report .written ≡ 0) × (output′ ≡ output)
 
-module _ {source table output t′ o′ : List ℕ} (r : Wrote) (a : Write (from-text source) table output (wrote-report r) t′ o′) where
-  pub write-demand-one : WriteDemand1 source table output (wrote-report r) t′ o′
+module _ {edition : ℕ} {source table output t′ o′ : List ℕ} (r : Wrote) (a : Write (text-in edition source) table output (wrote-report r) t′ o′) where
+  pub write-demand-one : WriteDemand1 edition source table output (wrote-report r) t′ o′
   write-demand-one = record {
-    listed = wrote-listed source _ (a .answer);
+    listed = wrote-listed edition source _ (a .answer);
     no-stop = write-never-stops (a .answer);
     table-left = a .table-left;
     unwritten = λ y e.
@@ -118,9 +122,9 @@ module _ {source table output t′ o′ : List ℕ} (r : Wrote) (a : Write (from
   }
 
   -- it says 44 exactly when the sheet passes and its text is longer than the output or than a source may be
-  pub write-long-exactly : TABLE ≤ length table → (wrote-report r .told ≡ refused long-text) ↔ LongProgram (from-text source) (length output)
-  write-long-exactly long = long-exactly (text-lawful source) long (a .answer)
+  pub write-long-exactly : TABLE ≤ length table → (wrote-report r .told ≡ refused long-text) ↔ LongProgram (text-in edition source) (length output)
+  write-long-exactly long = long-exactly (text-in-lawful edition source) long (a .answer)
 
   -- and what it has written is the same sheet
-  pub write-same-sheet : wrote-report r .told ≡ passed → SameSheet source (take (wrote-report r .written) o′)
+  pub write-same-sheet : wrote-report r .told ≡ passed → SameSheet edition source (take (wrote-report r .written) o′)
   write-same-sheet e = written-sheet a e

@@ -4,9 +4,10 @@ use mathlib.Core.List.{List}
 use mathlib.Core.Path.{_≡_, refl, sym, ap, _∙_}
 use Prim.Native.Nat.{ℕ}
 use Rattle.language.specs.Numbers.{Told, passed, refused, stopped}
-use Rattle.language.specs.Answers.{from-text, CheckReport, Check, RunReport, Run}
+use Rattle.language.specs.Answers.{CheckReport, Check, RunReport, Run}
 use Rattle.language.specs.Writing.{WriteReport, Write}
-use Rattle.language.proofs.Answers.Origins.{text-lawful}
+use Rattle.language.specs.Edition.{text-in}
+use Rattle.language.proofs.Answers.Editions.{text-in-lawful}
 use Rattle.language.proofs.Answers.OneAnswer.{one-check, one-run}
 use Rattle.language.proofs.Writing.OneWriting.{one-write}
 use Rattle.layout.specs.declared.values.Value.{Value}
@@ -62,22 +63,22 @@ wrote-back (Wrote.Refused y i) = ap (λ (y : Refusal). Wrote.Refused y i) (refus
 
 -- ---- one answer
 
-pub check-determined : {source table t′ u′ : List ℕ} (r q : Checked) → Check (from-text source) table (checked-report r) t′
-    → Check (from-text source) table (checked-report q) u′ → (r ≡ q) × (t′ ≡ u′)
-check-determined {source} r q a b =
-    let e = one-check (text-lawful source) a b in
+pub check-determined : {edition : ℕ} {source table t′ u′ : List ℕ} (r q : Checked) → Check (text-in edition source) table (checked-report r) t′
+    → Check (text-in edition source) table (checked-report q) u′ → (r ≡ q) × (t′ ≡ u′)
+check-determined {edition} {source} r q a b =
+    let e = one-check (text-in-lawful edition source) a b in
     (sym (checked-back r) ∙ ap checked-of (e .0) ∙ checked-back q, e .1)
 
-pub run-determined : {source table work output : List ℕ} {allowance : ℕ} {t′ w′ o′ t″ w″ o″ : List ℕ} (r q : Ran)
-    → Run (from-text source) table work output allowance (ran-report r) t′ w′ o′
-    → Run (from-text source) table work output allowance (ran-report q) t″ w″ o″ → (r ≡ q) × (t′ ≡ t″) × (w′ ≡ w″) × (o′ ≡ o″)
-run-determined {source} r q a b =
-    let e = one-run (text-lawful source) a b in
+pub run-determined : {edition : ℕ} {source table work output : List ℕ} {allowance : ℕ} {t′ w′ o′ t″ w″ o″ : List ℕ} (r q : Ran)
+    → Run (text-in edition source) table work output allowance (ran-report r) t′ w′ o′
+    → Run (text-in edition source) table work output allowance (ran-report q) t″ w″ o″ → (r ≡ q) × (t′ ≡ t″) × (w′ ≡ w″) × (o′ ≡ o″)
+run-determined {edition} {source} r q a b =
+    let e = one-run (text-in-lawful edition source) a b in
     (sym (ran-back r) ∙ ap ran-of (e .0) ∙ ran-back q, e .1, e .2, e .3)
 
-pub write-determined : {source table output : List ℕ} {t′ o′ t″ o″ : List ℕ} (r q : Wrote)
-    → Write (from-text source) table output (wrote-report r) t′ o′ → Write (from-text source) table output (wrote-report q) t″ o″
+pub write-determined : {edition : ℕ} {source table output : List ℕ} {t′ o′ t″ o″ : List ℕ} (r q : Wrote)
+    → Write (text-in edition source) table output (wrote-report r) t′ o′ → Write (text-in edition source) table output (wrote-report q) t″ o″
     → (r ≡ q) × (t′ ≡ t″) × (o′ ≡ o″)
-write-determined {source} r q a b =
-    let e = one-write (text-lawful source) a b in
+write-determined {edition} {source} r q a b =
+    let e = one-write (text-in-lawful edition source) a b in
     (sym (wrote-back r) ∙ ap wrote-of (e .0) ∙ wrote-back q, e .1, e .2)

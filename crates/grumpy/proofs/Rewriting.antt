@@ -5,10 +5,11 @@ use Prim.Native.Nat.{ℕ, _≤_, _<_}
 use lib.ListN.{length}
 use Rattle.language.specs.Sizes.{TABLE}
 use Rattle.language.specs.Numbers.{refused, short-memory}
-use Rattle.language.specs.Answers.{from-text, left}
+use Rattle.language.specs.Answers.{left}
+use Rattle.language.specs.Edition.{text-in}
 use Rattle.language.specs.Writing as Writing
 use Rattle.language.specs.Writing.{written-out, write-report, write-short, write-refused, write-long, write-passed, Write}
-use Rattle.language.proofs.Answers.Origins.{text-lawful}
+use Rattle.language.proofs.Answers.Editions.{text-in-lawful}
 use Rattle.numbers.specs.declared.Refusal.{Refusal}
 use Rattle.layout.specs.Table.{zeros}
 use Rattle.layout.specs.declared.Held.{Held}
@@ -24,65 +25,67 @@ use Rattle.grumpy.proofs.Leaving.{wrote-left}
 
 -- ---- a sheet that passes
 
-module _ (source out out′ : List ℕ) (a : Text) (x : WritesOut source out out′ a) where
-  pub rewrote-written : (n : ℕ) → a ≡ Text.Written n → Rewrote source out out′ (Wrote.Written n)
+module _ (source w : List ℕ) (count : ℕ) (out out′ : List ℕ) (a : Text) (x : WritesOut source w count out out′ a) where
+  pub rewrote-written : (n : ℕ) → a ≡ Text.Written n → Rewrote source w count out out′ (Wrote.Written n)
   rewrote-written n e = record {
-    told = λ ts p t table h y.
-        let z = subst (WritesOut source out out′) e x .told ts (y .given .splits) in
+    told = λ edition ts p t table h y d.
+        let z = subst (WritesOut source w count out out′) e x .told ts d (y .given .given .splits) in
         record { text = written-out ts; wrote = rw (z .1) (write-passed h y (z .0)); output = z .2 };
   }
 
-  pub rewrote-long : a ≡ Text.TooLong → Rewrote source out out′ (Wrote.Refused Refusal.LongText 0)
+  pub rewrote-long : a ≡ Text.TooLong → Rewrote source w count out out′ (Wrote.Refused Refusal.LongText 0)
   rewrote-long e = record {
-    told = λ ts p t table h y.
-        let z = subst (WritesOut source out out′) e x .told ts (y .given .splits) in
+    told = λ edition ts p t table h y d.
+        let z = subst (WritesOut source w count out out′) e x .told ts d (y .given .given .splits) in
         record { text = []; wrote = write-long h y (z .0); output = z .1 };
   }
 
 -- ---- any sheet
 
 -- an examined sheet can be written
-pub examined-readable : (source w w₁ : List ℕ) (s : Seen) → Examined source w w₁ s → Readable source w₁ s
-examined-readable source w w₁ (Seen.Passes h t) x =
+pub examined-readable : (edition : ℕ) (source w w₁ : List ℕ) (s : Seen) → Examined (text-in edition source) w w₁ s → Readable source w₁ s
+examined-readable edition source w w₁ (Seen.Passes h t) x =
     let p = x .told in
     record {
+      words = p .passes .given .words;
       tokens = p .tokens;
       stand = p .holds .stand;
       room = p .holds .long;
-      short = p .passes .given .short;
-      splits = p .passes .given .splits;
+      short = p .passes .given .given .short;
+      splits = p .passes .given .given .splits;
     }
-examined-readable source w w₁ (Seen.Refused y i) x = tt
+examined-readable edition source w w₁ (Seen.Refused y i) x = tt
 
 pub readable-sheet : (source w : List ℕ) (h : Held) (t : ℕ) (s : Seen) → Readable source w s → s ≡ Seen.Passes h t → Writable source w (h .count)
 readable-sheet source w h t s x z = subst (Readable source w) z x
 
-pub rewritten-sheet : (source w out out′ : List ℕ) (h : Held) (t : ℕ) (s : Seen) (r : Wrote) → Rewrote source out out′ r → s ≡ Seen.Passes h t
+pub rewritten-sheet : (source w out out′ : List ℕ) (h : Held) (t : ℕ) (s : Seen) (r : Wrote) → Rewrote source w (h .count) out out′ r → s ≡ Seen.Passes h t
     → Rewritten source w out out′ s r
 rewritten-sheet source w out out′ h t s r x z = record {
-  told = λ table l y.
-      let p = subst (OfSource source w) z y in
-      x .told (p .tokens) (p .program) (p .type) table l (p .passes);
+  told = λ edition table l y.
+      let p = subst (OfSource (text-in edition source) w) z y in
+      x .told edition (p .tokens) (p .program) (p .type) table l (p .passes) (p .holds .stand);
 }
 
 pub rewritten-refused : (source w out : List ℕ) (y : Refusal) (i : ℕ) (s : Seen) → s ≡ Seen.Refused y i → Rewritten source w out out s (Wrote.Refused y i)
 rewritten-refused source w out y i s z = record {
-  told = λ table h a. record { text = []; wrote = write-refused h (subst (OfSource source w) z a); output = refl };
+  told = λ edition table h a. record { text = []; wrote = write-refused h (subst (OfSource (text-in edition source) w) z a); output = refl };
 }
 
 -- ---- write
 
-pub write-is-short : (source w out : List ℕ) → length w < TABLE → Write (from-text source) w out (write-report (refused short-memory) 0 0) w out
+pub write-is-short : (edition : ℕ) (source w out : List ℕ) → length w < TABLE
+    → Write (text-in edition source) w out (write-report (refused short-memory) 0 0) w out
 unfolding left
-write-is-short source w out h = record { text = []; answer = write-short h; table-left = refl; output-left = refl }
+write-is-short edition source w out h = record { text = []; answer = write-short h; table-left = refl; output-left = refl }
 
-pub write-is-answered : (source w out w₁ w₂ out′ : List ℕ) (s : Seen) (r : Wrote) → TABLE ≤ length w → Examined source w w₁ s
-    → Rewritten source w₁ out out′ s r → w₂ ≡ zeros w₁ 0 TABLE → Write (from-text source) w out (wrote-report r) w₂ out′
-write-is-answered source w out w₁ w₂ out′ s r h x y e =
-    let z = y .told (length w) h (x .told) in
+pub write-is-answered : (edition : ℕ) (source w out w₁ w₂ out′ : List ℕ) (s : Seen) (r : Wrote) → TABLE ≤ length w → Examined (text-in edition source) w w₁ s
+    → Rewritten source w₁ out out′ s r → w₂ ≡ zeros w₁ 0 TABLE → Write (text-in edition source) w out (wrote-report r) w₂ out′
+write-is-answered edition source w out w₁ w₂ out′ s r h x y e =
+    let z = y .told edition (length w) h (x .told) in
     record {
       text = z .text;
       answer = z .wrote;
-      table-left = e ∙ x .rest ∙ zeros-cleared TABLE w h ∙ sym (wrote-left (text-lawful source) h (z .wrote) TABLE w);
+      table-left = e ∙ x .rest ∙ zeros-cleared TABLE w h ∙ sym (wrote-left (text-in-lawful edition source) h (z .wrote) TABLE w);
       output-left = z .output;
     }

@@ -9,10 +9,12 @@ use mathlib.Core.List.{List}
 use mathlib.Core.Path.{_≡_, refl, sym, ap, subst, _∙_}
 use Prim.Native.Nat.{ℕ, _≤_}
 use Rattle.language.specs.Numbers.{Told, passed, refused, stopped}
-use Rattle.language.specs.Answers.{from-text, CheckReport, Check, RunReport, Run}
-use Rattle.language.specs.Pairs.{joined, Place, from-pair}
+use Rattle.language.specs.Answers.{CheckReport, Check, RunReport, Run}
+use Rattle.language.specs.Edition.{text-in, pair-in}
+use Rattle.language.specs.Pairs.{joined, Place}
 use Rattle.language.proofs.Answers.OneAnswer.{one-check, one-run}
-use Rattle.language.proofs.Answers.Pairs.{check-moved, run-moved, pair-check, pair-run, pair-lawful}
+use Rattle.language.proofs.Answers.Editions.{pair-in-lawful}
+use Rattle.language.proofs.Answers.Pairs.{check-moved, run-moved, pair-check, pair-run}
 use Rattle.language.proofs.Pairs.Places.{Inside}
 use Rattle.language.proofs.Pairs.Told.{checked-inside, ran-inside}
 use Rattle.layout.specs.declared.values.Value.{Value}
@@ -30,20 +32,20 @@ use Rattle.grumpy.specs.declared.answers.PairRan.{PairRan}
 
 -- ---- from the joined text
 
-pub check-paired : (first second table table′ : List ℕ) (a : Checked) (r : PairChecked)
-    → Check (from-text (joined first second)) table (checked-report a) table′
+pub check-paired : (edition : ℕ) (first second table table′ : List ℕ) (a : Checked) (r : PairChecked)
+    → Check (text-in edition (joined first second)) table (checked-report a) table′
     → pair-checked-report r ≡ check-moved first second (checked-report a)
-    → Check (from-pair first second) table (pair-checked-report r) table′
-check-paired first second table table′ a r x e =
-    subst (λ (y : CheckReport Place). Check (from-pair first second) table y table′) (sym e) (pair-check first second x)
+    → Check (pair-in edition first second) table (pair-checked-report r) table′
+check-paired edition first second table table′ a r x e =
+    subst (λ (y : CheckReport Place). Check (pair-in edition first second) table y table′) (sym e) (pair-check edition first second x)
 
-pub run-paired : (first second table work out table′ work′ out′ : List ℕ) (allowance : ℕ) (a : Ran) (r : PairRan)
-    → Run (from-text (joined first second)) table work out allowance (ran-report a) table′ work′ out′
+pub run-paired : (edition : ℕ) (first second table work out table′ work′ out′ : List ℕ) (allowance : ℕ) (a : Ran) (r : PairRan)
+    → Run (text-in edition (joined first second)) table work out allowance (ran-report a) table′ work′ out′
     → pair-ran-report r ≡ run-moved first second (ran-report a)
-    → Run (from-pair first second) table work out allowance (pair-ran-report r) table′ work′ out′
-run-paired first second table work out table′ work′ out′ allowance a r x e =
-    subst (λ (y : RunReport Place). Run (from-pair first second) table work out allowance y table′ work′ out′) (sym e)
-    (pair-run first second x)
+    → Run (pair-in edition first second) table work out allowance (pair-ran-report r) table′ work′ out′
+run-paired edition first second table work out table′ work′ out′ allowance a r x e =
+    subst (λ (y : RunReport Place). Run (pair-in edition first second) table work out allowance y table′ work′ out′) (sym e)
+    (pair-run edition first second x)
 
 -- ---- one answer
 
@@ -75,18 +77,18 @@ ran-back (PairRan.Value t v u n) = ap (λ (v : Value). PairRan.Value t v u n) (v
 ran-back (PairRan.Stopped w x t u n) = ap (λ (w : Stop). PairRan.Stopped w x t u n) (stop-back w)
 ran-back (PairRan.Refused y x) = ap (λ (y : Refusal). PairRan.Refused y x) (refusal-back y)
 
-pub check-pair-determined : {first second table t′ u′ : List ℕ} (r q : PairChecked)
-    → Check (from-pair first second) table (pair-checked-report r) t′ → Check (from-pair first second) table (pair-checked-report q) u′
+pub check-pair-determined : {edition : ℕ} {first second table t′ u′ : List ℕ} (r q : PairChecked)
+    → Check (pair-in edition first second) table (pair-checked-report r) t′ → Check (pair-in edition first second) table (pair-checked-report q) u′
     → (r ≡ q) × (t′ ≡ u′)
-check-pair-determined {first} {second} r q a b =
-    let e = one-check (pair-lawful first second) a b in
+check-pair-determined {edition} {first} {second} r q a b =
+    let e = one-check (pair-in-lawful edition first second) a b in
     (sym (checked-back r) ∙ ap checked-of (e .0) ∙ checked-back q, e .1)
 
-pub run-pair-determined : {first second table work output : List ℕ} {allowance : ℕ} {t′ w′ o′ t″ w″ o″ : List ℕ} (r q : PairRan)
-    → Run (from-pair first second) table work output allowance (pair-ran-report r) t′ w′ o′
-    → Run (from-pair first second) table work output allowance (pair-ran-report q) t″ w″ o″ → (r ≡ q) × (t′ ≡ t″) × (w′ ≡ w″) × (o′ ≡ o″)
-run-pair-determined {first} {second} r q a b =
-    let e = one-run (pair-lawful first second) a b in
+pub run-pair-determined : {edition : ℕ} {first second table work output : List ℕ} {allowance : ℕ} {t′ w′ o′ t″ w″ o″ : List ℕ} (r q : PairRan)
+    → Run (pair-in edition first second) table work output allowance (pair-ran-report r) t′ w′ o′
+    → Run (pair-in edition first second) table work output allowance (pair-ran-report q) t″ w″ o″ → (r ≡ q) × (t′ ≡ t″) × (w′ ≡ w″) × (o′ ≡ o″)
+run-pair-determined {edition} {first} {second} r q a b =
+    let e = one-run (pair-in-lawful edition first second) a b in
     (sym (ran-back r) ∙ ap ran-of (e .0) ∙ ran-back q, e .1, e .2, e .3)
 
 -- ---- the line
@@ -105,14 +107,14 @@ line-shown first second x r s i = go (eqb (x .sheet) 2) refl (i .within)
     go false e h = s .in-first (eqb-false (x .sheet) 2 e) .whole (i .ordered) h
 
 -- of a refusal by check
-pub check-line : (first second : RefT (List ℕ)) {table table′ : List ℕ} (y : Refusal) (x : Spot) (r : RefT (List ℕ))
-    → Check (from-pair (now first) (now second)) table (pair-checked-report (PairChecked.Refused y x)) table′
+pub check-line : (edition : ℕ) (first second : RefT (List ℕ)) {table table′ : List ℕ} (y : Refusal) (x : Spot) (r : RefT (List ℕ))
+    → Check (pair-in edition (now first) (now second)) table (pair-checked-report (PairChecked.Refused y x)) table′
     → Shows first second x r → Part (lent first second (x .sheet)) (x .begin) (x .end) r
-check-line first second y x r c s = line-shown first second x r s (checked-inside (now first) (now second) (c .answer))
+check-line edition first second y x r c s = line-shown first second x r s (checked-inside edition (now first) (now second) (c .answer))
 
 -- of a refusal or a stop by run
-pub run-line : (first second : RefT (List ℕ)) {table work out table′ work′ out′ : List ℕ} {allowance : ℕ} (a : PairRan) (x : Spot)
-    (r : RefT (List ℕ)) → Run (from-pair (now first) (now second)) table work out allowance (pair-ran-report a) table′ work′ out′
+pub run-line : (edition : ℕ) (first second : RefT (List ℕ)) {table work out table′ work′ out′ : List ℕ} {allowance : ℕ} (a : PairRan) (x : Spot)
+    (r : RefT (List ℕ)) → Run (pair-in edition (now first) (now second)) table work out allowance (pair-ran-report a) table′ work′ out′
     → pair-ran-report a .place ≡ meant x → Shows first second x r → Part (lent first second (x .sheet)) (x .begin) (x .end) r
-run-line first second a x r c e s =
-    line-shown first second x r s (subst (Inside (now first) (now second)) e (ran-inside (now first) (now second) (c .answer)))
+run-line edition first second a x r c e s =
+    line-shown first second x r s (subst (Inside (now first) (now second)) e (ran-inside edition (now first) (now second) (c .answer)))

@@ -12,7 +12,8 @@ use Rattle.language.specs.State.{Outcome, nothing}
 use Rattle.language.specs.Meaning.{run}
 use Rattle.language.specs.Numbers.{passed, stopped}
 use Rattle.language.specs.Answers as Answers
-use Rattle.language.specs.Answers.{from-text, nowhere, at, ending, Lent, Enough}
+use Rattle.language.specs.Answers.{nowhere, at, ending, Lent, Enough}
+use Rattle.language.specs.Edition.{text-in}
 use Rattle.numbers.specs.Meanings.{stop-meant}
 use Rattle.layout.specs.Table.{zeros}
 use Rattle.layout.specs.Values.{meant}
@@ -29,7 +30,8 @@ use Rattle.grumpy.specs.declared.outcomes.Ending.{Ending}
 
 -- the end of a program that the code's is, with the bytes printed
 abbrev pub ending-meant : Ending → List ℕ → Answers.Ending
-ending-meant (Ending.Value v u n) bs = record { told = passed; spot = nowhere; value = meant v; units = u; printed = bs }
+ending-meant (Ending.Value v u n) bs =
+    record { told = passed; spot = nowhere; value = meant v; units = u; printed = bs }
 ending-meant (Ending.Stopped y i u n) bs =
     record { told = stopped (stop-meant y); spot = at i; value = nothing; units = u; printed = bs }
 
@@ -60,15 +62,15 @@ abbrev pub Runnable : List ℕ → List ℕ → ℕ → Seen → Type 0
 Runnable table work allowance (Seen.Passes P t) = Runner.Loaded table work P allowance
 Runnable table work allowance (Seen.Refused y i) = WORK ≤ length work
 
--- the report and the output are those of the written run of a source
-pub record Reported (source : List ℕ) (l : Lent) (out out′ : List ℕ) (r : Ran) : Type 0 where
+-- the report and the output are those of the written run of a source in the edition that a number names
+pub record Reported (edition : ℕ) (source : List ℕ) (l : Lent) (out out′ : List ℕ) (r : Ran) : Type 0 where
   pub printed : List ℕ
-  pub ran : Answers.Ran (from-text source) l (ran-report r) printed
+  pub ran : Answers.Ran (text-in edition source) l (ran-report r) printed
   pub output : out′ ≡ printed ++ drop (length printed) out
 
--- with memory and allowance in order
+-- with memory and allowance in order, in whatever edition it was examined
 pub record Answered (source table work out work′ out′ : List ℕ) (allowance : ℕ) (s : Seen) (r : Ran) : Type 0 where
-  pub told : (l : Lent) → OfSource source table s → Enough l → l .output ≡ length out → l .allowance ≡ allowance
-      → allowance ≤ ALLOWANCE
-      → Reported source l out out′ r
+  pub told : (edition : ℕ) (l : Lent) → OfSource (text-in edition source) table s → Enough l
+      → l .output ≡ length out → l .allowance ≡ allowance → allowance ≤ ALLOWANCE
+      → Reported edition source l out out′ r
   pub cleared : work′ ≡ zeros work 0 WORK

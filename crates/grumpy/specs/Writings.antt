@@ -6,24 +6,26 @@ use lib.ListN.{length, drop}
 use Rattle.language.specs.Sizes.{TABLE}
 use Rattle.language.specs.Tokens.{Token}
 use Rattle.language.specs.Trees.{Ty, Program}
-use Rattle.language.specs.Answers.{from-text, Passes}
+use Rattle.language.specs.Answers.{Passes}
+use Rattle.language.specs.Edition.{text-in}
 use Rattle.language.specs.Writing as Writing
+use Rattle.layout.specs.Names.{Stand}
 use Rattle.writer.specs.Texts.{Writable}
 use Rattle.sheets.specs.Sheets.{OfSource}
 use Rattle.sheets.specs.declared.Seen.{Seen}
 use Rattle.grumpy.specs.Reports.{wrote-report}
 use Rattle.grumpy.specs.declared.answers.Wrote.{Wrote}
 
--- the answer, with so many words of table memory, and what is left in the output
-pub record Reported (source : List ℕ) (table : ℕ) (out out′ : List ℕ) (r : Wrote) : Type 0 where
+-- the answer in an edition, with so many words of table memory, and what is left in the output
+pub record Reported (edition : ℕ) (source : List ℕ) (table : ℕ) (out out′ : List ℕ) (r : Wrote) : Type 0 where
   pub text : List ℕ
-  pub wrote : Writing.Wrote (from-text source) table (length out) (wrote-report r) text
+  pub wrote : Writing.Wrote (text-in edition source) table (length out) (wrote-report r) text
   pub output : out′ ≡ text ++ drop (length text) out
 
--- of a sheet that passes
-pub record Rewrote (source out out′ : List ℕ) (r : Wrote) : Type 0 where
-  pub told : (ts : List Token) (p : Program) (t : Ty) (table : ℕ) → TABLE ≤ table → Passes (from-text source) ts p t
-      → Reported source table out out′ r
+-- of a sheet that passes, in whatever edition, and whose tokens the table w stands for
+pub record Rewrote (source w : List ℕ) (count : ℕ) (out out′ : List ℕ) (r : Wrote) : Type 0 where
+  pub told : (edition : ℕ) (ts : List Token) (p : Program) (t : Ty) (table : ℕ) → TABLE ≤ table
+      → Passes (text-in edition source) ts p t → Stand w count ts → Reported edition source table out out′ r
 
 -- a sheet that passes can be written from its table
 abbrev pub Readable : List ℕ → List ℕ → Seen → Type 0
@@ -32,4 +34,5 @@ Readable source w (Seen.Refused y i) = Unit {0}
 
 -- of any sheet
 pub record Rewritten (source w out out′ : List ℕ) (s : Seen) (r : Wrote) : Type 0 where
-  pub told : (table : ℕ) → TABLE ≤ table → OfSource source w s → Reported source table out out′ r
+  pub told : (edition table : ℕ) → TABLE ≤ table → OfSource (text-in edition source) w s
+      → Reported edition source table out out′ r

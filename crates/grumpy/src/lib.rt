@@ -1,9 +1,10 @@
 // The services of the box. Check reads a sheet and answers its type or a refusal; run checks it again and
 // runs it; write checks it and writes it out again. Check and run also take two sheets, a rule book and a
-// loom's, and read them as one. All take any bytes, any lent memory and any allowance, and tell what the
-// table of numbers has; what they leave in lent memory follows from that.
-ghost use Rattle.language.specs.Answers.{from-text, Check, Run};
-ghost use Rattle.language.specs.Pairs.{from-pair};
+// loom's, and read them as one. All take the number of an edition first, any number, any bytes, any lent
+// memory and any allowance, and tell what the table of numbers has; what they leave in lent memory follows
+// from that.
+ghost use Rattle.language.specs.Answers.{Check, Run};
+ghost use Rattle.language.specs.Edition.{text-in, pair-in};
 ghost use Rattle.language.specs.Writing.{Write};
 ghost use Rattle.pairs.specs.Spots.{Shows};
 ghost use Rattle.tokens.specs.Shown.{text-of};
@@ -30,14 +31,14 @@ use sheets::Seen;
 use tokens::view::View;
 
 // What check answers for the text that a view shows.
-fn check_text(first: &[u8], second: &[u8], view: View, table: &mut [u32]) -> Checked
-    ensures { λ r. ⌜ Check (from-text (text-of (first .entry) (second .entry) view)) (now (table .entry))
+fn check_text(edition: u32, first: &[u8], second: &[u8], view: View, table: &mut [u32]) -> Checked
+    ensures { λ r. ⌜ Check (text-in edition (text-of (first .entry) (second .entry) view)) (now (table .entry))
         (checked-report r) (now (table .exit)) ⌝ }
 {
     if table.len() < TABLE {
         return Checked::Refused(Refusal::ShortMemory, 0);
     }
-    let seen = sheets::examine(first, second, view, table);
+    let seen = sheets::examine(edition, first, second, view, table);
     memory::clear(table, 0, TABLE);
     match seen {
         Seen::Passes {
@@ -48,24 +49,25 @@ fn check_text(first: &[u8], second: &[u8], view: View, table: &mut [u32]) -> Che
     }
 }
 
-pub fn check(source: &[u8], table: &mut [u32]) -> Checked
-    ensures { λ r. ⌜ Check (from-text (now (source .entry))) (now (table .entry)) (checked-report r)
+pub fn check(edition: u32, source: &[u8], table: &mut [u32]) -> Checked
+    ensures { λ r. ⌜ Check (text-in edition (now (source .entry))) (now (table .entry)) (checked-report r)
         (now (table .exit)) ⌝ }
 {
-    check_text(source, source, View::Plain, table)
+    check_text(edition, source, source, View::Plain, table)
 }
 
 // The first sheet, one LF, then the second, without their being put together.
-pub fn check_pair(first: &[u8], second: &[u8], table: &mut [u32]) -> PairChecked
-    ensures { λ r. ⌜ Check (from-pair (now (first .entry)) (now (second .entry))) (now (table .entry))
+pub fn check_pair(edition: u32, first: &[u8], second: &[u8], table: &mut [u32]) -> PairChecked
+    ensures { λ r. ⌜ Check (pair-in edition (now (first .entry)) (now (second .entry))) (now (table .entry))
         (pair-checked-report r) (now (table .exit)) ⌝ }
 {
-    let answer = check_text(first, second, View::Joined, table);
+    let answer = check_text(edition, first, second, View::Joined, table);
     places::checked(first, second, answer)
 }
 
 // What run answers for the text that a view shows.
 fn run_text(
+    edition: u32,
     first: &[u8],
     second: &[u8],
     view: View,
@@ -74,7 +76,7 @@ fn run_text(
     out: &mut [u8],
     allowance: u64,
 ) -> Ran
-    ensures { λ r. ⌜ Run (from-text (text-of (first .entry) (second .entry) view)) (now (table .entry))
+    ensures { λ r. ⌜ Run (text-in edition (text-of (first .entry) (second .entry) view)) (now (table .entry))
         (now (work .entry)) (now (out .entry)) allowance (ran-report r) (now (table .exit)) (now (work .exit))
         (now (out .exit)) ⌝ }
 {
@@ -89,7 +91,7 @@ fn run_text(
         memory::clear(work, 0, WORK);
         return Ran::Refused(Refusal::LargeAllowance, 0);
     }
-    let seen = sheets::examine(first, second, view, table);
+    let seen = sheets::examine(edition, first, second, view, table);
     let answer = outcomes::run_or_refuse(
         first,
         second,
@@ -106,20 +108,31 @@ fn run_text(
 
 // `source` is the whole sheet, its call set under it; `out` gets the bytes of the slip.
 pub fn run(
+    edition: u32,
     source: &[u8],
     table: &mut [u32],
     work: &mut [u32],
     out: &mut [u8],
     allowance: u64,
 ) -> Ran
-    ensures { λ r. ⌜ Run (from-text (now (source .entry))) (now (table .entry)) (now (work .entry)) (now (out .entry))
-        allowance (ran-report r) (now (table .exit)) (now (work .exit)) (now (out .exit)) ⌝ }
+    ensures { λ r. ⌜ Run (text-in edition (now (source .entry))) (now (table .entry)) (now (work .entry))
+        (now (out .entry)) allowance (ran-report r) (now (table .exit)) (now (work .exit)) (now (out .exit)) ⌝ }
 {
-    run_text(source, source, View::Plain, table, work, out, allowance)
+    run_text(
+        edition,
+        source,
+        source,
+        View::Plain,
+        table,
+        work,
+        out,
+        allowance,
+    )
 }
 
 // The same of two sheets: the rule book, and the loom's sheet with its call.
 pub fn run_pair(
+    edition: u32,
     first: &[u8],
     second: &[u8],
     table: &mut [u32],
@@ -127,24 +140,33 @@ pub fn run_pair(
     out: &mut [u8],
     allowance: u64,
 ) -> PairRan
-    ensures { λ r. ⌜ Run (from-pair (now (first .entry)) (now (second .entry))) (now (table .entry))
+    ensures { λ r. ⌜ Run (pair-in edition (now (first .entry)) (now (second .entry))) (now (table .entry))
         (now (work .entry)) (now (out .entry)) allowance (pair-ran-report r) (now (table .exit)) (now (work .exit))
         (now (out .exit)) ⌝ }
 {
-    let answer = run_text(first, second, View::Joined, table, work, out, allowance);
+    let answer = run_text(
+        edition,
+        first,
+        second,
+        View::Joined,
+        table,
+        work,
+        out,
+        allowance,
+    );
     places::ran(first, second, answer)
 }
 
 // `out` gets the sheet's tokens, one space between every two and LF at the end.
-pub fn write(source: &[u8], table: &mut [u32], out: &mut [u8]) -> Wrote
+pub fn write(edition: u32, source: &[u8], table: &mut [u32], out: &mut [u8]) -> Wrote
     ensures { λ r.
-        ⌜ Write (from-text (now (source .entry))) (now (table .entry)) (now (out .entry)) (wrote-report r)
+        ⌜ Write (text-in edition (now (source .entry))) (now (table .entry)) (now (out .entry)) (wrote-report r)
         (now (table .exit)) (now (out .exit)) ⌝ }
 {
     if table.len() < TABLE {
         return Wrote::Refused(Refusal::ShortMemory, 0);
     }
-    let seen = sheets::examine(source, source, View::Plain, table);
+    let seen = sheets::examine(edition, source, source, View::Plain, table);
     let answer = writings::write_or_refuse(source, table, out, seen);
     memory::clear(table, 0, TABLE);
     answer

@@ -19,6 +19,7 @@ fn refused_at(first: &[u8], second: &[u8], why: Refusal, place: usize) -> Spot
     match why {
         Refusal::ShortMemory => pairs::front(),
         Refusal::LargeAllowance => pairs::front(),
+        Refusal::NoEdition => pairs::front(),
         Refusal::LongSource => pairs::front(),
         Refusal::Text(_flaw) => pairs::spot_at(first, second, place),
         Refusal::NoReading => pairs::spot_at(first, second, place),

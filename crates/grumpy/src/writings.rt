@@ -9,7 +9,7 @@ use writer::Text;
 // The text of a sheet that passes.
 fn rewrite(source: &[u8], table: &[u32], count: usize, out: &mut [u8]) -> Wrote
     requires { ⌜ Writable (now source) (now table) count ⌝ }
-    ensures { λ r. ⌜ Rewrote (now (source .entry)) (now (out .entry)) (now (out .exit)) r ⌝ }
+    ensures { λ r. ⌜ Rewrote (now (source .entry)) (now (table .entry)) count (now (out .entry)) (now (out .exit)) r ⌝ }
 {
     match writer::write(source, table, count, out) {
         Text::Written(long) => Wrote::Written(long),

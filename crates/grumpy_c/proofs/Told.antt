@@ -8,9 +8,10 @@ use mir.Syntax.{w64}
 use mir.Val.{ofZ}
 use Rattle.language.specs.Meaning.{value-number}
 use Rattle.language.specs.Numbers.{number, refusal-number, stop-number}
-use Rattle.language.specs.Answers.{from-text, CheckReport, Check, RunReport, Run}
+use Rattle.language.specs.Answers.{CheckReport, Check, RunReport, Run}
 use Rattle.language.specs.Writing.{WriteReport, Write}
-use Rattle.language.proofs.Answers.Origins.{text-lawful}
+use Rattle.language.specs.Edition.{text-in}
+use Rattle.language.proofs.Answers.Editions.{text-in-lawful}
 use Rattle.language.proofs.Answers.OneAnswer.{one-check, one-run}
 use Rattle.language.proofs.Writing.OneWriting.{one-write}
 use Rattle.layout.specs.Values.{meant}
@@ -70,46 +71,46 @@ told-unwritten a w w′ y i n e m h =
 
 -- ---- the contracts
 
-pub checked-c : (source table report table′ report′ : List ℕ) (a : Checked) (n : ℕ) → 3 ≤ length report
-    → Check (from-text source) table (checked-report a) table′ → ToldChecked a report report′ n → CheckedC source table report table′ report′ n
-checked-c source table report table′ report′ a n h c t = check-reported h c (t .0) (t .1)
+pub checked-c : (edition : ℕ) (source table report table′ report′ : List ℕ) (a : Checked) (n : ℕ) → 3 ≤ length report
+    → Check (text-in edition source) table (checked-report a) table′ → ToldChecked a report report′ n → CheckedC edition source table report table′ report′ n
+checked-c edition source table report table′ report′ a n h c t = check-reported h c (t .0) (t .1)
 
-pub ran-c : (source table work out report table′ work′ out′ report′ : List ℕ) (allowance : ℕ) (a : Ran) (n : ℕ) → 6 ≤ length report
-    → Run (from-text source) table work out allowance (ran-report a) table′ work′ out′ → ToldRan a report report′ n
-    → RanC source table work out allowance report table′ work′ out′ report′ n
-ran-c source table work out report table′ work′ out′ report′ allowance a n h c t = run-reported h c (t .0) (t .1)
+pub ran-c : (edition : ℕ) (source table work out report table′ work′ out′ report′ : List ℕ) (allowance : ℕ) (a : Ran) (n : ℕ) → 6 ≤ length report
+    → Run (text-in edition source) table work out allowance (ran-report a) table′ work′ out′ → ToldRan a report report′ n
+    → RanC edition source table work out allowance report table′ work′ out′ report′ n
+ran-c edition source table work out report table′ work′ out′ report′ allowance a n h c t = run-reported h c (t .0) (t .1)
 
-pub wrote-c : (source table out report table′ out′ report′ : List ℕ) (a : Wrote) (n : ℕ) → 3 ≤ length report
-    → Write (from-text source) table out (wrote-report a) table′ out′ → ToldWrote a report report′ n
-    → WroteC source table out report table′ out′ report′ n
-wrote-c source table out report table′ out′ report′ a n h c t = write-reported h c (t .0) (t .1)
+pub wrote-c : (edition : ℕ) (source table out report table′ out′ report′ : List ℕ) (a : Wrote) (n : ℕ) → 3 ≤ length report
+    → Write (text-in edition source) table out (wrote-report a) table′ out′ → ToldWrote a report report′ n
+    → WroteC edition source table out report table′ out′ report′ n
+wrote-c edition source table out report table′ out′ report′ a n h c t = write-reported h c (t .0) (t .1)
 
 -- ---- no two answers
 
-pub check-determined : {source table report t′ r′ t″ r″ : List ℕ} {m n : ℕ} → CheckedC source table report t′ r′ m → CheckedC source table report t″ r″ n
-    → (m ≡ n) × (t′ ≡ t″) × (r′ ≡ r″)
+pub check-determined : {edition : ℕ} {source table report t′ r′ t″ r″ : List ℕ} {m n : ℕ} → CheckedC edition source table report t′ r′ m
+    → CheckedC edition source table report t″ r″ n → (m ≡ n) × (t′ ≡ t″) × (r′ ≡ r″)
 check-determined (check-no-report h a b c) (check-no-report k d e f) = (a ∙ sym d, b ∙ sym e, c ∙ sym f)
 check-determined (check-no-report h a b c) (check-reported k d e f) = absurd (omega arith)
 check-determined (check-reported h a b c) (check-no-report k d e f) = absurd (omega arith)
-check-determined {source} {report = report} (check-reported h a b c) (check-reported k d e f) =
-    let x = one-check (text-lawful source) a d in
+check-determined {edition} {source} {report = report} (check-reported h a b c) (check-reported k d e f) =
+    let x = one-check (text-in-lawful edition source) a d in
     (b ∙ ap (λ (r : CheckReport ℕ). number (r .told)) (x .0) ∙ sym e, x .1, c ∙ ap (check-words report) (x .0) ∙ sym f)
 
-pub run-determined : {source table work out : List ℕ} {allowance : ℕ} {report t′ w′ o′ r′ t″ w″ o″ r″ : List ℕ} {m n : ℕ}
-    → RanC source table work out allowance report t′ w′ o′ r′ m → RanC source table work out allowance report t″ w″ o″ r″ n
+pub run-determined : {edition : ℕ} {source table work out : List ℕ} {allowance : ℕ} {report t′ w′ o′ r′ t″ w″ o″ r″ : List ℕ} {m n : ℕ}
+    → RanC edition source table work out allowance report t′ w′ o′ r′ m → RanC edition source table work out allowance report t″ w″ o″ r″ n
     → (m ≡ n) × (t′ ≡ t″) × (w′ ≡ w″) × (o′ ≡ o″) × (r′ ≡ r″)
 run-determined (run-no-report h a b c d e) (run-no-report k f g i j l) = (a ∙ sym f, b ∙ sym g, c ∙ sym i, d ∙ sym j, e ∙ sym l)
 run-determined (run-no-report h a b c d e) (run-reported k f g i) = absurd (omega arith)
 run-determined (run-reported h a b c) (run-no-report k f g i j l) = absurd (omega arith)
-run-determined {source} {report = report} (run-reported h a b c) (run-reported k d e f) =
-    let x = one-run (text-lawful source) a d in
+run-determined {edition} {source} {report = report} (run-reported h a b c) (run-reported k d e f) =
+    let x = one-run (text-in-lawful edition source) a d in
     (b ∙ ap (λ (r : RunReport ℕ). number (r .told)) (x .0) ∙ sym e, x .1, x .2, x .3, c ∙ ap (run-words report) (x .0) ∙ sym f)
 
-pub write-determined : {source table out report t′ o′ r′ t″ o″ r″ : List ℕ} {m n : ℕ} → WroteC source table out report t′ o′ r′ m
-    → WroteC source table out report t″ o″ r″ n → (m ≡ n) × (t′ ≡ t″) × (o′ ≡ o″) × (r′ ≡ r″)
+pub write-determined : {edition : ℕ} {source table out report t′ o′ r′ t″ o″ r″ : List ℕ} {m n : ℕ} → WroteC edition source table out report t′ o′ r′ m
+    → WroteC edition source table out report t″ o″ r″ n → (m ≡ n) × (t′ ≡ t″) × (o′ ≡ o″) × (r′ ≡ r″)
 write-determined (write-no-report h a b c d) (write-no-report k e f g i) = (a ∙ sym e, b ∙ sym f, c ∙ sym g, d ∙ sym i)
 write-determined (write-no-report h a b c d) (write-reported k e f g) = absurd (omega arith)
 write-determined (write-reported h a b c) (write-no-report k e f g i) = absurd (omega arith)
-write-determined {source} {report = report} (write-reported h a b c) (write-reported k d e f) =
-    let x = one-write (text-lawful source) a d in
+write-determined {edition} {source} {report = report} (write-reported h a b c) (write-reported k d e f) =
+    let x = one-write (text-in-lawful edition source) a d in
     (b ∙ ap (λ (r : WriteReport ℕ). number (r .told)) (x .0) ∙ sym e, x .1, x .2, c ∙ ap (write-words report) (x .0) ∙ sym f)

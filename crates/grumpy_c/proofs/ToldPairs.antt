@@ -9,8 +9,9 @@ use mir.Val.{ofZ}
 use Rattle.language.specs.Meaning.{value-number}
 use Rattle.language.specs.Numbers.{number, refusal-number, stop-number}
 use Rattle.language.specs.Answers.{CheckReport, Check, RunReport, Run}
-use Rattle.language.specs.Pairs.{Place, front, from-pair}
-use Rattle.language.proofs.Answers.Pairs.{pair-lawful}
+use Rattle.language.specs.Edition.{pair-in}
+use Rattle.language.specs.Pairs.{Place, front}
+use Rattle.language.proofs.Answers.Editions.{pair-in-lawful}
 use Rattle.language.proofs.Answers.OneAnswer.{one-check, one-run}
 use Rattle.layout.specs.Values as Values
 use Rattle.layout.specs.declared.values.Value.{Value}
@@ -74,33 +75,33 @@ module _ (a : PairRan) (w w′ : List ℕ) where
 
 -- ---- the contracts
 
-pub pair-checked-c : (first second table report table′ report′ : List ℕ) (a : PairChecked) (n : ℕ) → 6 ≤ length report
-    → Check (from-pair first second) table (pair-checked-report a) table′ → ToldPairChecked a report report′ n
-    → PairCheckedC first second table report table′ report′ n
-pair-checked-c first second table report table′ report′ a n h c t = check-reported h c (t .0) (t .1)
+pub pair-checked-c : (edition : ℕ) (first second table report table′ report′ : List ℕ) (a : PairChecked) (n : ℕ) → 6 ≤ length report
+    → Check (pair-in edition first second) table (pair-checked-report a) table′ → ToldPairChecked a report report′ n
+    → PairCheckedC edition first second table report table′ report′ n
+pair-checked-c edition first second table report table′ report′ a n h c t = check-reported h c (t .0) (t .1)
 
-pub pair-ran-c : (first second table work out report table′ work′ out′ report′ : List ℕ) (allowance : ℕ) (a : PairRan) (n : ℕ) → 9 ≤ length report
-    → Run (from-pair first second) table work out allowance (pair-ran-report a) table′ work′ out′ → ToldPairRan a report report′ n
-    → PairRanC first second table work out allowance report table′ work′ out′ report′ n
-pair-ran-c first second table work out report table′ work′ out′ report′ allowance a n h c t = run-reported h c (t .0) (t .1)
+pub pair-ran-c : (edition : ℕ) (first second table work out report table′ work′ out′ report′ : List ℕ) (allowance : ℕ) (a : PairRan) (n : ℕ) → 9 ≤ length report
+    → Run (pair-in edition first second) table work out allowance (pair-ran-report a) table′ work′ out′ → ToldPairRan a report report′ n
+    → PairRanC edition first second table work out allowance report table′ work′ out′ report′ n
+pair-ran-c edition first second table work out report table′ work′ out′ report′ allowance a n h c t = run-reported h c (t .0) (t .1)
 
 -- ---- no two answers
 
-pub check-pair-determined : {first second table report t′ r′ t″ r″ : List ℕ} {m n : ℕ} → PairCheckedC first second table report t′ r′ m
-    → PairCheckedC first second table report t″ r″ n → (m ≡ n) × (t′ ≡ t″) × (r′ ≡ r″)
+pub check-pair-determined : {edition : ℕ} {first second table report t′ r′ t″ r″ : List ℕ} {m n : ℕ} → PairCheckedC edition first second table report t′ r′ m
+    → PairCheckedC edition first second table report t″ r″ n → (m ≡ n) × (t′ ≡ t″) × (r′ ≡ r″)
 check-pair-determined (check-no-report h a b c) (check-no-report k d e f) = (a ∙ sym d, b ∙ sym e, c ∙ sym f)
 check-pair-determined (check-no-report h a b c) (check-reported k d e f) = absurd (omega arith)
 check-pair-determined (check-reported h a b c) (check-no-report k d e f) = absurd (omega arith)
-check-pair-determined {first} {second} {report = report} (check-reported h a b c) (check-reported k d e f) =
-    let x = one-check (pair-lawful first second) a d in
+check-pair-determined {edition} {first} {second} {report = report} (check-reported h a b c) (check-reported k d e f) =
+    let x = one-check (pair-in-lawful edition first second) a d in
     (b ∙ ap (λ (r : CheckReport Place). number (r .told)) (x .0) ∙ sym e, x .1, c ∙ ap (pair-check-words report) (x .0) ∙ sym f)
 
-pub run-pair-determined : {first second table work out : List ℕ} {allowance : ℕ} {report t′ w′ o′ r′ t″ w″ o″ r″ : List ℕ} {m n : ℕ}
-    → PairRanC first second table work out allowance report t′ w′ o′ r′ m → PairRanC first second table work out allowance report t″ w″ o″ r″ n
+pub run-pair-determined : {edition : ℕ} {first second table work out : List ℕ} {allowance : ℕ} {report t′ w′ o′ r′ t″ w″ o″ r″ : List ℕ} {m n : ℕ}
+    → PairRanC edition first second table work out allowance report t′ w′ o′ r′ m → PairRanC edition first second table work out allowance report t″ w″ o″ r″ n
     → (m ≡ n) × (t′ ≡ t″) × (w′ ≡ w″) × (o′ ≡ o″) × (r′ ≡ r″)
 run-pair-determined (run-no-report h a b c d e) (run-no-report k f g i j l) = (a ∙ sym f, b ∙ sym g, c ∙ sym i, d ∙ sym j, e ∙ sym l)
 run-pair-determined (run-no-report h a b c d e) (run-reported k f g i) = absurd (omega arith)
 run-pair-determined (run-reported h a b c) (run-no-report k f g i j l) = absurd (omega arith)
-run-pair-determined {first} {second} {report = report} (run-reported h a b c) (run-reported k d e f) =
-    let x = one-run (pair-lawful first second) a d in
+run-pair-determined {edition} {first} {second} {report = report} (run-reported h a b c) (run-reported k d e f) =
+    let x = one-run (pair-in-lawful edition first second) a d in
     (b ∙ ap (λ (r : RunReport Place). number (r .told)) (x .0) ∙ sym e, x .1, x .2, x .3, c ∙ ap (pair-run-words report) (x .0) ∙ sym f)

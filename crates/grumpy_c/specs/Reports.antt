@@ -7,7 +7,8 @@ use mir.Syntax.{w64}
 use mir.Val.{ofZ}
 use Rattle.language.specs.Meaning.{value-number}
 use Rattle.language.specs.Numbers.{short-memory, refusal-number, number}
-use Rattle.language.specs.Answers.{from-text, CheckReport, Check, RunReport, Run}
+use Rattle.language.specs.Answers.{CheckReport, Check, RunReport, Run}
+use Rattle.language.specs.Edition.{text-in}
 use Rattle.language.specs.Writing.{WriteReport, Write}
 use Rattle.grumpy.specs.Reports.{checked-report, ran-report, wrote-report}
 use Rattle.grumpy.specs.declared.answers.Checked.{Checked}
@@ -26,7 +27,8 @@ abbrev pub check-words : List ℕ → CheckReport ℕ → List ℕ
 check-words w r = three w (number (r .told)) (r .place) (r .type)
 
 abbrev pub run-words : List ℕ → RunReport ℕ → List ℕ
-run-words w r = six w (number (r .told)) (r .place) (r .type) (ofZ w64 (value-number (r .value))) (r .units) (r .printed)
+run-words w r =
+    six w (number (r .told)) (r .place) (r .type) (ofZ w64 (value-number (r .value))) (r .units) (r .printed)
 
 abbrev pub write-words : List ℕ → WriteReport ℕ → List ℕ
 write-words w r = three w (number (r .told)) (r .place) (r .written)
@@ -42,27 +44,27 @@ abbrev pub ToldWrote : Wrote → List ℕ → List ℕ → ℕ → Type 0
 ToldWrote a w w′ n = (n ≡ number (wrote-report a .told)) × (w′ ≡ write-words w (wrote-report a))
 
 -- The contract of `grumpy_check`: where the report is long enough, the contract of check, told in words.
-pub data CheckedC (source table report table′ report′ : List ℕ) (n : ℕ) : Type 0 where
+pub data CheckedC (edition : ℕ) (source table report table′ report′ : List ℕ) (n : ℕ) : Type 0 where
   check-no-report : length report < 3 → n ≡ refusal-number short-memory → table′ ≡ table → report′ ≡ report
-      → CheckedC source table report table′ report′ n
-  check-reported : {r : CheckReport ℕ} → 3 ≤ length report → Check (from-text source) table r table′
+      → CheckedC edition source table report table′ report′ n
+  check-reported : {r : CheckReport ℕ} → 3 ≤ length report → Check (text-in edition source) table r table′
       → n ≡ number (r .told) → report′ ≡ check-words report r
-      → CheckedC source table report table′ report′ n
+      → CheckedC edition source table report table′ report′ n
 
 -- The contract of `grumpy_run`.
-pub data RanC (source table work out : List ℕ) (allowance : ℕ)
+pub data RanC (edition : ℕ) (source table work out : List ℕ) (allowance : ℕ)
     (report table′ work′ out′ report′ : List ℕ) (n : ℕ) : Type 0 where
   run-no-report : length report < 6 → n ≡ refusal-number short-memory → table′ ≡ table → work′ ≡ work → out′ ≡ out
       → report′ ≡ report
-      → RanC source table work out allowance report table′ work′ out′ report′ n
+      → RanC edition source table work out allowance report table′ work′ out′ report′ n
   run-reported : {r : RunReport ℕ} → 6 ≤ length report
-      → Run (from-text source) table work out allowance r table′ work′ out′ → n ≡ number (r .told)
-      → report′ ≡ run-words report r → RanC source table work out allowance report table′ work′ out′ report′ n
+      → Run (text-in edition source) table work out allowance r table′ work′ out′ → n ≡ number (r .told)
+      → report′ ≡ run-words report r → RanC edition source table work out allowance report table′ work′ out′ report′ n
 
 -- The contract of `grumpy_write`.
-pub data WroteC (source table out report table′ out′ report′ : List ℕ) (n : ℕ) : Type 0 where
+pub data WroteC (edition : ℕ) (source table out report table′ out′ report′ : List ℕ) (n : ℕ) : Type 0 where
   write-no-report : length report < 3 → n ≡ refusal-number short-memory → table′ ≡ table → out′ ≡ out → report′ ≡ report
-      → WroteC source table out report table′ out′ report′ n
-  write-reported : {r : WriteReport ℕ} → 3 ≤ length report → Write (from-text source) table out r table′ out′
+      → WroteC edition source table out report table′ out′ report′ n
+  write-reported : {r : WriteReport ℕ} → 3 ≤ length report → Write (text-in edition source) table out r table′ out′
       → n ≡ number (r .told)
-      → report′ ≡ write-words report r → WroteC source table out report table′ out′ report′ n
+      → report′ ≡ write-words report r → WroteC edition source table out report table′ out′ report′ n

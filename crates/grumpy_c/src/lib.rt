@@ -1,61 +1,26 @@
-// The C interface of the box. All functions return the paper's number and write a report: number, place,
-// type, and for run also value (64-bit two's complement; a float's bits), units and bytes printed; for write
-// bytes written in the type's stead; for two sheets also the sheet, and where the line that is shown begins and ends in it.
-// A report that is too short is answered like memory that is too short, and nothing is changed.
-ghost use mathlib.Core.Path.{_≡_};
-ghost use Prim.Native.Nat.{ℕ, _+_, _≤_};
+// The C interface of the box. All functions take the number of an edition first. They return the paper's
+// number and write a report: number, place, type, and for run also value (64-bit two's complement; a float's
+// bits), units and bytes printed; for write bytes written in the type's stead; for two sheets also the sheet,
+// and where the line that is shown begins and ends in it. A report that is too short is answered like memory
+// that is too short, and nothing is changed.
+ghost use Prim.Native.Nat.{_≤_};
 ghost use lib.ListN.{length};
-ghost use Rattle.pairs.specs.Spots.{meant};
-ghost use Rattle.grumpy_c.specs.Reports.{three, six, ToldChecked, ToldRan, ToldWrote, CheckedC, RanC, WroteC};
-ghost use Rattle.grumpy_c.specs.Pairs.{spot-words, ToldPairChecked, ToldPairRan, PairCheckedC, PairRanC};
+ghost use Rattle.grumpy_c.specs.Reports.{ToldChecked, ToldRan, ToldWrote, CheckedC, RanC, WroteC};
+ghost use Rattle.grumpy_c.specs.Pairs.{ToldPairChecked, ToldPairRan, PairCheckedC, PairRanC};
 
+mod reports;
 mod words;
 
+use crate::reports::write_pair_check_report;
+use crate::reports::write_pair_run_report;
+use crate::reports::write_run_report;
+use crate::reports::write_three;
 use crate::words::word;
 use grumpy::answers::Checked;
 use grumpy::answers::PairChecked;
 use grumpy::answers::PairRan;
 use grumpy::answers::Ran;
 use grumpy::answers::Wrote;
-use pairs::Spot;
-
-// Number, place, and what the service has to add.
-fn write_three(report: &mut [u64], number: u32, place: usize, last: u64)
-    requires { ⌜ 3 ≤ length (now report) ⌝ }
-    ensures { λ _. ⌜ now (report .exit) ≡ three (now (report .entry)) number place last ⌝ }
-{
-    report[0] = number as u64;
-    report[1] = place as u64;
-    report[2] = last;
-}
-
-fn write_run_report(
-    report: &mut [u64],
-    number: u32,
-    place: usize,
-    type_number: u32,
-    value: u64,
-    units: u32,
-    printed: usize,
-)
-    requires { ⌜ 6 ≤ length (now report) ⌝ }
-    ensures { λ _. ⌜ now (report .exit) ≡ six (now (report .entry)) number place «type_number» value units printed ⌝ }
-{
-    write_three(report, number, place, type_number as u64);
-    report[3] = value;
-    report[4] = units as u64;
-    report[5] = printed as u64;
-}
-
-// The sheet, and where its line begins and ends, from word k on.
-fn write_spot(report: &mut [u64], k: usize, spot: Spot)
-    requires { ⌜ k + 3 ≤ length (now report) ⌝ }
-    ensures { λ _. ⌜ now (report .exit) ≡ spot-words (now (report .entry)) k (meant spot) ⌝ }
-{
-    report[k] = spot.sheet as u64;
-    report[k + 1] = spot.begin as u64;
-    report[k + 2] = spot.end as u64;
-}
 
 fn report_checked(report: &mut [u64], answer: Checked) -> u32
     requires { ⌜ 3 ≤ length (now report) ⌝ }
@@ -126,19 +91,25 @@ fn report_ran(report: &mut [u64], answer: Ran) -> u32
 }
 
 #[no_mangle]
-pub extern "C" fn grumpy_check(source: &[u8], table: &mut [u32], report: &mut [u64]) -> u32
-    ensures { λ r. ⌜ CheckedC (now (source .entry)) (now (table .entry)) (now (report .entry)) (now (table .exit))
-        (now (report .exit)) r ⌝ }
+pub extern "C" fn grumpy_check(
+    edition: u32,
+    source: &[u8],
+    table: &mut [u32],
+    report: &mut [u64],
+) -> u32
+    ensures { λ r. ⌜ CheckedC edition (now (source .entry)) (now (table .entry)) (now (report .entry))
+        (now (table .exit)) (now (report .exit)) r ⌝ }
 {
     if report.len() < 3 {
         return 40;
     }
-    let answer = grumpy::check(source, table);
+    let answer = grumpy::check(edition, source, table);
     report_checked(report, answer)
 }
 
 #[no_mangle]
 pub extern "C" fn grumpy_run(
+    edition: u32,
     source: &[u8],
     table: &mut [u32],
     work: &mut [u32],
@@ -146,58 +117,34 @@ pub extern "C" fn grumpy_run(
     allowance: u64,
     report: &mut [u64],
 ) -> u32
-    ensures { λ r. ⌜ RanC (now (source .entry)) (now (table .entry)) (now (work .entry)) (now (out .entry)) allowance
-        (now (report .entry)) (now (table .exit)) (now (work .exit)) (now (out .exit)) (now (report .exit)) r ⌝ }
+    ensures { λ r. ⌜ RanC edition (now (source .entry)) (now (table .entry)) (now (work .entry)) (now (out .entry))
+        allowance (now (report .entry)) (now (table .exit)) (now (work .exit)) (now (out .exit))
+        (now (report .exit)) r ⌝ }
 {
     if report.len() < 6 {
         return 40;
     }
-    let answer = grumpy::run(source, table, work, out, allowance);
+    let answer = grumpy::run(edition, source, table, work, out, allowance);
     report_ran(report, answer)
 }
 
 #[no_mangle]
 pub extern "C" fn grumpy_write(
+    edition: u32,
     source: &[u8],
     table: &mut [u32],
     out: &mut [u8],
     report: &mut [u64],
 ) -> u32
     ensures { λ r.
-        ⌜ WroteC (now (source .entry)) (now (table .entry)) (now (out .entry)) (now (report .entry))
+        ⌜ WroteC edition (now (source .entry)) (now (table .entry)) (now (out .entry)) (now (report .entry))
         (now (table .exit)) (now (out .exit)) (now (report .exit)) r ⌝ }
 {
     if report.len() < 3 {
         return 40;
     }
-    let answer = grumpy::write(source, table, out);
+    let answer = grumpy::write(edition, source, table, out);
     report_wrote(report, answer)
-}
-
-fn write_pair_check_report(report: &mut [u64], number: u32, spot: Spot, type_number: u32)
-    requires { ⌜ 6 ≤ length (now report) ⌝ }
-    ensures { λ _. ⌜ now (report .exit) ≡
-        spot-words (three (now (report .entry)) number (meant spot .at) «type_number») 3 (meant spot) ⌝ }
-{
-    write_three(report, number, spot.at, type_number as u64);
-    write_spot(report, 3, spot);
-}
-
-fn write_pair_run_report(
-    report: &mut [u64],
-    number: u32,
-    spot: Spot,
-    type_number: u32,
-    value: u64,
-    units: u32,
-    printed: usize,
-)
-    requires { ⌜ 9 ≤ length (now report) ⌝ }
-    ensures { λ _. ⌜ now (report .exit) ≡ spot-words
-        (six (now (report .entry)) number (meant spot .at) «type_number» value units printed) 6 (meant spot) ⌝ }
-{
-    write_run_report(report, number, spot.at, type_number, value, units, printed);
-    write_spot(report, 6, spot);
 }
 
 fn report_pair_checked(report: &mut [u64], answer: PairChecked) -> u32
@@ -253,23 +200,25 @@ fn report_pair_ran(report: &mut [u64], answer: PairRan) -> u32
 
 #[no_mangle]
 pub extern "C" fn grumpy_check_pair(
+    edition: u32,
     first: &[u8],
     second: &[u8],
     table: &mut [u32],
     report: &mut [u64],
 ) -> u32
-    ensures { λ r. ⌜ PairCheckedC (now (first .entry)) (now (second .entry)) (now (table .entry)) (now (report .entry))
-        (now (table .exit)) (now (report .exit)) r ⌝ }
+    ensures { λ r. ⌜ PairCheckedC edition (now (first .entry)) (now (second .entry)) (now (table .entry))
+        (now (report .entry)) (now (table .exit)) (now (report .exit)) r ⌝ }
 {
     if report.len() < 6 {
         return 40;
     }
-    let answer = grumpy::check_pair(first, second, table);
+    let answer = grumpy::check_pair(edition, first, second, table);
     report_pair_checked(report, answer)
 }
 
 #[no_mangle]
 pub extern "C" fn grumpy_run_pair(
+    edition: u32,
     first: &[u8],
     second: &[u8],
     table: &mut [u32],
@@ -278,13 +227,13 @@ pub extern "C" fn grumpy_run_pair(
     allowance: u64,
     report: &mut [u64],
 ) -> u32
-    ensures { λ r. ⌜ PairRanC (now (first .entry)) (now (second .entry)) (now (table .entry)) (now (work .entry))
-        (now (out .entry)) allowance (now (report .entry)) (now (table .exit)) (now (work .exit)) (now (out .exit))
-        (now (report .exit)) r ⌝ }
+    ensures { λ r. ⌜ PairRanC edition (now (first .entry)) (now (second .entry)) (now (table .entry))
+        (now (work .entry)) (now (out .entry)) allowance (now (report .entry)) (now (table .exit)) (now (work .exit))
+        (now (out .exit)) (now (report .exit)) r ⌝ }
 {
     if report.len() < 9 {
         return 40;
     }
-    let answer = grumpy::run_pair(first, second, table, work, out, allowance);
+    let answer = grumpy::run_pair(edition, first, second, table, work, out, allowance);
     report_pair_ran(report, answer)
 }

@@ -10,9 +10,13 @@ pub mod NotAgain
 pub mod OldSheets
 pub mod Pairs
 pub mod OlderTexts
+pub mod Follow
+pub mod Editions
+pub mod BothEditions
 pub mod PlacesAside
 pub mod Examples
 pub mod FurtherExamples
 pub mod FloatExamples
+pub mod LoopExamples
 pub mod LetAfterElse
 pub mod BeforeFloats

@@ -12,6 +12,7 @@ pub mod ParserComplete
 pub mod Settles
 pub mod SettlesExpressions
 pub mod SettlesLevels
+pub mod SettlesLoops
 pub mod SettlesPrograms
 -- how far it looks, and that what it has passed can be completed
 pub mod Locality
@@ -21,6 +22,7 @@ pub mod Failing
 pub mod FailingPrograms
 pub mod FailingExpressions
 pub mod FailingAtoms
+pub mod FailingLoops
 pub mod Completion
 -- operators in one loop
 pub mod Climbing

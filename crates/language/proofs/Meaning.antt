@@ -6,6 +6,8 @@ pub mod Strict
 pub mod ValueTypes
 pub mod MoreUnits
 pub mod Spending
+pub mod Turns
+pub mod Steps
 pub mod Keeping
 pub mod CellOrder
 pub mod Freed

@@ -19,6 +19,9 @@ pub mod Examples
 pub mod BaseExamples
 pub mod SmallNumbers
 pub mod DecimalBefore
+pub mod Points
+pub mod BothEditions
+pub mod NothingNew
 pub mod PointBefore
 pub mod Fractions
 pub mod FloatNumbers

@@ -10,9 +10,8 @@ use Prim.Native.Nat.{ℕ, _-_, _≤_, _<_}
 use lib.Dec.{ltb}
 use lib.ListN.{length, drop, replicate}
 use Rattle.language.specs.Sizes.{SOURCE, ALLOWANCE, TABLE, WORK}
-use Rattle.language.specs.Tokens.{Token, place-at}
-use Rattle.language.specs.Text.{Flaw}
-use Rattle.language.specs.Edition.{Splits, Flawed}
+use Rattle.language.specs.Tokens.{Vocabulary, Token, place-at}
+use Rattle.language.specs.Text.{Flaw, Splits, Flawed}
 use Rattle.language.specs.Trees.{Ty, Program}
 use Rattle.language.specs.Grammar.{Reading}
 use Rattle.language.specs.Starts.{FirstWrong}
@@ -20,7 +19,7 @@ use Rattle.language.specs.Types.{HasType}
 use Rattle.language.specs.Faults.{Reason, HasFault}
 use Rattle.language.specs.State.{Value, nothing, State, Outcome, value, stop, stuck}
 use Rattle.language.specs.Meaning.{run, type-number}
-use Rattle.language.specs.Numbers.{Refusal, short-memory, large-allowance, long-source}
+use Rattle.language.specs.Numbers.{Refusal, short-memory, large-allowance, no-edition, long-source}
 use Rattle.language.specs.Numbers.{text, no-reading, types, Told, passed, refused, stopped}
 use Rattle.language.specs.Numbers.{long-text}
 
@@ -45,19 +44,20 @@ abbrev pub place-in : {P : Type 0} → Origin P → List Token → Spot → P
 place-in o ts nowhere = o .nowhere
 place-in o ts (at i) = o .at ts i
 
--- A text, whose places are bytes (S044): a token's is where it begins, and the end's is the length of the text.
-pub data TextDenies (source : List ℕ) : Refusal → ℕ → Type 0 where
-  too-long : SOURCE < length source → TextDenies source long-source 0
-  flawed : {f : Flaw} {p : ℕ} → length source ≤ SOURCE → Flawed source f p → TextDenies source (text f) p
+-- A text by a vocabulary. Its places are bytes (S044): a token's is where it begins, and the end's is the length of the
+-- text.
+pub data TextDenies (voc : Vocabulary) (source : List ℕ) : Refusal → ℕ → Type 0 where
+  too-long : SOURCE < length source → TextDenies voc source long-source 0
+  flawed : {f : Flaw} {p : ℕ} → length source ≤ SOURCE → Flawed voc source f p → TextDenies voc source (text f) p
 
-pub record TextGives (source : List ℕ) (ts : List Token) : Type 0 where
+pub record TextGives (voc : Vocabulary) (source : List ℕ) (ts : List Token) : Type 0 where
   pub short : length source ≤ SOURCE
-  pub splits : Splits source ts
+  pub splits : Splits voc source ts
 
-abbrev pub from-text : List ℕ → Origin ℕ
-from-text source = record {
-  gives = TextGives source;
-  denies = TextDenies source;
+abbrev pub from-text : Vocabulary → List ℕ → Origin ℕ
+from-text voc source = record {
+  gives = TextGives voc source;
+  denies = TextDenies voc source;
   nowhere = 0;
   at = λ ts i. cond (ltb i (length ts)) (place-at ts i) (length source);
 }
@@ -112,6 +112,7 @@ ending allowance stuck = none
 abbrev pub keeps : Refusal → Bool
 keeps short-memory = true
 keeps large-allowance = false
+keeps no-edition = false
 keeps long-source = false
 keeps (text f) = false
 keeps no-reading = false

@@ -1,12 +1,42 @@
--- Texts by the vocabulary of the one edition there is.
+-- The editions of the language: each is a vocabulary, which a caller names by a number (R12.2). An origin that reads by a
+-- vocabulary is one that reads by the caller's number; places are told alike in every edition.
+use mathlib.Core.Bool.{cond}
 use mathlib.Core.List.{List}
+use mathlib.Core.Option.{Option, none, some}
+use mathlib.Core.Path.{_≡_}
 use Prim.Native.Nat.{ℕ}
-use Rattle.language.specs.Text as Text
-use Rattle.language.specs.Text.{Flaw}
-use Rattle.language.specs.Tokens.{EDITION-1, Token}
+use lib.Dec.{eqb}
+use Rattle.language.specs.Tokens.{Vocabulary, EDITION-1, EDITION-2, Token}
+use Rattle.language.specs.Numbers.{Refusal, no-edition}
+use Rattle.language.specs.Answers.{Origin, from-text}
+use Rattle.language.specs.Pairs.{Place, from-pair}
 
-abbrev pub Splits : List ℕ → List Token → Type 0
-Splits t ts = Text.Splits EDITION-1 t ts
+-- the vocabulary that a number names
+unfoldable pub edition : ℕ → Option Vocabulary
+edition n = cond (eqb n 1) (some EDITION-1) (cond (eqb n 2) (some EDITION-2) none)
 
-abbrev pub Flawed : List ℕ → Flaw → ℕ → Type 0
-Flawed t f p = Text.Flawed EDITION-1 t f p
+module _ {P : Type 0} (n : ℕ) (o : Vocabulary → Origin P) where
+  -- a number that names none is told before all that the origin denies
+  pub data EditionDenies : Refusal → P → Type 0 where
+    unknown : edition n ≡ none → EditionDenies no-edition (o EDITION-1 .nowhere)
+    known : {voc : Vocabulary} {r : Refusal} {x : P} → edition n ≡ some voc → o voc .denies r x → EditionDenies r x
+
+  pub record EditionGives (ts : List Token) : Type 0 where
+    pub words : Vocabulary
+    pub named : edition n ≡ some words
+    pub given : o words .gives ts
+
+  abbrev pub in-edition : Origin P
+  in-edition = record {
+    gives = EditionGives;
+    denies = EditionDenies;
+    nowhere = o EDITION-1 .nowhere;
+    at = o EDITION-1 .at;
+  }
+
+-- a text and two sheets, as callers lend them
+abbrev pub text-in : ℕ → List ℕ → Origin ℕ
+text-in n source = in-edition n λ voc. from-text voc source
+
+abbrev pub pair-in : ℕ → List ℕ → List ℕ → Origin Place
+pair-in n first second = in-edition n λ voc. from-pair voc first second

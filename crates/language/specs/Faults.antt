@@ -1,23 +1,25 @@
 -- Which fault is told of a reading that has no type, and at which token (S092 to S094; rows 30 to 34). It is the first
 -- in the paper's order: functions in order, then the last expression; in a tree, children from left to right before
 -- their node.
+use mathlib.Core.Bool.{Bool}
 use mathlib.Core.List.{List, [], _∷_}
 use mathlib.Core.Option.{none, some}
 use mathlib.Core.Path.{_≡_}
 use Prim.Native.Nat.{ℕ, _≤_, _<_}
 use lib.ListN.{length}
 use Rattle.language.specs.Sizes.{FUNCTIONS, PARAMETERS, REFS}
-use Rattle.language.specs.Trees.{Name, Ty, bool, unit, refs, Unary, minus, not, fetch, new, Binary, Exp}
+use Rattle.language.specs.Trees.{Name, Ty, int, bool, unit, refs, Unary, minus, not, fetch, new, Binary, Exp}
 use Rattle.language.specs.Trees.{name, unary, binary, follow, group, block, call, bind, branch, loop}
-use Rattle.language.specs.Trees.{Exps, more, Param, Def, Program, Scope, empty, push, nearest, size}
-use Rattle.language.specs.Types.{UnopType, BinopType, Sig, Typed, TypedAll, Takes, with-def, given, Room, Fine}
+use Rattle.language.specs.Trees.{counted, Exps, more, Param, Def, Program, Scope, empty, push, nearest, size}
+use Rattle.language.specs.Types.{UnopType, BinopType, Bounds, Sig, Typed}
+use Rattle.language.specs.Types.{TypedAll, Takes, with-def, given, Room, Fine}
 
 -- ---- why a reading is refused
 
 pub data Reason : Type 0 where
   -- no rule fits: a variable with no binding, a function not in sight, too many or too few arguments, and so on
-  no-binding no-function wrong-number wrong-argument wrong-operand wrong-operands not-unit not-bool branches-differ
-      wrong-body : Reason
+  no-binding no-function wrong-number wrong-argument wrong-operand wrong-operands not-unit not-bool not-int
+      branches-differ wrong-body : Reason
   -- a size is exceeded
   too-many-refs too-many-functions too-many-parameters : Reason
   -- a name is taken
@@ -85,6 +87,16 @@ module _ (Δ : Scope Sig) where
           → Typed Δ Γ c b → Typed Δ Γ e t → (b ≡ bool → ⊥) → Fault Γ (loop i c e) not-bool i
       f-do-here : {Γ : Scope Ty} {i : ℕ} {c e : Exp} {t : Ty}
           → Typed Δ Γ c bool → Typed Δ Γ e t → (t ≡ unit → ⊥) → Fault Γ (loop i c e) not-unit i
+      -- R12.5: start, end and step, then the body, then what the `for` asks of them
+      f-bounds : {Γ : Scope Ty} {i : ℕ} {x : Name} {b : Bool} {es : Exps} {e : Exp} {r : Reason} {n : ℕ}
+          → FaultAll Γ es r n → Fault Γ (counted i x b es e) r n
+      f-pass : {Γ : Scope Ty} {i : ℕ} {x : Name} {b : Bool} {es : Exps} {e : Exp} {ts : List Ty} {r : Reason} {n : ℕ}
+          → TypedAll Δ Γ es ts → Fault (push x int Γ) e r n → Fault Γ (counted i x b es e) r n
+      f-bounds-here : {Γ : Scope Ty} {i : ℕ} {x : Name} {b : Bool} {es : Exps} {e : Exp} {ts : List Ty} {t : Ty}
+          → TypedAll Δ Γ es ts → Typed Δ (push x int Γ) e t → (Bounds ts → ⊥) → Fault Γ (counted i x b es e) not-int i
+      f-pass-here : {Γ : Scope Ty} {i : ℕ} {x : Name} {b : Bool} {es : Exps} {e : Exp} {ts : List Ty} {t : Ty}
+          → TypedAll Δ Γ es ts → Typed Δ (push x int Γ) e t → Bounds ts → (t ≡ unit → ⊥)
+          → Fault Γ (counted i x b es e) not-unit i
 
     pub data FaultAll : Scope Ty → Exps → Reason → ℕ → Type 0 where
       f-one : {Γ : Scope Ty} {e : Exp} {es : Exps} {r : Reason} {n : ℕ} → Fault Γ e r n → FaultAll Γ (more e es) r n

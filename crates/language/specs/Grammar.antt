@@ -1,6 +1,6 @@
 -- The grammar (S022 to S043, with R05.2), as a relation: `Reads ts s i j x` says that the tokens of ts from i up to j,
 -- j not among them, are read by the symbol s as x. One constructor for each production, in the order of the paper.
-use mathlib.Core.Bool.{true, false}
+use mathlib.Core.Bool.{Bool, true, false}
 use mathlib.Core.List.{List, [], _∷_}
 use Prim.Native.Nat.{ℕ, _+_}
 use lib.ListN.{length}
@@ -8,13 +8,14 @@ use Rattle.language.specs.Tokens.{Token, Entry, _is_, At, Means, value-a
 use Rattle.language.specs.Tokens.{NAME, NUMBER, FLOAT-NUMBER, FLOAT, DEF, LET, IN, WHILE}
 use Rattle.language.specs.Tokens.{IF, THEN, ELSE, REF, NOT, INT, BOOL, TRUE, FALSE, UNIT}
 use Rattle.language.specs.Tokens.{TT, PLUS, MINUS, STAR, SLASH, AND, OR, LESS, EQUAL}
-use Rattle.language.specs.Tokens.{BECOMES, IS, BANG, SEMI, COMMA, COLON, LPAR, RPAR, LBRACE, RBRACE}
+use Rattle.language.specs.Tokens.{BECOMES, IS, BANG, SEMI, COMMA, COLON, LPAR}
+use Rattle.language.specs.Tokens.{RPAR, LBRACE, RBRACE, FOR, BY, UPTO, THROUGH}
 use Rattle.language.specs.Decimals.{float-of}
 use Rattle.language.specs.Trees.{Ty, int, bool, unit, float, ref, Literal, whole, truth}
 use Rattle.language.specs.Trees.{trivial, decimal, Unary, minus, not, fetch, new, Binary}
 use Rattle.language.specs.Trees.{add, sub, mul, div, less, equal, Exp, name, literal}
 use Rattle.language.specs.Trees.{unary, binary, follow, group, block, call, bind, branch}
-use Rattle.language.specs.Trees.{loop, Exps, last, more, Param, Def, Program}
+use Rattle.language.specs.Trees.{loop, Exps, last, more, Param, Def, Program, counted}
 
 -- ---- the symbols
 
@@ -30,8 +31,13 @@ pub data Tier : Type 0 where
 -- Formals and Actuals are what Def and a call have between their parentheses, the closing one included; Params and
 -- Args are these where there is one at least
 pub data Sym : Type 0 where
-  program def formals params type seq tail bound item assign atom actuals args : Sym
+  program def formals params type seq tail bound item counting bounds assign atom actuals args : Sym
   tier : Tier → Sym
+
+-- what Bounds is read as: whether the end is a pass too, and start, end and maybe step
+pub record Span : Type 0 where
+  pub through : Bool
+  pub parts : Exps
 
 -- what a symbol is read as
 abbrev pub Of : Sym → Type 0
@@ -44,6 +50,8 @@ Of seq = Exp
 Of tail = Exp
 Of bound = Exp
 Of item = Exp
+Of counting = Exp
+Of bounds = Span
 Of assign = Exp
 Of atom = Exp
 Of actuals = Exps
@@ -76,6 +84,16 @@ constants = TRUE is truth true ∷ FALSE is truth false ∷ TT is trivial ∷ []
 
 abbrev pub basics : List (Entry ℕ Ty)
 basics = INT is int ∷ BOOL is bool ∷ UNIT is unit ∷ FLOAT is float ∷ []
+
+-- whether the end is a pass too (R12.6)
+abbrev pub ranges : List (Entry ℕ Bool)
+ranges = UPTO is false ∷ THROUGH is true ∷ []
+
+abbrev pub two-parts : Bool → Exp → Exp → Span
+two-parts b e f = record { through = b; parts = more e (more f last) }
+
+abbrev pub three-parts : Bool → Exp → Exp → Exp → Span
+three-parts b e f g = record { through = b; parts = more e (more f (more g last)) }
 
 -- ---- what Def, its parameters and Program put together
 
@@ -138,6 +156,18 @@ pub data Reads (ts : List Token) : (s : Sym) → ℕ → ℕ → Of s → Type 0
   item-while : {i m k : ℕ} {c e : Exp}
       → At ts i WHILE → Reads ts seq (i + 1) m c → At ts m LBRACE → Reads ts seq (m + 1) k e → At ts k RBRACE
       → Reads ts item i (k + 1) (loop i c (block m e))
+  -- For (R12.3, R12.8), with its Bounds
+  item-for : {i j : ℕ} {e : Exp} → Reads ts counting i j e → Reads ts item i j e
+  for-is : {i m k : ℕ} {r : Span} {e : Exp}
+      → At ts i FOR → At ts (i + 1) NAME → At ts (i + 2) IN → Reads ts bounds (i + 3) m r → At ts m LBRACE
+      → Reads ts seq (m + 1) k e → At ts k RBRACE
+      → Reads ts counting i (k + 1) (counted i (spelling-at ts (i + 1)) (r .through) (r .parts) (block m e))
+  bounds-two : {i m j : ℕ} {b : Bool} {e f : Exp}
+      → Reads ts (tier (chain or)) i m e → Means ts m ranges b → Reads ts (tier (chain or)) (m + 1) j f
+      → Reads ts bounds i j (two-parts b e f)
+  bounds-three : {i m k j : ℕ} {b : Bool} {e f g : Exp}
+      → Reads ts (tier (chain or)) i m e → Means ts m ranges b → Reads ts (tier (chain or)) (m + 1) k f
+      → At ts k BY → Reads ts (tier (chain or)) (k + 1) j g → Reads ts bounds i j (three-parts b e f g)
   item-assign : {i j : ℕ} {e : Exp} → Reads ts assign i j e → Reads ts item i j e
   -- Assign (S028, S040): `:=` does not chain
   assign-one : {i j : ℕ} {e : Exp} → Reads ts (tier (chain or)) i j e → Reads ts assign i j e

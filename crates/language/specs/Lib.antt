@@ -2,7 +2,6 @@ pub mod Sizes
 pub mod Tokens
 pub mod Decimals
 pub mod Text
-pub mod Edition
 pub mod Trees
 pub mod Grammar
 pub mod Starts
@@ -14,3 +13,4 @@ pub mod Numbers
 pub mod Answers
 pub mod Writing
 pub mod Pairs
+pub mod Edition

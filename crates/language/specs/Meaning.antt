@@ -1,5 +1,5 @@
 -- What a reading means when it runs (S055 to S067). It goes over trees and knows no memory but the cells.
-use mathlib.Core.Bool.{Bool, true, false, not}
+use mathlib.Core.Bool.{Bool, true, false, cond, not, _&&_, _||_}
 use mathlib.Core.List.{List, [], _∷_}
 use Prim.Native.Nat.{ℕ, zero, suc, _+_}
 use lib.Dec.{eqb, leb, ltb}
@@ -8,15 +8,16 @@ use lib.Signed.{ltZ, quotZ}
 use lib.Ieee as Ieee
 use lib.Ieee.{Float, binary64, toBits}
 use Rattle.language.specs.Sizes.{ACTIVE, CELLS, LARGEST, BYTE}
-use Rattle.language.specs.State.{Value, number, float, flag, nothing, cell, no-cell, count, held}
-use Rattle.language.specs.State.{store, keep, State, with-units, with-cells, with-birth, with-byte}
-use Rattle.language.specs.State.{no-unit, too-deep, out-of-range, zero-divisor, cell-freed, cells-full}
-use Rattle.language.specs.State.{not-a-byte, output-full, Outcome, value, stop, stuck, then, as-int}
+use Rattle.language.specs.State.{Value, number, float, flag, nothing, cell, no-cell, count, held, store}
+use Rattle.language.specs.State.{keep, State, with-units, with-cells, with-birth, with-byte, no-unit}
+use Rattle.language.specs.State.{too-deep, out-of-range, zero-divisor, cell-freed, cells-full, not-a-byte}
+use Rattle.language.specs.State.{output-full, zero-step, Outcome, value, stop, stuck, then, as-int}
 use Rattle.language.specs.State.{as-bool, as-unit, as-cell, has, choose, when-some, want, alike, only}
-use Rattle.language.specs.Trees.{Ty, int, bool, unit, ref, Literal, whole, truth, trivial, decimal, Unary, minus}
-use Rattle.language.specs.Trees.{fetch, new, Binary, add, sub, mul, div, less, equal, and, or, assign, Exp, name}
-use Rattle.language.specs.Trees.{literal, unary, binary, follow, group, block, call, bind, branch, loop, Exps}
-use Rattle.language.specs.Trees.{last, more, own, Param, Def, Program, Scope, empty, push, nearest, PUTCHAR}
+use Rattle.language.specs.Trees.{Name, Ty, int, bool, unit, ref, Literal, whole, truth, trivial}
+use Rattle.language.specs.Trees.{decimal, Unary, minus, fetch, new, Binary, add, sub, mul, div, less}
+use Rattle.language.specs.Trees.{equal, and, or, assign, Exp, name, literal, unary, binary, follow}
+use Rattle.language.specs.Trees.{group, block, call, bind, branch, loop, counted, Exps, last, more}
+use Rattle.language.specs.Trees.{own, Param, Def, Program, Scope, empty, push, nearest, PUTCHAR}
 
 -- ---- beginning a node
 
@@ -104,6 +105,24 @@ literal-value (truth b) = flag b
 literal-value trivial = nothing
 literal-value (decimal x) = float x
 
+-- ---- counted loops (R12.5 to R12.10)
+
+-- with no step it is 1, or -1 where the start is above the end
+unfoldable pub towards : ℤ → ℤ → ℤ
+towards from to = cond (ltZ to from) (negsuc 0) (pos 1)
+
+-- start, end and step, by the values that they came to
+unfoldable pub with-bounds : List Value → (ℤ → ℤ → ℤ → Outcome) → Outcome
+with-bounds [] k = stuck
+with-bounds (v ∷ []) k = stuck
+with-bounds (v ∷ w ∷ []) k = want (as-int v) λ from. want (as-int w) λ to. k from to (towards from to)
+with-bounds (v ∷ w ∷ u ∷ []) k = want (as-int v) λ from. want (as-int w) λ to. want (as-int u) λ by. k from to by
+with-bounds (v ∷ w ∷ u ∷ t ∷ vs) k = stuck
+
+-- there is a pass for z: it lies before the end, as the step goes, or is the end where that is a pass too
+unfoldable pub due : Bool → ℤ → ℤ → ℤ → Bool
+due through to by z = cond (ltZ (pos 0) by) (ltZ z to) (ltZ to z) || (through && same-int z to)
+
 -- ---- what a node does, once begun
 
 pub data Fun : Type 0 where
@@ -141,6 +160,17 @@ module _ (fs : Scope Fun) (go : Exp → Env → State → Outcome) where
       choose b (λ _. then (go e env s) λ v s. want (as-unit v) λ _. passes n c e env s) λ _.
       value nothing s
 
+  -- Passes of a `for`, from z on. Every pass begins a node, so there are at most as many as units were left at the
+  -- first, and the one after those finds none. Past the range of int there is none.
+  unfoldable pub turns : ℕ → Name → Bool → ℤ → ℤ → ℤ → Exp → Env → State → Outcome
+  turns zero x through to by z e env s = choose (due through to by z) (λ _. stop no-unit (own e) s) λ _. value nothing s
+  turns (suc n) x through to by z e env s =
+      choose (due through to by z) (λ _.
+      then (go e (push x (number z) env) s) λ v s.
+      want (as-unit v) λ _.
+      choose (in-range (z +ℤ by)) (λ _. turns n x through to by (z +ℤ by) e env s) λ _. value nothing s) λ _.
+      value nothing s
+
   unfoldable pub step : Exp → Env → State → Outcome
   step (name i x) env s = want (nearest x env) λ v. value v s
   step (literal i l) env s = value (literal-value l) s
@@ -158,6 +188,10 @@ module _ (fs : Scope Fun) (go : Exp → Env → State → Outcome) where
   step (branch i c e f) env s =
       then (go c env s) λ v s. want (as-bool v) λ b. choose b (λ _. go e env s) λ _. go f env s
   step (loop i c e) env s = passes (s .units) c e env s
+  step (counted i x through es e) env s =
+      arguments es env s λ vs s.
+      with-bounds vs λ from to by.
+      choose (is-zero by) (λ _. stop zero-step i s) λ _. turns (s .units) x through to by from e env s
 
 -- S056: a node, where d more than it may be active; at none it begins and is too deep
 unfoldable pub eval : Scope Fun → ℕ → Exp → Env → State → Outcome

@@ -1,16 +1,17 @@
--- The table of numbers (S068 to S090, R01.2, R03.5): what an answer tells, and the number of it. 21 stood for too many
+-- The table of numbers (S068 to S090, R01.2, R03.5, R08.2, R12.2, R12.9): what an answer tells, and the number of it. 21 stood for too many
 -- nodes, which no reading has; it is not used again (R02.4).
 use Prim.Native.Nat.{ℕ}
 use Rattle.language.specs.Text.{Flaw, strange-byte, open-comment, large-number, many-tokens, long-float}
-use Rattle.language.specs.Faults.{Reason, no-binding, no-function, wrong-number, wrong-argument, wrong-operand}
-use Rattle.language.specs.Faults.{wrong-operands, not-unit, not-bool, branches-differ, wrong-body, too-many-refs}
-use Rattle.language.specs.Faults.{too-many-functions, too-many-parameters, function-twice, parameter-twice}
+use Rattle.language.specs.Faults.{Reason, no-binding, no-function, wrong-number, wrong-argument}
+use Rattle.language.specs.Faults.{wrong-operand, wrong-operands, not-unit, not-bool, not-int}
+use Rattle.language.specs.Faults.{branches-differ, wrong-body, too-many-refs, too-many-functions}
+use Rattle.language.specs.Faults.{too-many-parameters, function-twice, parameter-twice}
 use Rattle.language.specs.State.{Stop, no-unit, too-deep, out-of-range, zero-divisor}
-use Rattle.language.specs.State.{cell-freed, cells-full, not-a-byte, output-full}
+use Rattle.language.specs.State.{cell-freed, cells-full, not-a-byte, output-full, zero-step}
 
 -- why nothing is run or written
 pub data Refusal : Type 0 where
-  short-memory large-allowance long-source : Refusal
+  short-memory large-allowance no-edition long-source : Refusal
   text : Flaw → Refusal
   no-reading : Refusal
   types : Reason → Refusal
@@ -43,6 +44,7 @@ reason-number wrong-operand = 33
 reason-number wrong-operands = 33
 reason-number not-unit = 33
 reason-number not-bool = 33
+reason-number not-int = 33
 reason-number branches-differ = 33
 reason-number wrong-body = 33
 reason-number too-many-refs = 34
@@ -50,6 +52,7 @@ reason-number too-many-refs = 34
 abbrev pub refusal-number : Refusal → ℕ
 refusal-number short-memory = 40
 refusal-number large-allowance = 41
+refusal-number no-edition = 42
 refusal-number long-source = 10
 refusal-number (text f) = flaw-number f
 refusal-number no-reading = 20
@@ -65,6 +68,7 @@ stop-number cell-freed = 54
 stop-number cells-full = 55
 stop-number not-a-byte = 56
 stop-number output-full = 57
+stop-number zero-step = 58
 
 abbrev pub number : Told → ℕ
 number passed = 0

@@ -7,9 +7,8 @@ use Prim.Native.Nat.{ℕ, zero, suc, _+_, _-_, _≤_, _<_}
 use lib.Dec.{ltb, leb}
 use lib.ListN.{length, drop}
 use Rattle.language.specs.Sizes.{SOURCE}
-use Rattle.language.specs.Tokens.{Token}
-use Rattle.language.specs.Text.{byte, is-in-line, Flaw}
-use Rattle.language.specs.Edition.{Splits, Flawed}
+use Rattle.language.specs.Tokens.{Vocabulary, Token}
+use Rattle.language.specs.Text.{byte, is-in-line, Flaw, Flawed}
 use Rattle.language.specs.Numbers.{Refusal, long-source, text}
 use Rattle.language.specs.Answers.{Origin, TextGives, from-text}
 
@@ -59,15 +58,15 @@ front = record { sheet = 1; at = 0; begins = 0; ends = 0 }
 
 -- ---- the two as an origin of tokens
 
-pub data PairDenies (first second : List ℕ) : Refusal → Place → Type 0 where
-  too-long : SOURCE < length (joined first second) → PairDenies first second long-source front
-  flawed : {f : Flaw} {p : ℕ} → length (joined first second) ≤ SOURCE → Flawed (joined first second) f p
-      → PairDenies first second (text f) (place-of first second p)
+pub data PairDenies (voc : Vocabulary) (first second : List ℕ) : Refusal → Place → Type 0 where
+  too-long : SOURCE < length (joined first second) → PairDenies voc first second long-source front
+  flawed : {f : Flaw} {p : ℕ} → length (joined first second) ≤ SOURCE → Flawed voc (joined first second) f p
+      → PairDenies voc first second (text f) (place-of first second p)
 
-abbrev pub from-pair : List ℕ → List ℕ → Origin Place
-from-pair first second = record {
-  gives = TextGives (joined first second);
-  denies = PairDenies first second;
+abbrev pub from-pair : Vocabulary → List ℕ → List ℕ → Origin Place
+from-pair voc first second = record {
+  gives = TextGives voc (joined first second);
+  denies = PairDenies voc first second;
   nowhere = front;
-  at = λ ts i. place-of first second (from-text (joined first second) .at ts i);
+  at = λ ts i. place-of first second (from-text voc (joined first second) .at ts i);
 }

@@ -122,9 +122,9 @@ with-byte n left s = record {
 
 -- ---- how a node ends
 
--- rows 50 to 57, in their order
+-- rows 50 to 58, in their order
 pub data Stop : Type 0 where
-  no-unit too-deep out-of-range zero-divisor cell-freed cells-full not-a-byte output-full : Stop
+  no-unit too-deep out-of-range zero-divisor cell-freed cells-full not-a-byte output-full zero-step : Stop
 
 pub data Outcome : Type 0 where
   value : Value → State → Outcome

@@ -135,8 +135,8 @@ module _ (voc : Vocabulary) where
     based : {base : ℕ} → spelled (voc .bases) (slice p (p + 2) t) ≡ some base → Within t (p + 2) q
         → Each (is-digit-of base) t (p + 2) q → Form t p q (token NUMBER (number-from base 0 (slice (p + 2) q t)))
     -- R08.2: digits, a point at m, and any digits
-    float : {m : ℕ} → voc .points ≡ true → Within t p m → Each is-digit t p m → byte t m ≡ code "." → m < q
-        → q ≤ length t
+    float : {m : ℕ} → voc .points (byte t (m + 1)) ≡ true → Within t p m → Each is-digit t p m → byte t m ≡ code "."
+        → m < q → q ≤ length t
         → Each is-digit t (m + 1) q → Form t p q (float-content (q - p))
     mark : {k : ℕ} → Within t p q → spelled (voc .marks) (slice p q t) ≡ some k → Form t p q (token k 0)
 

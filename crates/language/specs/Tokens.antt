@@ -1,5 +1,5 @@
 -- What a token is, and the words and marks whose spelling gives them a kind of their own (S011 to S018).
-use mathlib.Core.Bool.{Bool, true, false, cond, _&&_}
+use mathlib.Core.Bool.{Bool, true, false, cond, not, _&&_}
 use mathlib.Core.List.{List, [], _∷_}
 use mathlib.Core.Option.{Option, none, some}
 use mathlib.Core.Path.{_≡_}
@@ -152,6 +152,19 @@ RBRACE = 38
 abbrev pub FLOAT-NUMBER : ℕ
 FLOAT-NUMBER = 39
 
+-- the words and marks of counted loops (R12.3)
+abbrev pub FOR : ℕ
+FOR = 43
+
+abbrev pub BY : ℕ
+BY = 44
+
+abbrev pub UPTO : ℕ
+UPTO = 45
+
+abbrev pub THROUGH : ℕ
+THROUGH = 46
+
 -- a row of a table: this stands for that
 infix 70 _is_
 pub data Entry (A B : Type 0) : Type 0 where
@@ -175,17 +188,26 @@ marks =
 abbrev pub bases : List (Entry String ℕ)
 bases = "0x" is 16 ∷ "0b" is 2 ∷ []
 
--- An edition of the language is a vocabulary: tables of its words, of its marks and of its bases, and whether it has
--- points. All else that is said of texts is the same in every edition.
+-- An edition of the language is a vocabulary: tables of its words, of its marks and of its bases, and where a number
+-- may have a point. All else that is said of texts is the same in every edition.
 pub record Vocabulary : Type 0 where
   pub words : List (Entry String ℕ)
   pub marks : List (Entry String ℕ)
   pub bases : List (Entry String ℕ)
-  -- whether a number may have a point
-  pub points : Bool
+  -- whether a point that this byte follows may belong to a number
+  pub points : ℕ → Bool
 
 abbrev pub EDITION-1 : Vocabulary
-EDITION-1 = record { words = words; marks = marks; bases = bases; points = true }
+EDITION-1 = record { words = words; marks = marks; bases = bases; points = λ _. true }
+
+-- R12.3; R12.4: digits before `..` are an int
+abbrev pub EDITION-2 : Vocabulary
+EDITION-2 = record {
+  words = "for" is FOR ∷ "by" is BY ∷ words;
+  marks = "..=" is THROUGH ∷ ".." is UPTO ∷ marks;
+  bases = bases;
+  points = λ b. not (eqb b (code "."));
+}
 
 -- the kind that a table of spellings gives
 unfoldable pub spelled : List (Entry String ℕ) → Spelling → Option ℕ

@@ -55,6 +55,8 @@ mutual
     bind : ℕ → Name → Exp → Exp → Exp
     branch : ℕ → Exp → Exp → Exp → Exp
     loop : ℕ → Exp → Exp → Exp
+    -- for: its name, whether its end is a pass too, start and end and maybe step, its body
+    counted : ℕ → Name → Bool → Exps → Exp → Exp
 
   -- the arguments of a call
   pub data Exps : Type 0 where
@@ -74,6 +76,7 @@ own (call i f es) = i
 own (bind i x e f) = i
 own (branch i c e f) = i
 own (loop i c e) = i
+own (counted i x b es e) = i
 
 -- ---- programs
 
@@ -111,6 +114,7 @@ unfoldable mutual
   nodes (bind i x e f) = 1 + nodes e + nodes f
   nodes (branch i c e f) = 1 + nodes c + nodes e + nodes f
   nodes (loop i c e) = 1 + nodes c + nodes e
+  nodes (counted i x b es e) = 1 + all-nodes es + nodes e
 
   pub all-nodes : Exps → ℕ
   all-nodes last = 0

@@ -9,8 +9,8 @@ use Rattle.language.specs.Sizes.{FUNCTIONS, PARAMETERS, REFS}
 use Rattle.language.specs.Trees.{Name, Ty, int, bool, unit, float, ref, refs, whole, truth, trivial}
 use Rattle.language.specs.Trees.{decimal, Unary, minus, not, fetch, new, Binary, add, sub, mul, div}
 use Rattle.language.specs.Trees.{less, equal, and, or, assign, Exp, name, literal, unary, binary}
-use Rattle.language.specs.Trees.{follow, group, block, call, bind, branch, loop, Exps, last, more}
-use Rattle.language.specs.Trees.{Param, Def, Program, Scope, empty, push, nearest, size, PUTCHAR}
+use Rattle.language.specs.Trees.{follow, group, block, call, bind, branch, loop, counted, Exps, last}
+use Rattle.language.specs.Trees.{more, Param, Def, Program, Scope, empty, push, nearest, size, PUTCHAR}
 
 -- ---- operators (003's unoptype and binoptype; S052)
 
@@ -35,6 +35,11 @@ pub data BinopType : Binary → Ty → Ty → Ty → Type 0 where
   b-and : BinopType and bool bool bool
   b-or : BinopType or bool bool bool
   b-assign : {t : Ty} → BinopType assign (ref t) t unit
+
+-- R12.5: start and end, and a step if there is one
+pub data Bounds : List Ty → Type 0 where
+  two : Bounds (int ∷ int ∷ [])
+  three : Bounds (int ∷ int ∷ int ∷ [])
 
 -- ---- expressions
 
@@ -70,6 +75,9 @@ module _ (Δ : Scope Sig) where
       t-branch : {Γ : Scope Ty} {i : ℕ} {c e f : Exp} {t : Ty}
           → Typed Γ c bool → Typed Γ e t → Typed Γ f t → Typed Γ (branch i c e f) t
       t-loop : {Γ : Scope Ty} {i : ℕ} {c e : Exp} → Typed Γ c bool → Typed Γ e unit → Typed Γ (loop i c e) unit
+      -- R12.5: its name is in sight in the body alone
+      t-counted : {Γ : Scope Ty} {i : ℕ} {x : Name} {b : Bool} {es : Exps} {e : Exp} {ts : List Ty}
+          → TypedAll Γ es ts → Bounds ts → Typed (push x int Γ) e unit → Typed Γ (counted i x b es e) unit
 
     pub data TypedAll : Scope Ty → Exps → List Ty → Type 0 where
       t-last : {Γ : Scope Ty} → TypedAll Γ last []

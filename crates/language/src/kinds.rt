@@ -83,3 +83,12 @@ pub const RBRACE: u32 = 38;
 
 // A number with a point; FLOAT is the word.
 pub const FLOAT_NUMBER: u32 = 39;
+
+// The words and marks of counted loops; 40 to 42 are kinds of rows.
+pub const FOR: u32 = 43;
+
+pub const BY: u32 = 44;
+
+pub const UPTO: u32 = 45;
+
+pub const THROUGH: u32 = 46;

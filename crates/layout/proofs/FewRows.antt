@@ -5,9 +5,10 @@ use native.Mathlib.Omega.{arith}
 use lib.ListN.{length}
 use Rattle.language.specs.Tokens.{Token}
 use Rattle.language.specs.Trees.{Def, Program}
-use Rattle.language.specs.Grammar.{Sym, program, def, formals, params, type, seq, tail, bound, item, assign, atom, actuals, args, tier, Of}
+use Rattle.language.specs.Grammar.{Sym, program, def, formals, params, type, seq, tail, bound, item, counting, bounds, assign, atom, actuals, args, tier, Of}
 use Rattle.language.specs.Grammar.{Reads, Reading, program-seq, program-def, def-is, formals-none, formals-some, params-one, params-more}
 use Rattle.language.specs.Grammar.{type-basic, type-ref, seq-tail, seq-item, seq-more, tail-let, tail-if, let-in, item-if, item-while, item-assign, assign-one}
+use Rattle.language.specs.Grammar.{item-for, for-is, bounds-two, bounds-three}
 use Rattle.language.specs.Grammar.{assign-to, chain-one, chain-more, cmp-one, cmp-two, un-prefix, un-atom, atom-name, atom-call}
 use Rattle.language.specs.Grammar.{atom-number, atom-float, atom-constant, atom-group, atom-block, actuals-none, actuals-some, args-one, args-more}
 use Rattle.layout.specs.Rows.{below, under, def-rows, defs-rows}
@@ -23,6 +24,8 @@ rows seq e = below e + 1
 rows tail e = below e + 1
 rows bound e = below e + 1
 rows item e = below e + 1
+rows counting e = below e + 1
+rows bounds r = under (r .parts)
 rows assign e = below e + 1
 rows atom e = below e + 1
 rows actuals es = under es
@@ -39,6 +42,8 @@ spare seq = 0
 spare tail = 0
 spare bound = 0
 spare item = 0
+spare counting = 0
+spare bounds = 1
 spare assign = 0
 spare atom = 0
 spare actuals = 0
@@ -65,6 +70,10 @@ module _ (ts : List Token) where
   few (let-in a b c p d q) = omega (arith, few p, few q)
   few (item-if a p b q c r) = omega (arith, few p, few q, few r)
   few (item-while a p b q c) = omega (arith, few p, few q)
+  few (item-for p) = few p
+  few (for-is a b c p d q e) = omega (arith, few p, few q)
+  few (bounds-two p a q) = omega (arith, few p, few q)
+  few (bounds-three p a q b r) = omega (arith, few p, few q, few r)
   few (item-assign p) = few p
   few (assign-one p) = few p
   few (assign-to p h q) = omega (arith, few p, few q)

@@ -4,7 +4,7 @@ use mathlib.Core.Path.{_≡_, refl, _∙_}
 use Prim.Native.Nat.{ℕ, _+_, _*_, _≤_, _<_}
 use native.Mathlib.Omega.{arith}
 use lib.ListN.{length, getD}
-use Rattle.language.specs.Trees.{Exp, name, literal, unary, binary, follow, group, block, call, bind, branch, loop, Exps, last, more, Param, Def, Program}
+use Rattle.language.specs.Trees.{Exp, name, literal, unary, binary, follow, group, block, call, bind, branch, loop, counted, Exps, last, more, Param, Def, Program}
 use Rattle.layout.specs.Table.{ROWS-AT, FUNCTIONS-AT, put-row}
 use Rattle.layout.specs.Rows.{below, under, lay, lay-all, lay-params, lay-def, def-rows, defs-rows, lay-defs, lay-program}
 use Rattle.layout.proofs.TableLaws.{length-put-row, put-row-other, length-put-function, put-function-other}
@@ -26,6 +26,7 @@ mutual
   length-lay (bind i x e u) w f = length-put-row _ _ _ _ _ _ _ ∙ length-lay u _ _ ∙ length-lay e w f
   length-lay (branch i c e u) w f = length-put-row _ _ _ _ _ _ _ ∙ length-lay u _ _ ∙ length-lay e _ _ ∙ length-lay c w f
   length-lay (loop i c e) w f = length-put-row _ _ _ _ _ _ _ ∙ length-lay e _ _ ∙ length-lay c w f
+  length-lay (counted i x b es e) w f = length-put-row _ _ _ _ _ _ _ ∙ length-lay e _ _ ∙ length-lay-all es w f i
 
   pub length-lay-all : (es : Exps) (w : List ℕ) (f i : ℕ) → length (lay-all w f i es) ≡ length w
   length-lay-all last w f i = refl
@@ -73,6 +74,9 @@ mutual
   lay-other (loop i c e) w f g j l h =
       row-outside _ f g _ _ _ _ _ _ j (omega arith) (omega arith) h ∙ lay-other e _ _ g j (omega arith) (narrower (omega arith) (omega arith) h)
       ∙ lay-other c w f g j (omega arith) h
+  lay-other (counted i x b es e) w f g j l h =
+      row-outside _ f g _ _ _ _ _ _ j (omega arith) (omega arith) h ∙ lay-other e _ _ g j (omega arith) (narrower (omega arith) (omega arith) h)
+      ∙ lay-all-other es w f g i j (omega arith) h
 
   pub lay-all-other : (es : Exps) (w : List ℕ) (f g i j : ℕ) → f + under es ≤ g → Outside f g j → getD (lay-all w f i es) j 0 ≡ getD w j 0
   lay-all-other last w f g i j l h = refl

@@ -7,6 +7,7 @@ pub mod TableLaws
 pub mod LayLaws
 pub mod Owned
 pub mod Holding
+pub mod Listing
 pub mod Laid
 pub mod FewRows
 pub mod FloatWords

@@ -10,10 +10,11 @@ use Rattle.language.specs.Tokens.{Token, At, kind-at, entry, value-at, spelling
 use Rattle.language.specs.Tokens.{NAME, NUMBER, FLOAT-NUMBER, TRUE, FALSE, TT}
 use Rattle.language.specs.Decimals.{float-of}
 use Rattle.language.specs.Trees.{Literal, whole, truth, trivial, decimal, Exp, name, literal, unary, binary, follow}
-use Rattle.language.specs.Trees.{group, block, call, bind, branch, loop, Exps, last, more, Param, Def, Program}
-use Rattle.language.specs.Grammar.{Sym, program, def, formals, params, type, seq, tail, bound, item, assign, atom, actuals, args, tier, Of}
+use Rattle.language.specs.Trees.{group, block, call, bind, branch, loop, counted, Exps, last, more, Param, Def, Program}
+use Rattle.language.specs.Grammar.{Sym, program, def, formals, params, type, seq, tail, bound, item, counting, bounds, assign, atom, actuals, args, tier, Of}
 use Rattle.language.specs.Grammar.{constants, Reads, Reading, program-seq, program-def, def-is, formals-none, formals-some, params-one}
 use Rattle.language.specs.Grammar.{params-more, type-basic, type-ref, seq-tail, seq-item, seq-more, tail-let, tail-if, let-in, item-if, item-while, item-assign}
+use Rattle.language.specs.Grammar.{item-for, for-is, bounds-two, bounds-three}
 use Rattle.language.specs.Grammar.{assign-one, assign-to, chain-one, chain-more, cmp-one, cmp-two, un-prefix, un-atom, atom-name, atom-call}
 use Rattle.language.specs.Grammar.{atom-number, atom-float, atom-constant, atom-group, atom-block, actuals-none, actuals-some, args-one, args-more}
 
@@ -37,6 +38,8 @@ mutual
     owned-bind : {i : ℕ} {x : List ℕ} {e f : Exp} → At ts (i + 1) NAME → x ≡ spelling-at ts (i + 1) → Owned ts e → Owned ts f → Owned ts (bind i x e f)
     owned-branch : {i : ℕ} {c e f : Exp} → Owned ts c → Owned ts e → Owned ts f → Owned ts (branch i c e f)
     owned-loop : {i : ℕ} {c e : Exp} → Owned ts c → Owned ts e → Owned ts (loop i c e)
+    owned-counted : {i : ℕ} {x : List ℕ} {b : Bool} {es : Exps} {e : Exp}
+        → At ts (i + 1) NAME → x ≡ spelling-at ts (i + 1) → OwnedAll ts es → Owned ts e → Owned ts (counted i x b es e)
 
   pub data OwnedAll (ts : List Token) : Exps → Type 0 where
     owned-last : OwnedAll ts last
@@ -76,6 +79,8 @@ OwnedBy ts seq e = Owned ts e
 OwnedBy ts tail e = Owned ts e
 OwnedBy ts bound e = Owned ts e
 OwnedBy ts item e = Owned ts e
+OwnedBy ts counting e = Owned ts e
+OwnedBy ts bounds r = OwnedAll ts (r .parts)
 OwnedBy ts assign e = Owned ts e
 OwnedBy ts atom e = Owned ts e
 OwnedBy ts actuals es = OwnedAll ts es
@@ -125,6 +130,10 @@ module _ (ts : List Token) where
   owns (let-in a b c p d q) = owned-bind b refl (owns p) (owns q)
   owns (item-if a p b q c r) = owned-branch (owns p) (owns q) (owns r)
   owns (item-while a p b q c) = owned-loop (owns p) (owned-block (owns q))
+  owns (item-for p) = owns p
+  owns (for-is a b c p d q e) = owned-counted b refl (owns p) (owned-block (owns q))
+  owns (bounds-two p a q) = owned-more (owns p) (owned-more (owns q) owned-last)
+  owns (bounds-three p a q b r) = owned-more (owns p) (owned-more (owns q) (owned-more (owns r) owned-last))
   owns (item-assign p) = owns p
   owns (assign-one p) = owns p
   owns (assign-to p h q) = owned-binary (owns p) (owns q)

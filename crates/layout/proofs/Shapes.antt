@@ -1,5 +1,6 @@
 -- The table of shapes by its entries: the kind of a row that has a shape, operators' kinds, and shapes by how many children
 -- they have.
+use mathlib.Core.Bool.{Bool, true, false}
 use mathlib.Core.Option.{some}
 use mathlib.Core.Path.{_≡_, refl, sym, subst}
 use Prim.Native.Nat.{ℕ, _≤_}
@@ -8,9 +9,9 @@ use lib.Dec.{T, eqb, leb, leb→le}
 use Rattle.language.specs.Tokens.{entry, NAME, NUMBER, FLOAT-NUMBER, LET, WHILE, IF, PLUS, BECOMES, SEMI, LPAR, LBRACE}
 use Rattle.language.specs.Trees.{Literal, Unary, minus, not, fetch, new, Binary, add, sub, mul, div, less, equal, and, or, assign}
 use Rattle.language.proofs.Grammar.Entries.{every, entry-passes, by-entries}
-use Rattle.layout.specs.Rows.{PREFIX, CALL, literal-kind, unary-kind, binary-kind}
-use Rattle.layout.specs.Decode.{Shape, a-name, a-number, a-float, a-follow, a-group, a-block, a-call, a-let, an-if}
-use Rattle.layout.specs.Decode.{a-while, a-constant, a-unary, a-binary, shapes, shape-of, children}
+use Rattle.layout.specs.Rows.{PREFIX, CALL, literal-kind, unary-kind, binary-kind, range-kind}
+use Rattle.layout.specs.Decode.{Shape, a-name, a-number, a-float, a-for, a-follow, a-group, a-block, a-call, a-let, an-if}
+use Rattle.layout.specs.Decode.{a-while, a-constant, a-unary, a-binary, shapes, shape-of, children, counts}
 
 -- ---- kinds
 
@@ -27,12 +28,13 @@ shape-kind a-let = LET
 shape-kind an-if = IF
 shape-kind a-while = WHILE
 shape-kind (a-constant l) = literal-kind l
+shape-kind (a-for b) = range-kind b
 shape-kind (a-unary o) = unary-kind o
 shape-kind (a-binary o) = binary-kind o
 
 -- a row that has a shape is of the shape's kind
 pub kind-of-shape : (k : ℕ) (s : Shape) → shape-of k ≡ some s → k ≡ shape-kind s
-unfolding shape-of shape-kind literal-kind unary-kind binary-kind every
+unfolding shape-of shape-kind literal-kind unary-kind binary-kind range-kind every
 kind-of-shape k s e = sym (by-entries shape-kind (λ c. c) shapes k tt e)
 
 -- operators before an operand lie above all others
@@ -56,6 +58,12 @@ binary-between and = (omega arith, omega arith)
 binary-between or = (omega arith, omega arith)
 binary-between assign = (omega arith, omega arith)
 
+-- a `for` is told by its kind
+pub range-counts : (b : Bool) → counts (range-kind b) ≡ true
+unfolding counts range-kind
+range-counts false = refl
+range-counts true = refl
+
 -- ---- children
 
 -- tests on a kind that give each entry's number of children give that of a kind's shape
@@ -76,6 +84,7 @@ pub data Parted : Shape → ℕ → Type 0 where
   is-float : Parted a-float 0
   is-constant : {l : Literal} → Parted (a-constant l) 0
   is-call : Parted a-call 0
+  is-for : {b : Bool} → Parted (a-for b) 0
   is-unary : {o : Unary} → Parted (a-unary o) 1
   is-group : Parted a-group 1
   is-block : Parted a-block 1
@@ -91,6 +100,7 @@ parts a-number = is-number
 parts a-float = is-float
 parts (a-constant l) = is-constant
 parts a-call = is-call
+parts (a-for b) = is-for
 parts (a-unary o) = is-unary
 parts a-group = is-group
 parts a-block = is-block

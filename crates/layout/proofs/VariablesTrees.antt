@@ -1,4 +1,5 @@
 -- A table reads back the same reading whatever its variables are: trees, functions and tokens lie before them.
+use mathlib.Core.Bool.{Bool}
 use mathlib.Core.List.{List, [], _∷_}
 use mathlib.Core.Path.{_≡_, refl, sym, ap, ap₂, subst, _∙_}
 use Prim.Native.Nat.{ℕ, zero, suc, _+_, _*_, _≤_, _<_}
@@ -11,10 +12,10 @@ use Rattle.language.specs.Tokens.{Token}
 use Rattle.language.specs.Trees.{Exp, Exps, more, Param, Def, Program}
 use Rattle.layout.specs.Table.{ROWS-AT, FUNCTIONS-AT, VARIABLES-AT, row-word, without-variables}
 use Rattle.layout.proofs.TokenLaws.{stand-same}
-use Rattle.layout.proofs.Shapes.{shape-kind, kind-of-shape}
+use Rattle.layout.proofs.Shapes.{shape-kind, kind-of-shape, range-counts}
 use Rattle.layout.proofs.VariablesWords.{length-without, without-before}
 use Rattle.layout.specs.Decode.{Shape, a-name, a-number, a-float, a-follow, a-group, a-block, a-call, a-let, an-if, a-while, a-constant}
-use Rattle.layout.specs.Decode.{a-unary, a-binary, children, build, build-if, tree-at, args-at, Right, RightArgs, ParamsAt}
+use Rattle.layout.specs.Decode.{a-unary, a-binary, a-for, children, counts, build, build-if, tree-at, args-at, Right, RightArgs, ParamsAt}
 use Rattle.layout.specs.Decode.{params-none, params-more, FunctionAt, FunctionsAt, functions-none, functions-more, Holds}
 use Rattle.layout.specs.declared.Held.{Held}
 
@@ -23,21 +24,22 @@ use Rattle.layout.specs.declared.Held.{Held}
 -- by the parts that a shape has
 pub build-same : (ts : List Token) (s : Shape) (i : ℕ) (a b c : Exp) (es : Exps) (a′ b′ c′ : Exp) (es′ : Exps)
     → (1 ≤ children s → a ≡ a′) → (2 ≤ children s → b ≡ b′) → (3 ≤ children s → c ≡ c′) → (s ≡ a-call → es ≡ es′)
-    → build ts s i a b c es ≡ build ts s i a′ b′ c′ es′
+    → ((m : Bool) → s ≡ a-for m → (es ≡ es′) × (b ≡ b′)) → build ts s i a b c es ≡ build ts s i a′ b′ c′ es′
 unfolding build
-build-same ts a-name i a b c es a′ b′ c′ es′ p q r t = refl
-build-same ts a-number i a b c es a′ b′ c′ es′ p q r t = refl
-build-same ts a-float i a b c es a′ b′ c′ es′ p q r t = refl
-build-same ts (a-constant l) i a b c es a′ b′ c′ es′ p q r t = refl
-build-same ts (a-unary o) i a b c es a′ b′ c′ es′ p q r t = cc (p (omega arith))
-build-same ts (a-binary o) i a b c es a′ b′ c′ es′ p q r t = cc (p (omega arith), q (omega arith))
-build-same ts a-follow i a b c es a′ b′ c′ es′ p q r t = cc (p (omega arith), q (omega arith))
-build-same ts a-group i a b c es a′ b′ c′ es′ p q r t = cc (p (omega arith))
-build-same ts a-block i a b c es a′ b′ c′ es′ p q r t = cc (p (omega arith))
-build-same ts a-call i a b c es a′ b′ c′ es′ p q r t = cc (t refl)
-build-same ts a-let i a b c es a′ b′ c′ es′ p q r t = cc (p (omega arith), q (omega arith))
-build-same ts an-if i a b c es a′ b′ c′ es′ p q r t = cc (p (omega arith), q (omega arith), r (omega arith))
-build-same ts a-while i a b c es a′ b′ c′ es′ p q r t = cc (p (omega arith), q (omega arith))
+build-same ts a-name i a b c es a′ b′ c′ es′ p q r t u = refl
+build-same ts a-number i a b c es a′ b′ c′ es′ p q r t u = refl
+build-same ts a-float i a b c es a′ b′ c′ es′ p q r t u = refl
+build-same ts (a-constant l) i a b c es a′ b′ c′ es′ p q r t u = refl
+build-same ts (a-unary o) i a b c es a′ b′ c′ es′ p q r t u = cc (p (omega arith))
+build-same ts (a-binary o) i a b c es a′ b′ c′ es′ p q r t u = cc (p (omega arith), q (omega arith))
+build-same ts a-follow i a b c es a′ b′ c′ es′ p q r t u = cc (p (omega arith), q (omega arith))
+build-same ts a-group i a b c es a′ b′ c′ es′ p q r t u = cc (p (omega arith))
+build-same ts a-block i a b c es a′ b′ c′ es′ p q r t u = cc (p (omega arith))
+build-same ts a-call i a b c es a′ b′ c′ es′ p q r t u = cc (t refl)
+build-same ts a-let i a b c es a′ b′ c′ es′ p q r t u = cc (p (omega arith), q (omega arith))
+build-same ts an-if i a b c es a′ b′ c′ es′ p q r t u = cc (p (omega arith), q (omega arith), r (omega arith))
+build-same ts a-while i a b c es a′ b′ c′ es′ p q r t u = cc (p (omega arith), q (omega arith))
+build-same ts (a-for m) i a b c es a′ b′ c′ es′ p q r t u = let z = u m refl in cc (z .0, z .1)
 
 -- a row that is whole is one of the rows
 pub right-inside : (f : ℕ) (ts : List Token) (w : List ℕ) (i : ℕ) → Right f ts w i → i < NODES
@@ -84,6 +86,13 @@ module _ (v w : List ℕ) (alike : (j : ℕ) → j < VARIABLES-AT → getD v j 0
           second = λ k. let p = r .second k in rw e₃ (p .0, right-alike f ts _ (p .1));
           third = λ k. let p = r .third k in rw e₄ (p .0, right-alike f ts _ (p .1));
           args = λ k. let p = r .args (sym e₀ ∙ k) in rw e₂ (p .0, right-args-alike f ts _ (p .1));
+          loops = λ k.
+              let p = r .loops (ap counts (sym e₀) ∙ k) in
+              record {
+                named = rw e₁ (p .named);
+                bounds = rw e₂ (p .bounds .0, right-args-alike f ts _ (p .bounds .1));
+                body = rw e₃ (p .body .0, right-alike f ts _ (p .body .1));
+              };
         }
 
     -- and so are its arguments
@@ -117,7 +126,10 @@ module _ (v w : List ℕ) (alike : (j : ℕ) → j < VARIABLES-AT → getD v j 0
         (build-same ts (r .shape) (row-word w i 1) _ _ _ _ _ _ _ _ (λ k. tree-alike f ts _ (r .first k .1)) (λ k. tree-alike f ts _
         (r .second k .1))
         (λ k. tree-alike f ts _ (r .third k .1))
-        (λ k. args-alike f ts _ (r .args (kind-of-shape _ _ (r .known) ∙ ap shape-kind k) .1)))
+        (λ k. args-alike f ts _ (r .args (kind-of-shape _ _ (r .known) ∙ ap shape-kind k) .1))
+        (λ m k.
+        let p = r .loops (ap counts (kind-of-shape _ _ (r .known) ∙ ap shape-kind k) ∙ range-counts m) in
+        (args-alike f ts _ (p .bounds .1), tree-alike f ts _ (p .body .1))))
 
     -- and its arguments for the same
     pub args-alike : (f : ℕ) (ts : List Token) (i : ℕ) → RightArgs f ts w i → args-at f ts v i ≡ args-at f ts w i

@@ -8,7 +8,7 @@ use native.Mathlib.Omega.{arith}
 use lib.ListN.{length, set}
 use Rattle.language.specs.Sizes.{TOKENS, NODES, TABLE}
 use Rattle.language.specs.Tokens.{Token}
-use Rattle.language.specs.Trees.{Exp, name, literal, unary, binary, follow, group, block, call, bind, branch, loop, Exps, last, more, Param, Def, Program}
+use Rattle.language.specs.Trees.{Exp, name, literal, unary, binary, follow, group, block, call, bind, branch, loop, counted, Exps, last, more, Param, Def, Program}
 use Rattle.language.specs.Answers.{cleared}
 use Rattle.layout.specs.Table.{ROWS-AT, put-token, put-row, put-function, zeros, without-rows, without-variables}
 use Rattle.layout.specs.Names.{lay-tokens}
@@ -73,6 +73,8 @@ mutual
   wiped-lay (branch i c e u) w f h =
       wiped-row _ _ _ _ _ _ _ (omega arith) ∙ wiped-lay u _ _ (omega arith) ∙ wiped-lay e _ _ (omega arith) ∙ wiped-lay c w f (omega arith)
   wiped-lay (loop i c e) w f h = wiped-row _ _ _ _ _ _ _ (omega arith) ∙ wiped-lay e _ _ (omega arith) ∙ wiped-lay c w f (omega arith)
+  wiped-lay (counted i x b es e) w f h =
+      wiped-row _ _ _ _ _ _ _ (omega arith) ∙ wiped-lay e _ _ (omega arith) ∙ wiped-all es w f i (omega arith)
 
   wiped-all : (es : Exps) (w : List ℕ) (f i : ℕ) → f + under es ≤ NODES → wiped (lay-all w f i es) ≡ wiped w
   wiped-all last w f i h = refl

@@ -1,6 +1,6 @@
 -- The reading that the rows of a table stand for, read back from the words. The written tokens ts give the spellings
 -- and numbers, which the words of rows do not hold. `f` bounds how far down the reading back goes.
-use mathlib.Core.Bool.{true, false, cond}
+use mathlib.Core.Bool.{Bool, true, false, cond, _||_}
 use mathlib.Core.List.{List, [], _∷_}
 use mathlib.Core.Option.{Option, none, some}
 use mathlib.Core.Path.{_≡_}
@@ -9,15 +9,15 @@ use lib.Dec.{eqb}
 use lib.ListN.{length}
 use Rattle.language.specs.Sizes.{NODES, TABLE}
 use Rattle.language.specs.Tokens.{Token, Entry, _is_, entry, At, value-at, spelling-at}
-use Rattle.language.specs.Tokens.{NAME, NUMBER, FLOAT-NUMBER}
+use Rattle.language.specs.Tokens.{NAME, NUMBER, FLOAT-NUMBER, UPTO, THROUGH}
 use Rattle.language.specs.Decimals.{float-of}
 use Rattle.language.specs.Tokens.{LET, WHILE, IF, REF, NOT, TRUE, FALSE, TT, PLUS, MINUS, STAR}
 use Rattle.language.specs.Tokens.{SLASH, AND, OR, LESS, EQUAL, BECOMES, BANG, SEMI, LPAR, LBRACE}
 use Rattle.language.specs.Trees.{Literal, whole, truth, trivial, decimal, Unary, minus, not, fetch, new, Binary, add}
 use Rattle.language.specs.Trees.{sub, mul, div, less, equal, Exp, name, literal, unary, binary, follow, group}
-use Rattle.language.specs.Trees.{block, call, bind, branch, loop, Exps, last, more, Param, Def, Program}
+use Rattle.language.specs.Trees.{block, call, bind, branch, loop, counted, Exps, last, more, Param, Def, Program}
 use Rattle.language.specs.Meaning.{type-number}
-use Rattle.layout.specs.Table.{KIND, OWN, FIRST, SECOND, THIRD, EXPRESSION, NEXT, TYPE, ARITY, RESULT, BODY}
+use Rattle.layout.specs.Table.{KIND, OWN, FIRST, SECOND, THIRD, START, PASS, EXPRESSION, NEXT, TYPE, ARITY, RESULT, BODY}
 use Rattle.layout.specs.Table.{row-word, function-row}
 use Rattle.layout.specs.Names.{Stand}
 use Rattle.layout.specs.Rows.{PREFIX, CALL, below}
@@ -28,6 +28,7 @@ use Rattle.layout.specs.declared.Held.{Held}
 pub data Shape : Type 0 where
   a-name a-number a-float a-follow a-group a-block a-call a-let an-if a-while : Shape
   a-constant : Literal → Shape
+  a-for : Bool → Shape
   a-unary : Unary → Shape
   a-binary : Binary → Shape
 
@@ -36,7 +37,7 @@ shapes =
     NAME is a-name ∷ NUMBER is a-number ∷ FLOAT-NUMBER is a-float
     ∷ TRUE is a-constant (truth true) ∷ FALSE is a-constant (truth false) ∷ TT is a-constant trivial
     ∷ SEMI is a-follow ∷ LPAR is a-group ∷ LBRACE is a-block ∷ CALL is a-call
-    ∷ LET is a-let ∷ IF is an-if ∷ WHILE is a-while
+    ∷ LET is a-let ∷ IF is an-if ∷ WHILE is a-while ∷ UPTO is a-for false ∷ THROUGH is a-for true
     ∷ (PREFIX + MINUS) is a-unary minus ∷ (PREFIX + NOT) is a-unary not
     ∷ (PREFIX + BANG) is a-unary fetch ∷ (PREFIX + REF) is a-unary new
     ∷ PLUS is a-binary add ∷ MINUS is a-binary sub ∷ STAR is a-binary mul ∷ SLASH is a-binary div
@@ -46,13 +47,15 @@ shapes =
 unfoldable pub shape-of : ℕ → Option Shape
 shape-of k = entry shapes k
 
--- how many of a shape's three words name a row below it; a call's first names its arguments
+-- how many of a shape's three words name a row below it, the first ones; a call's first names its arguments, a `for`'s its
+-- bounds
 abbrev pub children : Shape → ℕ
 children a-name = 0
 children a-number = 0
 children a-float = 0
 children (a-constant l) = 0
 children a-call = 0
+children (a-for b) = 0
 children (a-unary o) = 1
 children a-group = 1
 children a-block = 1
@@ -79,6 +82,7 @@ build ts a-call i a b c es = call i (spelling-at ts i) es
 build ts a-let i a b c es = bind i (spelling-at ts (i + 1)) a b
 build ts an-if i a b c es = branch i a b c
 build ts a-while i a b c es = loop i a b
+build ts (a-for r) i a b c es = counted i (spelling-at ts (i + 1)) r es b
 
 unfoldable pub build-if : List Token → Option Shape → ℕ → Exp → Exp → Exp → Exps → Exp
 build-if ts none i a b c es = literal i trivial
@@ -99,11 +103,21 @@ unfoldable mutual
   args-at (suc f) ts w i = cond (eqb i 0) last
       (more (tree-at f ts w (row-word w i EXPRESSION)) (args-at f ts w (row-word w i NEXT)))
 
+-- the kinds of a `for`
+unfoldable pub counts : ℕ → Bool
+counts k = eqb k UPTO || eqb k THROUGH
+
 -- ---- rows that are whole: every part is a row before its own, and the tokens are of the kinds that the tree needs
 
 -- row j stands before row i and is right
 abbrev pub Part : (ℕ → Type 0) → ℕ → ℕ → Type 0
 Part right i j = (j < i) × right j
+
+-- what a `for` needs: the name behind it, its bounds and its body
+pub record Counts (right rights : ℕ → Type 0) (ts : List Token) (w : List ℕ) (i : ℕ) : Type 0 where
+  pub named : At ts (row-word w i OWN + 1) NAME
+  pub bounds : (row-word w i START ≤ i) × rights (row-word w i START)
+  pub body : Part right i (row-word w i PASS)
 
 pub record Node (right rights : ℕ → Type 0) (ts : List Token) (w : List ℕ) (i : ℕ) : Type 0 where
   pub inside : i < NODES
@@ -119,6 +133,7 @@ pub record Node (right rights : ℕ → Type 0) (ts : List Token) (w : List ℕ)
   pub third : 3 ≤ children shape → Part right i (row-word w i THIRD)
   -- not behind it: a call without arguments has row 0 here, and may be row 0 itself
   pub args : row-word w i KIND ≡ CALL → (row-word w i FIRST ≤ i) × rights (row-word w i FIRST)
+  pub loops : counts (row-word w i KIND) ≡ true → Counts right rights ts w i
 
 pub record Argument (right rights : ℕ → Type 0) (w : List ℕ) (i : ℕ) : Type 0 where
   pub inside : i < NODES

@@ -1,14 +1,14 @@
 -- A reading in rows: what the table becomes when a tree, a function or a program is laid down, the parts before their
 -- whole.
-use mathlib.Core.Bool.{true, false}
+use mathlib.Core.Bool.{Bool, true, false}
 use mathlib.Core.List.{List, [], _∷_}
 use Prim.Native.Nat.{ℕ, _+_}
 use lib.ListN.{length}
 use Rattle.language.specs.Tokens.{Token, NAME, NUMBER, FLOAT-NUMBER, DEF, LET, WHILE, IF, REF, NOT, TRUE, FALSE, TT}
-use Rattle.language.specs.Tokens.{PLUS, MINUS, STAR, SLASH, AND, OR, LESS, EQUAL, BECOMES, BANG, SEMI, LPAR, LBRACE}
+use Rattle.language.specs.Tokens.{UPTO, THROUGH, PLUS, MINUS, STAR, SLASH, AND, OR, LESS, EQUAL, BECOMES, BANG, SEMI, LPAR, LBRACE}
 use Rattle.language.specs.Trees.{Literal, whole, truth, trivial, decimal, Unary, minus, not, fetch, new, Binary, add, sub}
 use Rattle.language.specs.Trees.{mul, div, less, equal, and, or, assign, Exp, name, literal, unary, binary, follow}
-use Rattle.language.specs.Trees.{group, block, call, bind, branch, loop, Exps, last, more, Param, Def, Program}
+use Rattle.language.specs.Trees.{group, block, call, bind, branch, loop, counted, Exps, last, more, Param, Def, Program}
 use Rattle.language.specs.Meaning.{type-number}
 use Rattle.layout.specs.Table.{put-row, put-function}
 use Rattle.layout.specs.declared.Held.{Held}
@@ -51,6 +51,11 @@ binary-kind and = AND
 binary-kind or = OR
 binary-kind assign = BECOMES
 
+-- that of a `for` tells whether its end is a pass too
+unfoldable pub range-kind : Bool → ℕ
+range-kind false = UPTO
+range-kind true = THROUGH
+
 -- ---- how many rows
 
 -- those below the root of a tree; those of a list of arguments
@@ -67,6 +72,7 @@ unfoldable mutual
   below (bind i x e f) = below e + 1 + below f + 1
   below (branch i c e f) = below c + 1 + below e + 1 + below f + 1
   below (loop i c e) = below c + 1 + below e + 1
+  below (counted i x b es e) = under es + below e + 1
 
   pub under : Exps → ℕ
   under last = 0
@@ -79,7 +85,7 @@ head f (more e es) = f + below e + 1 + under es
 
 -- ---- trees
 
--- An argument's row has its call's token, its expression's row and the next argument's.
+-- An argument's row has the token of its call or its `for`, its expression's row and the next argument's.
 unfoldable mutual
   pub lay : List ℕ → ℕ → Exp → List ℕ
   lay w f (name i x) = put-row w f NAME i 0 0 0
@@ -104,6 +110,9 @@ unfoldable mutual
   lay w f (loop i c e) =
       put-row (lay (lay w f c) (f + below c + 1) e) (f + below c + 1 + below e + 1) WHILE i (f + below c)
       (f + below c + 1 + below e) 0
+  lay w f (counted i x b es e) =
+      put-row (lay (lay-all w f i es) (f + under es) e) (f + under es + below e + 1) (range-kind b) i (head f es)
+      (f + under es + below e) 0
 
   pub lay-all : List ℕ → ℕ → ℕ → Exps → List ℕ
   lay-all w f i last = w

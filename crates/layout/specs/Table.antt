@@ -35,6 +35,13 @@ SECOND = 3
 abbrev pub THIRD : ℕ
 THIRD = 4
 
+-- of a `for` the first of its bounds, which are arguments, and its body
+abbrev pub START : ℕ
+START = 2
+
+abbrev pub PASS : ℕ
+PASS = 3
+
 -- of an argument its expression and the next argument
 abbrev pub EXPRESSION : ℕ
 EXPRESSION = 2

@@ -7,7 +7,8 @@ ghost use Rattle.layout.specs.Table.{row-word, put-row};
 use crate::ROWS_AT;
 
 // The kinds of rows. A node's is the kind of its own token, and PREFIX more for an operator before its
-// operand; a call, an argument and a parameter, whose own token is a name, have one to themselves.
+// operand; a call, an argument and a parameter, whose own token is a name, have one to themselves, and a
+// `for` has that of the mark between its start and its end.
 pub const PREFIX: u32 = 64;
 
 pub const CALL: u32 = 40;
@@ -28,7 +29,12 @@ pub const SECOND: usize = 3;
 
 pub const THIRD: usize = 4;
 
-// An argument, whose own token is the call's: its expression, and the next argument, 0 where it is the last.
+// A `for`: its start, and its body. Start, end and step are rows of arguments.
+pub const START: usize = 2;
+
+pub const PASS: usize = 3;
+
+// An argument, whose own token is the call's or the `for`'s: its expression, and the next argument, 0 where it is the last.
 pub const EXPRESSION: usize = 2;
 
 pub const NEXT: usize = 3;

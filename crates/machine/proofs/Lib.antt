@@ -1,6 +1,7 @@
 mod Applying
 mod CellLaws
 mod Computing
+mod Counters
 pub mod Keeping
 mod Literals
 mod Printing

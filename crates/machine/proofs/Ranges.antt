@@ -129,12 +129,16 @@ module _ (op : ℤ → ℤ → ℤ) (a b : ℤ) (fa : SFits w32 a) (fb : SFits w
   module _ (t : Bool)
       (e : t ≡ in-range (toZ w64 (ofZ w64 (op (toZ w64 (ofZ w64 (toZ w32 (ofZ w32 a)))) (toZ w64 (ofZ w64 (toZ w32 (ofZ w32 b))))))))
     where
-      plain : t ≡ in-range (op a b)
+      pub plain : t ≡ in-range (op a b)
       plain = rw (wide fa, wide fb, toZ-ofZ {w = w64} fw) at e
 
       -- in range, so it fits 32 bits
       pub op-32 : t ≡ true → SFits w32 (op (toZ w32 (ofZ w32 a)) (toZ w32 (ofZ w32 b)))
       op-32 h = rw (toZ-ofZ {w = w32} fa, toZ-ofZ {w = w32} fb) (fits-32 (op a b) (sym plain ∙ h))
+
+      -- in range, and the number
+      pub op-value : t ≡ true → toZ w32 (ofZ w32 (op (toZ w32 (ofZ w32 a)) (toZ w32 (ofZ w32 b)))) ≡ op a b
+      op-value h = rw (toZ-ofZ {w = w32} fa, toZ-ofZ {w = w32} fb, toZ-ofZ {w = w32} (fits-32 (op a b) (sym plain ∙ h))) refl
 
       -- in range, and the answer
       pub op-is : t ≡ true → Fitted (op a b) (Gives (Int (toZ w32 (ofZ w32 (op (toZ w32 (ofZ w32 a)) (toZ w32 (ofZ w32 b)))))))

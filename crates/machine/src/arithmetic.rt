@@ -14,7 +14,7 @@ const LOWEST: i64 = -2147483648;
 
 const HIGHEST: i64 = 2147483647;
 
-fn fits(x: i64) -> bool
+pub fn fits(x: i64) -> bool
     ensures { λ r. ⌜ r ≡ in-range x ⌝ }
 {
     if x < LOWEST {

@@ -4,6 +4,7 @@
 pub mod arithmetic;
 pub mod bindings;
 pub mod cells;
+pub mod counting;
 pub mod leaves;
 pub mod operands;
 pub mod operations;

@@ -2,7 +2,7 @@
 ghost use mathlib.Core.Path.{_≡_};
 ghost use Rattle.language.specs.State.{as-int, as-float, as-bool, as-cell};
 ghost use Rattle.layout.specs.Values.{meant};
-ghost use Rattle.machine.specs.Operands.{is-true, number-in, float-in, truth-in, cell-in};
+ghost use Rattle.machine.specs.Operands.{is-true, number-in, float-in, truth-in, cell-in, OfInt};
 use layout::values::Value;
 
 pub enum Number {
@@ -82,5 +82,19 @@ pub fn is_true(v: Value) -> bool
         Value::Flag(b) => b,
         Value::Nothing => false,
         Value::Cell(_) => false,
+    }
+}
+
+// The number that v is. A sheet that has a type asks for that of ints alone, so any answer will do where it
+// is none.
+pub fn int(v: Value) -> i32
+    ensures { λ r. ⌜ OfInt (meant v) (λ x. r ≡ x) ⌝ }
+{
+    match v {
+        Value::Int(z) => z,
+        Value::Float(_) => 0,
+        Value::Flag(_) => 0,
+        Value::Nothing => 0,
+        Value::Cell(_) => 0,
     }
 }

@@ -41,6 +41,7 @@ reason-of Faults.wrong-operand = Reason.WrongOperand
 reason-of Faults.wrong-operands = Reason.WrongOperands
 reason-of Faults.not-unit = Reason.NotUnit
 reason-of Faults.not-bool = Reason.NotBool
+reason-of Faults.not-int = Reason.NotInt
 reason-of Faults.branches-differ = Reason.BranchesDiffer
 reason-of Faults.wrong-body = Reason.WrongBody
 reason-of Faults.too-many-refs = Reason.TooManyRefs
@@ -58,6 +59,7 @@ reason-back Reason.WrongOperand = refl
 reason-back Reason.WrongOperands = refl
 reason-back Reason.NotUnit = refl
 reason-back Reason.NotBool = refl
+reason-back Reason.NotInt = refl
 reason-back Reason.BranchesDiffer = refl
 reason-back Reason.WrongBody = refl
 reason-back Reason.TooManyRefs = refl
@@ -75,6 +77,7 @@ same-reason r q e = sym (reason-back r) ∙ ap reason-of e ∙ reason-back q
 abbrev pub refusal-of : Numbers.Refusal → Refusal
 refusal-of Numbers.short-memory = Refusal.ShortMemory
 refusal-of Numbers.large-allowance = Refusal.LargeAllowance
+refusal-of Numbers.no-edition = Refusal.NoEdition
 refusal-of Numbers.long-source = Refusal.LongSource
 refusal-of (Numbers.text f) = Refusal.Text (flaw-of f)
 refusal-of Numbers.no-reading = Refusal.NoReading
@@ -84,6 +87,7 @@ refusal-of Numbers.long-text = Refusal.LongText
 pub refusal-back : (y : Refusal) → refusal-of (refusal-meant y) ≡ y
 refusal-back Refusal.ShortMemory = refl
 refusal-back Refusal.LargeAllowance = refl
+refusal-back Refusal.NoEdition = refl
 refusal-back Refusal.LongSource = refl
 refusal-back (Refusal.Text f) = ap Refusal.Text (flaw-back f)
 refusal-back Refusal.NoReading = refl
@@ -105,6 +109,7 @@ stop-of State.cell-freed = Stop.CellFreed
 stop-of State.cells-full = Stop.CellsFull
 stop-of State.not-a-byte = Stop.NotAByte
 stop-of State.output-full = Stop.OutputFull
+stop-of State.zero-step = Stop.ZeroStep
 
 pub stop-back : (s : Stop) → stop-of (stop-meant s) ≡ s
 stop-back Stop.NoUnit = refl
@@ -115,6 +120,7 @@ stop-back Stop.CellFreed = refl
 stop-back Stop.CellsFull = refl
 stop-back Stop.NotAByte = refl
 stop-back Stop.OutputFull = refl
+stop-back Stop.ZeroStep = refl
 
 -- two that mean the same are the same
 pub same-stop : (s w : Stop) → stop-meant s ≡ stop-meant w → s ≡ w

@@ -24,6 +24,7 @@ pub enum Reason {
     WrongOperands,
     NotUnit,
     NotBool,
+    NotInt,
     BranchesDiffer,
     WrongBody,
     TooManyRefs,
@@ -37,6 +38,7 @@ pub enum Reason {
 pub enum Refusal {
     ShortMemory,
     LargeAllowance,
+    NoEdition,
     LongSource,
     Text(Flaw),
     NoReading,
@@ -55,6 +57,7 @@ pub enum Stop {
     CellsFull,
     NotAByte,
     OutputFull,
+    ZeroStep,
 }
 
 pub fn of_flaw(flaw: Flaw) -> u32
@@ -85,6 +88,7 @@ pub fn of_reason(reason: Reason) -> u32
         Reason::WrongOperands => 33,
         Reason::NotUnit => 33,
         Reason::NotBool => 33,
+        Reason::NotInt => 33,
         Reason::BranchesDiffer => 33,
         Reason::WrongBody => 33,
         Reason::TooManyRefs => 34,
@@ -97,6 +101,7 @@ pub fn of_refusal(refusal: Refusal) -> u32
     match refusal {
         Refusal::ShortMemory => 40,
         Refusal::LargeAllowance => 41,
+        Refusal::NoEdition => 42,
         Refusal::LongSource => 10,
         Refusal::Text(flaw) => of_flaw(flaw),
         Refusal::NoReading => 20,
@@ -117,5 +122,6 @@ pub fn of_stop(stop: Stop) -> u32
         Stop::CellsFull => 55,
         Stop::NotAByte => 56,
         Stop::OutputFull => 57,
+        Stop::ZeroStep => 58,
     }
 }

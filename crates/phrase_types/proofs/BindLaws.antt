@@ -11,25 +11,28 @@ use lib.ListN.{length}
 use borrow.Author.Tests.{eq-eqb, ne-eqb}
 use Rattle.language.specs.Sizes.{TOKENS, TABLE}
 use Rattle.language.specs.Tokens.{Token, entry, LET, spelling-at}
-use Rattle.language.specs.Trees.{Ty, last, more, push, nearest}
+use Rattle.language.specs.Trees.{Name, Ty, last, more, Scope, push, nearest}
+use Rattle.language.specs.Types.{Sig}
 use Rattle.language.specs.Faults as Faults
 use Rattle.language.specs.Meaning.{type-number}
 use Rattle.language.proofs.Executable.Checks.{Res, ok, bad, after-ok, after-bad}
 use Rattle.language.proofs.Executable.Checker.{infer, infers}
 use Rattle.layout.specs.Table.{KIND, OWN, FIRST, SECOND, EXPRESSION, NEXT, token-value, row-word, put-variable, without-variables}
 use Rattle.layout.specs.Rows.{CALL}
-use Rattle.layout.specs.Decode.{a-call, a-let, shape-of, children, build, tree-at, args-at, RightArgs}
+use Rattle.layout.specs.Decode.{a-call, a-let, shape-of, children, build, tree-at, args-at, Right, RightArgs}
 use Rattle.layout.specs.Names.{Named}
 use Rattle.layout.proofs.NameLaws.{named-at}
 use Rattle.layout.proofs.VariablesWords.{without-put-variable}
 use Rattle.numbers.specs.Meanings.{reason-meant}
-use Rattle.rules.specs.Sight.{callee-in, Means, wanted-in}
-use Rattle.rules.specs.Asked.{Children, AsksCall, suits}
+use Rattle.rules.specs.Sight.{Variables, InSight, callee-in, Means, expected-in}
+use Rattle.rules.specs.Asked.{Tells, Children, AsksCall, suits}
 use Rattle.phrase_types.specs.Inferred.{Kept, Told, ToldAll, TellsAll, tells-types, tells-wrong}
 use Rattle.numbers.specs.declared.Reason.{Reason}
 use Rattle.rules.specs.declared.Typing.{Typing}
 use Rattle.rules.specs.declared.Typing.the-variants as Typing
 use Rattle.rules.specs.declared.sight.Callee.{Callee}
+use Rattle.rules.specs.declared.sight.Taker.{Taker}
+use Rattle.rules.specs.declared.sight.Taker.the-variants as Taker
 use Rattle.phrase_types.specs.declared.expressions.Passed.{Passed}
 use Rattle.phrase_types.specs.declared.expressions.Passed.the-variants as Passed
 use Rattle.rules.proofs.TellLaws.{fault-is, type-told, fault-told, tells-from}
@@ -44,47 +47,56 @@ pub let-children : (k : ℕ) → k ≡ LET → Children k 2
 unfolding shape-of entry
 let-children k e s h = let d : some a-let ≡ some s = ap shape-of (sym e) ∙ h in let q : a-let ≡ s = cc in ap children q
 
-module _ {p w w′ : List ℕ} {node seen binds : ℕ} (same : p ≡ without-variables w′) (kept : Kept w w′ binds) (long : TABLE ≤ length w′)
+module _ {p w w′ : List ℕ} {seen binds : ℕ} (same : p ≡ without-variables w′) (kept : Kept w w′ binds) (long : TABLE ≤ length w′)
     (room : binds < TOKENS) where
-  -- its body's answer is its own, where the body sees what is bound
-  pub let-goes : {x n : ℕ} {r : Typing} → row-word p node KIND ≡ LET → x ≡ token-value p (row-word p node OWN + 1)
+  -- what is told of a part that sees one variable more
+  pub under-told : {x n j : ℕ} {r : Typing}
+      → Told (without-variables (put-variable w′ binds x n)) (put-variable w′ binds x n) j seen (binds + 1) r
+      → (ts : List Token) (depth f : ℕ) (Δ : Scope Sig) (Γ : Scope Ty) (y : Name) (t : Ty) → InSight ts depth p seen Δ → Variables ts w binds Γ
+      → Right f ts p j → Named ts x y → n ≡ type-number t → Tells r (infer Δ (tree-at f ts p j) (push y t Γ))
+  under-told {x} {n} {j} {r} g ts depth f Δ Γ y t sight scope whole named e =
+      let d : without-variables (put-variable w′ binds x n) ≡ p = without-put-variable w′ binds x n room ∙ sym same in
+      subst (λ (v : List ℕ). Told v (put-variable w′ binds x n) j seen (binds + 1) r) d g ts f Δ (push y t Γ) (record {
+        depth = depth;
+        sight = sight;
+        whole = whole;
+        scope = variables-put long room named e (variables-kept kept scope);
+      })
+
+  -- its body's answer is that of a `let`, where the body sees what is bound
+  pub let-goes : {node x n : ℕ} {r : Typing} → row-word p node KIND ≡ LET → x ≡ token-value p (row-word p node OWN + 1)
       → Told p w (row-word p node FIRST) seen binds (Typing.«Type» n)
       → Told (without-variables (put-variable w′ binds x n)) (put-variable w′ binds x n) (row-word p node SECOND) seen (binds + 1) r
       → Told p w node seen binds r
   unfolding infer build shape-of entry
-  let-goes {x} {n} {r} k ex h g =
+  let-goes {node} {x} k ex h g =
       told-shape a-let (ap shape-of k) λ ts f Δ Γ st nd.
       let y = spelling-at ts (row-word p node OWN + 1) in
       let a = let-children _ k (nd .shape) (nd .known) in
       let q = type-told (h ts f Δ Γ (stands-child st (nd .first (omega arith) .1))) in
       let nm = subst (λ (z : ℕ). Named ts z y) (sym ex) (named-at (st .sight .stand) (row-word p node OWN + 1) (nd .bound k)) in
-      let e : without-variables (put-variable w′ binds x n) ≡ p = without-put-variable w′ binds x n room ∙ sym same in
-      let g′ = subst (λ (v : List ℕ). Told v (put-variable w′ binds x n) (row-word p node SECOND) seen (binds + 1) r) e g in
       tells-from (after-ok _ (q .1) refl)
-      (g′ ts f Δ (push y (q .0) Γ) (record {
-        depth = st .depth;
-        sight = st .sight;
-        whole = nd .second (omega arith) .1;
-        scope = variables-put long room nm (q .2) (variables-kept kept (st .scope));
-      }))
+      (under-told g ts (st .depth) f Δ Γ y (q .0) (st .sight) (st .scope) (nd .second (omega arith) .1) nm (q .2))
 
--- ---- arguments
+-- ---- lists
 
 -- an answer by its case, and back
-types-are : {w : List ℕ} {c : Callee} {k : ℕ} {b : Bool} {n : ℕ} {s : Bool} {x : Res (List Ty)} (ts : List Ty) → x ≡ ok ts
+types-are : {w : List ℕ} {c : Taker} {k : ℕ} {b : Bool} {n : ℕ} {s : Bool} {x : Res (List Ty)} (ts : List Ty) → x ≡ ok ts
     → n ≡ k + length ts
     → s ≡ (b && suits w c k ts) → TellsAll w c k b (Passed.Typed n s) x
 types-are {w} {c} {k} {b} {n} {s} ts e p q = subst (λ (x : Res (List Ty)). TellsAll w c k b (Passed.Typed n s) x) (sym e) (tells-types p q)
 
-wrong-is : {w : List ℕ} {c : Callee} {k : ℕ} {b : Bool} {r : Reason} {i : ℕ} {x : Res (List Ty)} → x ≡ bad (reason-meant r) i
+wrong-is : {w : List ℕ} {c : Taker} {k : ℕ} {b : Bool} {r : Reason} {i : ℕ} {x : Res (List Ty)} → x ≡ bad (reason-meant r) i
     → TellsAll w c k b (Passed.Wrong r i) x
 wrong-is {w} {c} {k} {b} {r} {i} e = subst (λ (x : Res (List Ty)). TellsAll w c k b (Passed.Wrong r i) x) (sym e) (tells-wrong refl)
 
-types-told : {w : List ℕ} {c : Callee} {k : ℕ} {b : Bool} {n : ℕ} {s : Bool} {x : Res (List Ty)} → TellsAll w c k b (Passed.Typed n s) x
+-- what was told
+pub types-told : {w : List ℕ} {c : Taker} {k : ℕ} {b : Bool} {n : ℕ} {s : Bool} {x : Res (List Ty)} → TellsAll w c k b (Passed.Typed n s) x
     → (ts : List Ty) × (x ≡ ok ts) × (n ≡ k + length ts) × (s ≡ (b && suits w c k ts))
 types-told (tells-types {ts = ts} p q) = (ts, refl, p, q)
 
-wrong-told : {w : List ℕ} {c : Callee} {k : ℕ} {b : Bool} {r : Reason} {i : ℕ} {x : Res (List Ty)}
+-- what was told
+pub wrong-told : {w : List ℕ} {c : Taker} {k : ℕ} {b : Bool} {r : Reason} {i : ℕ} {x : Res (List Ty)}
     → TellsAll w c k b (Passed.Wrong r i) x → x ≡ bad (reason-meant r) i
 wrong-told (tells-wrong {i = i} p) = ap (λ q. bad q i) (sym p)
 
@@ -108,8 +120,8 @@ unfolding args-at
 an-argument f ts p i h = rw (ne-eqb i 0 h) refl
 
 -- one more argument's answer with those of the later ones
-one-more : {w : List ℕ} {c : Callee} {k n v : ℕ} {b : Bool} {q : Passed} {x : Res (List Ty)} {t : Ty} → n ≡ type-number t
-    → v ≡ wanted-in w c k
+one-more : {w : List ℕ} {c : Taker} {k n v : ℕ} {b : Bool} {q : Passed} {x : Res (List Ty)} {t : Ty} → n ≡ type-number t
+    → v ≡ expected-in w c k
     → TellsAll w c (k + 1) (b && eqb n v) q x → {y : Res (List Ty)} → ((ts : List Ty) → x ≡ ok ts → y ≡ ok (t ∷ ts))
     → ((r : Faults.Reason) (i : ℕ) → x ≡ bad r i → y ≡ bad r i)
     → TellsAll w c k b q y
@@ -120,7 +132,7 @@ one-more {w} {c} {k} {n} {v} {b} {t = t} p o (tells-types {ts = ts} e d) f g =
     ∙ ap (λ (z : Bool). b && (z && suits w c (suc k) ts)) (ap₂ eqb p o))
 one-more p o (tells-wrong {q = r} {i = i} e) f g = wrong-is (g r i refl ∙ ap (λ r. bad r i) (sym e))
 
-module _ {p w : List ℕ} {row seen binds : ℕ} {c : Callee} {k : ℕ} {b : Bool} where
+module _ {p w : List ℕ} {row seen binds : ℕ} {c : Taker} {k : ℕ} {b : Bool} where
   -- no argument
   pub args-end : row ≡ 0 → ToldAll p w row seen binds c k b (Passed.Typed k b)
   unfolding infers suits
@@ -138,7 +150,7 @@ module _ {p w : List ℕ} {row seen binds : ℕ} {c : Callee} {k : ℕ} {b : Boo
         ∙ after-bad _ (fault-told (h ts f Δ Γ record { depth = st .depth; sight = st .sight; whole = a .exp .1; scope = st .scope })))
 
     -- the later ones' answer, with the first
-    pub args-go : {n v : ℕ} {q : Passed} → v ≡ wanted-in p c k → Told p w (row-word p row EXPRESSION) seen binds (Typing.«Type» n)
+    pub args-go : {n v : ℕ} {q : Passed} → v ≡ expected-in p c k → Told p w (row-word p row EXPRESSION) seen binds (Typing.«Type» n)
         → ToldAll p w (row-word p row NEXT) seen binds c (k + 1) (b && eqb n v) q → ToldAll p w row seen binds c k b q
     unfolding infers RightArgs
     args-go o h g ts zero Δ Γ st = absurd (some-row (st .whole))
@@ -153,7 +165,7 @@ module _ {p w : List ℕ} {row seen binds : ℕ} {c : Callee} {k : ℕ} {b : Boo
 
 module _ {p w : List ℕ} {node seen binds : ℕ} (kind : row-word p node KIND ≡ CALL) {c : Callee} where
   -- a fault of its arguments is the call's
-  pub call-stops : {r : Reason} {i : ℕ} → ToldAll p w (row-word p node FIRST) seen binds c 0 true (Passed.Wrong r i)
+  pub call-stops : {r : Reason} {i : ℕ} → ToldAll p w (row-word p node FIRST) seen binds (Taker.Call c) 0 true (Passed.Wrong r i)
       → Told p w node seen binds (Typing.Fault r i)
   unfolding infer build shape-of entry
   call-stops h =
@@ -164,7 +176,7 @@ module _ {p w : List ℕ} {node seen binds : ℕ} (kind : row-word p node KIND �
   -- and when all have types the call asks
   pub call-goes : {x n i : ℕ} {s : Bool} {r : Typing} → x ≡ token-value p (row-word p node OWN) → c ≡ callee-in p x seen
       → i ≡ row-word p node OWN
-      → ToldAll p w (row-word p node FIRST) seen binds c 0 true (Passed.Typed n s) → AsksCall p c n s i r → Told p w node seen binds r
+      → ToldAll p w (row-word p node FIRST) seen binds (Taker.Call c) 0 true (Passed.Typed n s) → AsksCall p c n s i r → Told p w node seen binds r
   unfolding build shape-of entry
   call-goes {x} {n} {s = s} {r = r} ex ec ei h asks =
       told-shape a-call (ap shape-of kind) λ ts f Δ Γ st nd.

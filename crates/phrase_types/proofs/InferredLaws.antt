@@ -11,18 +11,21 @@ use Rattle.language.specs.Tokens.{NAME, LET}
 use Rattle.layout.specs.Table.{KIND, OWN, FIRST, SECOND, THIRD, EXPRESSION, NEXT, token-value, row-word, put-variable, without-variables}
 use Rattle.layout.specs.Rows.{CALL}
 use Rattle.layout.proofs.VariablesWords.{token-without}
-use Rattle.rules.specs.Sight.{find-variable, callee-in, Rowed, wanted-in}
+use Rattle.layout.specs.Decode.{counts}
+use Rattle.rules.specs.Sight.{find-variable, callee-in, Rowed, expected-in}
 use Rattle.rules.specs.Asked.{Children, Constant, AsksOne, AsksTwo, AsksIf, AsksCall}
 use Rattle.phrase_types.specs.Inferred.{looked, Ready, Told, Inferred, ReadyAll, ToldAll, InferredAll}
 use Rattle.numbers.specs.declared.Reason.{Reason}
 use Rattle.rules.specs.declared.Typing.{Typing}
 use Rattle.rules.specs.declared.Typing.the-variants as Typing
 use Rattle.rules.specs.declared.sight.Callee.{Callee}
+use Rattle.rules.specs.declared.sight.Taker.{Taker}
+use Rattle.rules.specs.declared.sight.Taker.the-variants as Taker
 use Rattle.phrase_types.specs.declared.expressions.Passed.{Passed}
 use Rattle.phrase_types.specs.declared.expressions.Passed.the-variants as Passed
 use Rattle.phrase_types.proofs.KeptLaws.{kept-self, kept-then, kept-fewer, kept-put, told-before, told-all-before}
 use Rattle.phrase_types.proofs.ScopeLaws.{sight-headed}
-use Rattle.rules.proofs.PlainLaws.{callee-plain, rowed-plain, wanted-plain, asks-plain}
+use Rattle.rules.proofs.PlainLaws.{callee-plain, rowed-plain, expected-plain, asks-plain}
 use Rattle.phrase_types.proofs.NodeLaws.{first-stops, one-goes, second-stops, two-goes, then-stops, else-stops, if-goes, name-goes, constant-goes}
 use Rattle.phrase_types.proofs.BindLaws.{let-goes, args-end, args-stop, args-go, call-stops, call-goes}
 use Rattle.phrase_types.proofs.ReadyLaws.{ready-row, ready-binds, ready-name, ready-called, ready-bound, ready-args}
@@ -36,7 +39,8 @@ module _ {w : List ℕ} {node seen binds : ℕ} (r : Ready w node seen binds) wh
   abbrev p : List ℕ
   p = without-variables w
 
-  plain : (k : ℕ) {x : ℕ} → k < 5 → x ≡ row-word w node k → x ≡ row-word p node k
+  -- a word of its row
+  pub plain : (k : ℕ) {x : ℕ} → k < 5 → x ≡ row-word w node k → x ≡ row-word p node k
   plain k l e = e ∙ sym (ready-row r k l)
 
   children-plain : {m : ℕ} → Children (row-word w node KIND) m → Children (row-word p node KIND) m
@@ -62,13 +66,15 @@ module _ {w : List ℕ} {node seen binds : ℕ} (r : Ready w node seen binds) wh
       }
 
   -- a constant
-  pub constant-inferred : {k m n : ℕ} → k ≡ row-word w node KIND → (k ≡ NAME → ⊥) → (k ≡ CALL → ⊥) → Children k m → m ≡ 0 → Constant k n
+  pub constant-inferred : {k m n : ℕ} → k ≡ row-word w node KIND → (k ≡ NAME → ⊥) → (k ≡ CALL → ⊥) → (counts k ≡ true → ⊥)
+      → Children k m → m ≡ 0 → Constant k n
       → Inferred w w node seen binds (Typing.«Type» n)
-  constant-inferred {k} {n = n} ek nn nc has z c =
+  constant-inferred {k} {n = n} ek nn nc nf has z c =
       let e = plain 0 (omega arith) ek in
       record {
         kept = kept-self w binds;
-        right = constant-goes e (subst₂ (λ (k m : ℕ). Children k m) e z has) (λ d. nn (e ∙ d)) (λ d. nc (e ∙ d)) c;
+        right = constant-goes e (subst₂ (λ (k m : ℕ). Children k m) e z has) (λ d. nn (e ∙ d)) (λ d. nc (e ∙ d))
+            (λ d. nf (ap counts e ∙ d)) c;
       }
 
   -- ---- children
@@ -172,19 +178,19 @@ module _ {w : List ℕ} {node seen binds : ℕ} (r : Ready w node seen binds) wh
 
   module _ (kind : row-word w node KIND ≡ CALL) {x row : ℕ} {c : Callee} (ex : x ≡ token-value w (row-word w node OWN))
       (ec : c ≡ callee-in w x seen)
-      (er : row ≡ row-word w node FIRST) {w₁ : List ℕ} {s : Passed} (h : InferredAll w w₁ row seen binds c 0 true s) where
+      (er : row ≡ row-word w node FIRST) {w₁ : List ℕ} {s : Passed} (h : InferredAll w w₁ row seen binds (Taker.Call c) 0 true s) where
     kind-plain : row-word p node KIND ≡ CALL
     kind-plain = ready-row r 0 (omega arith) ∙ kind
 
-    args-told : {q : Passed} → s ≡ q → ToldAll p w (row-word p node FIRST) seen binds c 0 true q
-    args-told e = subst₂ (λ (s : Passed) (j : ℕ). ToldAll p w j seen binds c 0 true s) e (plain 2 (omega arith) er) (h .right)
+    args-told : {q : Passed} → s ≡ q → ToldAll p w (row-word p node FIRST) seen binds (Taker.Call c) 0 true q
+    args-told e = subst₂ (λ (s : Passed) (j : ℕ). ToldAll p w j seen binds (Taker.Call c) 0 true s) e (plain 2 (omega arith) er) (h .right)
 
     -- a fault of an argument
     pub arguments-inferred : {q : Reason} {i : ℕ} → s ≡ Passed.Wrong q i → Inferred w w₁ node seen binds (Typing.Fault q i)
     arguments-inferred e = record { kept = h .kept; right = call-stops kind-plain (args-told e) }
 
     rowed : Rowed (without-variables w₁) c
-    rowed = subst (λ (v : List ℕ). Rowed v c) (sym (h .kept .rest)) (ready-args r kind ex ec er .1 .callee)
+    rowed = subst (λ (v : List ℕ). Rowed v c) (sym (h .kept .rest)) (ready-args r kind ex ec er .1 .readable)
 
     -- what the callee wants can still be read
     pub callee-ready : (TABLE ≤ length w₁) × Rowed w₁ c
@@ -204,20 +210,20 @@ module _ {w : List ℕ} {node seen binds : ℕ} (r : Ready w node seen binds) wh
               (subst (λ (v : List ℕ). AsksCall v c n b i q) (h .kept .rest) (asks-plain w₁ c i rowed asks));
         }
 
--- ---- arguments
+-- ---- lists
 
 -- the same flag
-pub inferred-all-as : {w w′ : List ℕ} {row seen binds : ℕ} {c : Callee} {k : ℕ} {b d : Bool} {q : Passed} → b ≡ d
+pub inferred-all-as : {w w′ : List ℕ} {row seen binds : ℕ} {c : Taker} {k : ℕ} {b d : Bool} {q : Passed} → b ≡ d
     → InferredAll w w′ row seen binds c k b q
     → InferredAll w w′ row seen binds c k d q
 inferred-all-as {w} {w′} {row} {seen} {binds} {c} {k} {q = q} e h = subst (λ (b : Bool). InferredAll w w′ row seen binds c k b q) e h
 
--- no argument is left
-pub end-inferred : {w : List ℕ} {row seen binds : ℕ} {c : Callee} {k : ℕ} {b : Bool} → row ≡ 0
+-- no expression is left
+pub end-inferred : {w : List ℕ} {row seen binds : ℕ} {c : Taker} {k : ℕ} {b : Bool} → row ≡ 0
     → InferredAll w w row seen binds c k b (Passed.Typed k b)
 end-inferred {w} {binds = binds} e = record { kept = kept-self w binds; right = args-end e }
 
-module _ {w : List ℕ} {row seen binds : ℕ} {c : Callee} {k : ℕ} (r : ReadyAll w row seen binds c k) (some-row : row ≡ 0 → ⊥)
+module _ {w : List ℕ} {row seen binds : ℕ} {c : Taker} {k : ℕ} (r : ReadyAll w row seen binds c k) (some-row : row ≡ 0 → ⊥)
     {w₁ : List ℕ} {j : ℕ} {s : Typing} (ej : j ≡ row-word w row EXPRESSION) (h : Inferred w w₁ j seen binds s) where
   argument-told : {q : Typing} → s ≡ q → Told (without-variables w) w (row-word (without-variables w) row EXPRESSION) seen binds q
   argument-told {q} e =
@@ -228,14 +234,14 @@ module _ {w : List ℕ} {row seen binds : ℕ} {c : Callee} {k : ℕ} (r : Ready
   stop-inferred e = record { kept = h .kept; right = args-stop some-row (argument-told e) }
 
   -- the later arguments answer, with the first
-  pub more-inferred : {n v j₂ : ℕ} {w₂ : List ℕ} {b d : Bool} {q : Passed} → s ≡ Typing.«Type» n → v ≡ wanted-in w c k
+  pub more-inferred : {n v j₂ : ℕ} {w₂ : List ℕ} {b d : Bool} {q : Passed} → s ≡ Typing.«Type» n → v ≡ expected-in w c k
       → j₂ ≡ row-word w row NEXT → d ≡ (b && eqb n v)
       → InferredAll w₁ w₂ j₂ seen binds c (k + 1) d q → InferredAll w w₂ row seen binds c k b q
   more-inferred {n} {v} {b = b} {q = q} e ev ej₂ ed g =
       let a = told-all-before (h .kept) (inferred-all-as ed g .right) in
       record {
         kept = kept-then (h .kept) (g .kept);
-        right = args-go some-row (ev ∙ sym (wanted-plain w c k (r .callee))) (argument-told e)
+        right = args-go some-row (ev ∙ sym (expected-plain w c k (r .readable))) (argument-told e)
             (subst (λ (j : ℕ). ToldAll (without-variables w) w j seen binds c (k + 1) (b && eqb n v) q) (ej₂
             ∙ sym (args-row r some-row 3 (omega arith))) a);
       }

@@ -20,7 +20,7 @@ use Rattle.rules.specs.Sight.{Variables, variables-none, variables-more}
 use Rattle.rules.specs.Asked.{Tells}
 use Rattle.phrase_types.specs.Inferred.{Kept, Stands, Told, ToldAll, TellsAll}
 use Rattle.rules.specs.declared.Typing.{Typing}
-use Rattle.rules.specs.declared.sight.Callee.{Callee}
+use Rattle.rules.specs.declared.sight.Taker.{Taker}
 use Rattle.phrase_types.specs.declared.expressions.Passed.{Passed}
 
 -- nothing done
@@ -91,8 +91,8 @@ module _ {v w : List ℕ} {binds : ℕ} (k : Kept v w binds) where
   told-before {node} {r = r} h ts f Δ Γ st =
       subst (λ (p : List ℕ). Tells r (infer Δ (tree-at f ts p node) Γ)) (k .rest) (h ts f Δ Γ (stands-kept k st))
 
-  -- of arguments
-  pub told-all-before : {row seen n : ℕ} {c : Callee} {b : Bool} {r : Passed} → ToldAll (without-variables w) w row seen binds c n b r
+  -- of a list
+  pub told-all-before : {row seen n : ℕ} {c : Taker} {b : Bool} {r : Passed} → ToldAll (without-variables w) w row seen binds c n b r
       → ToldAll (without-variables v) v row seen binds c n b r
   told-all-before {row} {n = n} {c = c} {b = b} {r = r} h ts f Δ Γ st =
       subst (λ (p : List ℕ). TellsAll p c n b r (infers Δ (args-at f ts p row) Γ)) (k .rest) (h ts f Δ Γ (stands-kept k st))

@@ -6,3 +6,4 @@ mod BindLaws
 mod ReadyLaws
 mod ReadyArguments
 mod InferredLaws
+mod CountedLaws

@@ -1,5 +1,6 @@
 -- A node's answer from its children's, one law for each way through the code: a fault of a child is the node's, and when
 -- all children have types the node asks.
+use mathlib.Core.Bool.{true}
 use mathlib.Core.List.{List}
 use mathlib.Core.Option.{some}
 use mathlib.Core.Path.{_≡_, refl, sym, ap, subst, subst₂, _∙_}
@@ -14,7 +15,7 @@ use Rattle.language.proofs.Executable.Checker.{infer}
 use Rattle.layout.specs.Table.{KIND, OWN, FIRST, SECOND, THIRD, token-value, row-word}
 use Rattle.layout.specs.Rows.{CALL}
 use Rattle.layout.specs.Decode.{Shape, a-name, a-follow, a-group, a-block, a-call, a-let, an-if, a-while, a-unary}
-use Rattle.layout.specs.Decode.{a-binary, shape-of, children, build, build-if, tree-at, args-at, Node, Right, RightArgs}
+use Rattle.layout.specs.Decode.{a-binary, shape-of, children, counts, build, build-if, tree-at, args-at, Node, Right, RightArgs}
 use Rattle.layout.specs.Names.{Named}
 use Rattle.layout.proofs.NameLaws.{named-at}
 use Rattle.layout.proofs.Shapes.{shape-kind, kind-of-shape, Parted, is-follow, is-while, is-let, is-binary, is-if, parted}
@@ -69,6 +70,7 @@ module _ (ts : List Token) (Δ : Scope Sig) (Γ : Scope Ty) (i : ℕ) (a b c : E
   first-wrong an-if l h = fault-is (after-bad _ (fault-told h))
   first-wrong a-while l h = fault-is (after-bad _ (fault-told h))
   first-wrong (Shape.a-constant q) l h = absurd (omega arith)
+  first-wrong (Shape.a-for m) l h = absurd (omega arith)
   first-wrong (a-unary o) l h = fault-is (after-bad _ (fault-told h))
   first-wrong (a-binary o) l h = fault-is (after-bad _ (fault-told h))
 
@@ -216,10 +218,10 @@ module _ {p w : List ℕ} {node seen binds : ℕ} where
 
   -- a constant has its type
   pub constant-goes : {k n : ℕ} → k ≡ row-word p node KIND → Children (row-word p node KIND) 0 → (row-word p node KIND ≡ NAME → ⊥)
-      → (row-word p node KIND ≡ CALL → ⊥)
+      → (row-word p node KIND ≡ CALL → ⊥) → (counts (row-word p node KIND) ≡ true → ⊥)
       → Constant k n → Told p w node seen binds (Typing.«Type» n)
-  constant-goes {n = n} ek has nn nc c =
+  constant-goes {n = n} ek has nn nc nf c =
       told-node λ ts f Δ Γ st nd.
       let q = subst (λ (k : ℕ). Constant k n) ek c ts (nd .shape) Δ Γ (row-word p node OWN) _ _ _ _ (nd .known) (sym (has (nd .shape)
-      (nd .known))) nn nc in
+      (nd .known))) nn nc nf in
       type-is (q .0) (q .1) (q .2)

@@ -1,18 +1,17 @@
--- What a call on an argument, and on those behind it, asks, from what the list of arguments was given.
+-- What a call on an expression of a list, and on those behind it, asks, from what the list was given.
 use mathlib.Core.List.{List}
 use mathlib.Core.Path.{_≡_, sym, ap, subst, _∙_}
 use Prim.Native.Nat.{ℕ, zero, suc, _+_, _<_}
 use native.Mathlib.Omega.{arith}
-use lib.ListN.{length}
-use Rattle.language.specs.Sizes.{NODES, TABLE}
+use Rattle.language.specs.Sizes.{NODES}
 use Rattle.language.specs.Tokens.{Token}
 use Rattle.layout.specs.Table.{EXPRESSION, NEXT, row-word, without-variables}
 use Rattle.layout.specs.Rows.{below, under}
 use Rattle.layout.specs.Decode.{tree-at, args-at, Argument, Right, RightArgs}
 use Rattle.layout.proofs.VariablesWords.{row-without}
-use Rattle.rules.specs.Sight.{Rowed}
-use Rattle.rules.specs.declared.sight.Callee.{Callee}
-use Rattle.rules.proofs.PlainLaws.{rowed-plain}
+use Rattle.rules.specs.Sight.{Readable}
+use Rattle.rules.specs.declared.sight.Taker.{Taker}
+use Rattle.rules.proofs.PlainLaws.{readable-plain}
 use Rattle.phrase_types.specs.Inferred.{Kept, Ready, ReadyAll}
 use Rattle.phrase_types.proofs.KeptLaws.{stands-kept}
 use Rattle.phrase_types.proofs.BindLaws.{an-argument}
@@ -32,7 +31,7 @@ argued ts p row binds (suc f) n h l =
     let e = ap under (an-argument f ts p row n) in
     record { f = f; here = h n; first = omega arith; later = omega arith }
 
-module _ {w : List ℕ} {row seen binds : ℕ} {c : Callee} {k : ℕ} (r : ReadyAll w row seen binds c k) (n : row ≡ 0 → ⊥) where
+module _ {w : List ℕ} {row seen binds : ℕ} {c : Taker} {k : ℕ} (r : ReadyAll w row seen binds c k) (n : row ≡ 0 → ⊥) where
   abbrev pa : List ℕ
   pa = without-variables w
 
@@ -43,9 +42,9 @@ module _ {w : List ℕ} {row seen binds : ℕ} {c : Callee} {k : ℕ} (r : Ready
   pub args-inside : row < NODES
   args-inside = ready-argued .here .inside
 
-  -- the callee's parameters are rows
-  pub args-rowed : Rowed w c
-  args-rowed = rowed-plain w c (r .callee)
+  -- what is wanted of it can be read
+  pub args-readable : Readable w c
+  args-readable = readable-plain w c (r .readable)
 
   -- its row's words
   pub args-row : (i : ℕ) → i < 5 → row-word pa row i ≡ row-word w row i
@@ -82,7 +81,7 @@ module _ {w : List ℕ} {row seen binds : ℕ} {c : Callee} {k : ℕ} (r : Ready
           stands = stands-kept h record { depth = r .stands .depth; sight = r .stands .sight; whole = a .1; scope = r .stands .scope };
           room = subst (λ (v : List ℕ). binds + under (args-at (ready-argued .f) (r .tokens) v (row-word pa row NEXT)) < NODES) (sym
               (h .rest)) (ready-argued .later);
-          callee = subst (λ (v : List ℕ). Rowed v c) (sym (h .rest)) (r .callee);
+          readable = subst (λ (v : List ℕ). Readable v c) (sym (h .rest)) (r .readable);
           few = omega (arith, r .few, a .0);
         },
       )

@@ -1,4 +1,5 @@
 -- What a call on a part asks, from what its node was given.
+use mathlib.Core.Bool.{true}
 use mathlib.Core.List.{List}
 use mathlib.Core.Path.{_≡_, sym, ap, subst, subst₂, _∙_}
 use Prim.Native.Nat.{ℕ, zero, suc, _+_, _≤_, _<_}
@@ -6,25 +7,29 @@ use native.Mathlib.Omega.{arith}
 use lib.ListN.{length}
 use Rattle.language.specs.Sizes.{TOKENS, NODES, TABLE}
 use Rattle.language.specs.Tokens.{Token, entry, NAME, LET, At, spelling-at}
-use Rattle.language.specs.Trees.{Exp, Exps, push}
-use Rattle.layout.specs.Table.{KIND, OWN, FIRST, SECOND, THIRD, token-value, row-word, put-variable, without-variables}
+use Rattle.language.specs.Trees.{Name, Ty, Exp, Exps, push}
+use Rattle.language.specs.Meaning.{type-number}
+use Rattle.layout.specs.Table.{KIND, OWN, FIRST, SECOND, THIRD, START, PASS, token-value, row-word, put-variable, without-variables}
 use Rattle.layout.specs.Rows.{CALL, below, under}
 use Rattle.layout.specs.Decode.{Shape, a-name, a-number, a-float, a-follow, a-group, a-block, a-call, a-let, an-if, a-while, a-constant}
-use Rattle.layout.specs.Decode.{a-unary, a-binary, shape-of, children, build, tree-at, args-at, Node, Right, RightArgs}
+use Rattle.layout.specs.Decode.{a-unary, a-binary, a-for, shape-of, children, counts, build, tree-at, args-at, Node, Right, RightArgs}
 use Rattle.layout.specs.Names.{Named}
 use Rattle.layout.proofs.NameLaws.{named-at, name-inside}
 use Rattle.layout.proofs.VariablesWords.{row-without, token-without, length-put-variable, without-put-variable}
 use Rattle.layout.proofs.VariablesTrees.{right-inside}
 use Rattle.layout.specs.Functions.{Headed}
-use Rattle.rules.specs.Sight.{InSight, Rowed, callee-in}
+use Rattle.rules.specs.Sight.{InSight, Rowed, Readable, callee-in}
 use Rattle.rules.specs.Asked.{Children}
 use Rattle.phrase_types.specs.Inferred.{Kept, Ready, Told, ReadyAll}
 use Rattle.rules.specs.declared.Typing.the-variants as Typing
 use Rattle.rules.specs.declared.sight.Callee.{Callee}
+use Rattle.rules.specs.declared.sight.Taker.{Taker}
+use Rattle.rules.specs.declared.sight.Taker.the-variants as Taker
 use Rattle.rules.proofs.TellLaws.{type-told}
 use Rattle.phrase_types.proofs.KeptLaws.{stands-kept, variables-kept, variables-put}
 use Rattle.phrase_types.proofs.ScopeLaws.{sight-headed, callee-rowed}
 use Rattle.rules.proofs.PlainLaws.{headed-plain, callee-plain}
+use Rattle.rules.proofs.ShapeLaws.{for-shape}
 use Rattle.phrase_types.proofs.NodeLaws.{tree-is}
 use Rattle.phrase_types.proofs.BindLaws.{let-children}
 
@@ -46,20 +51,28 @@ below-parts ts a-while i a b c es = ((λ h. omega arith), (λ h. omega arith), �
 below-parts ts (a-constant l) i a b c es = ((λ h. omega arith), (λ h. omega arith), λ h. omega arith)
 below-parts ts (a-unary o) i a b c es = ((λ h. omega arith), (λ h. omega arith), λ h. omega arith)
 below-parts ts (a-binary o) i a b c es = ((λ h. omega arith), (λ h. omega arith), λ h. omega arith)
+below-parts ts (a-for m) i a b c es = ((λ h. omega arith), (λ h. omega arith), λ h. omega arith)
 
 -- a node that is ready, by its row: there is room for the variables of each part, and for one more
-record Parts (ts : List Token) (p : List ℕ) (node binds : ℕ) : Type 0 where
-  f : ℕ
-  row : Node (λ j. Right f ts p j) (λ j. RightArgs f ts p j) ts p node
-  first : 1 ≤ children (row .shape) → binds + 1 + below (tree-at f ts p (row-word p node FIRST)) < NODES
-  second : 2 ≤ children (row .shape) → binds + 1 + below (tree-at f ts p (row-word p node SECOND)) < NODES
-  third : 3 ≤ children (row .shape) → binds + 1 + below (tree-at f ts p (row-word p node THIRD)) < NODES
-  args : row-word p node KIND ≡ CALL → binds + under (args-at f ts p (row-word p node FIRST)) < NODES
+pub record Parts (ts : List Token) (p : List ℕ) (node binds : ℕ) : Type 0 where
+  pub f : ℕ
+  pub row : Node (λ j. Right f ts p j) (λ j. RightArgs f ts p j) ts p node
+  pub first : 1 ≤ children (row .shape) → binds + 1 + below (tree-at f ts p (row-word p node FIRST)) < NODES
+  pub second : 2 ≤ children (row .shape) → binds + 1 + below (tree-at f ts p (row-word p node SECOND)) < NODES
+  pub third : 3 ≤ children (row .shape) → binds + 1 + below (tree-at f ts p (row-word p node THIRD)) < NODES
+  pub args : row-word p node KIND ≡ CALL → binds + under (args-at f ts p (row-word p node FIRST)) < NODES
+  pub bounds : counts (row-word p node KIND) ≡ true → binds + under (args-at f ts p (row-word p node START)) < NODES
+  pub body : counts (row-word p node KIND) ≡ true → binds + 1 + below (tree-at f ts p (row-word p node PASS)) < NODES
 
 call-rows : (f : ℕ) (ts : List Token) (p : List ℕ) (node : ℕ) → row-word p node KIND ≡ CALL
     → below (tree-at (suc f) ts p node) ≡ under (args-at f ts p (row-word p node FIRST))
 unfolding below build shape-of entry
 call-rows f ts p node e = ap below (tree-is f ts p node a-call (ap shape-of e))
+
+for-rows : (f : ℕ) (ts : List Token) (p : List ℕ) (node : ℕ) → counts (row-word p node KIND) ≡ true
+    → below (tree-at (suc f) ts p node) ≡ under (args-at f ts p (row-word p node START)) + below (tree-at f ts p (row-word p node PASS)) + 1
+unfolding below build
+for-rows f ts p node e = let s = for-shape _ e in ap below (tree-is f ts p node (a-for (s .0)) (s .1))
 
 parts : (ts : List Token) (p : List ℕ) (node binds f : ℕ) → Right f ts p node → binds + below (tree-at f ts p node) < NODES
     → Parts ts p node binds
@@ -81,13 +94,16 @@ parts ts p node binds (suc f) h l =
       second = λ k. omega (arith, q .1 k);
       third = λ k. omega (arith, q .2 k);
       args = λ k. omega (arith, call-rows f ts p node k);
+      bounds = λ k. omega (arith, for-rows f ts p node k);
+      body = λ k. omega (arith, for-rows f ts p node k);
     }
 
 module _ {w : List ℕ} {node seen binds : ℕ} (r : Ready w node seen binds) where
   abbrev p : List ℕ
   p = without-variables w
 
-  ready-parts : Parts (r .tokens) p node binds
+  -- its parts
+  pub ready-parts : Parts (r .tokens) p node binds
   ready-parts = parts (r .tokens) p node binds (r .depth) (r .stands .whole) (r .room)
 
   -- its row is one of the rows
@@ -115,10 +131,20 @@ module _ {w : List ℕ} {node seen binds : ℕ} (r : Ready w node seen binds) wh
   ready-called e = let a = token-few _ (ready-parts .row .called (ready-row 0 (omega arith)
       ∙ e)) in let b = ready-row 1 (omega arith) in omega arith
 
+  ready-behind : At (r .tokens) (row-word p node OWN + 1) NAME → row-word w node OWN + 1 < TOKENS
+  ready-behind h = let a = token-few _ h in let b = ready-row 1 (omega arith) in omega arith
+
   -- of what a `let` binds
   pub ready-bound : row-word w node KIND ≡ LET → row-word w node OWN + 1 < TOKENS
-  ready-bound e = let a = token-few _ (ready-parts .row .bound (ready-row 0 (omega arith)
-      ∙ e)) in let b = ready-row 1 (omega arith) in omega arith
+  ready-bound e = ready-behind (ready-parts .row .bound (ready-row 0 (omega arith) ∙ e))
+
+  -- a row that is a `for`
+  pub ready-counts : counts (row-word w node KIND) ≡ true → counts (row-word p node KIND) ≡ true
+  ready-counts e = ap counts (ready-row 0 (omega arith)) ∙ e
+
+  -- and the token of its name
+  pub ready-looped : counts (row-word w node KIND) ≡ true → row-word w node OWN + 1 < TOKENS
+  ready-looped e = ready-behind (ready-parts .row .loops (ready-counts e) .named)
 
   -- a name's number, by its token
   pub called-number : {token x : ℕ} → token ≡ row-word w node OWN → x ≡ token-value w token → x ≡ token-value w (row-word w node OWN)
@@ -177,53 +203,74 @@ module _ {w : List ℕ} {node seen binds : ℕ} (r : Ready w node seen binds) wh
           let d : 3 ≤ children (ready-parts .row .shape) = let q = count in omega arith in
           child 4 (ready-row 4 (omega arith) ∙ sym e) (ready-parts .row .third d) (ready-parts .third d)
 
-    -- what a `let` binds, by its name's number
-    bound-named : {x : ℕ} → row-word w node KIND ≡ LET → x ≡ token-value w (row-word w node OWN + 1)
+    -- and one that sees a variable more
+    pub ready-with : {x n : ℕ} {y : Name} (t : Ty) (f j : ℕ) → Named (r .tokens) x y → n ≡ type-number t → Right f (r .tokens) p j
+        → binds + 1 + below (tree-at f (r .tokens) p j) < NODES → Ready (put-variable w′ binds x n) j seen (binds + 1)
+    ready-with {x} {n} {y} t f j named en h l =
+        let long : TABLE ≤ length w′ = omega (arith, r .long, k .long) in
+        let e : without-variables (put-variable w′ binds x n) ≡ p = without-put-variable w′ binds x n ready-binds ∙ k .rest in
+        let g = length-put-variable w′ binds x n in
+        record {
+          tokens = r .tokens;
+          depth = f;
+          functions = r .functions;
+          variables = push y t (r .variables);
+          long = omega arith;
+          stands = record {
+            depth = r .stands .depth;
+            sight = subst (λ (v : List ℕ). InSight (r .tokens) (r .stands .depth) v seen (r .functions)) (sym e) (r .stands .sight);
+            whole = subst (λ (v : List ℕ). Right f (r .tokens) v j) (sym e) h;
+            scope = variables-put long ready-binds named en (variables-kept k (r .stands .scope));
+          };
+          room = subst (λ (v : List ℕ). binds + 1 + below (tree-at f (r .tokens) v j) < NODES) (sym e) l;
+        }
+
+    -- the name behind its token, by its number
+    pub behind-named : {x : ℕ} → At (r .tokens) (row-word p node OWN + 1) NAME → x ≡ token-value w (row-word w node OWN + 1)
         → Named (r .tokens) x (spelling-at (r .tokens) (row-word p node OWN + 1))
-    bound-named {x} kind ex =
-        let l = ready-bound kind in
+    behind-named {x} at ex =
+        let l = ready-behind at in
         let e : token-value p (row-word p node OWN + 1) ≡ x =
         ap (λ (i : ℕ). token-value p (i + 1)) (ready-row 1 (omega arith)) ∙ token-without w (row-word w node OWN + 1) 3 l (omega arith)
         ∙ sym ex in
         subst (λ (z : ℕ). Named (r .tokens) z (spelling-at (r .tokens) (row-word p node OWN + 1))) e
-        (named-at (r .stands .sight .stand) (row-word p node OWN + 1) (ready-parts .row .bound (ready-row 0 (omega arith) ∙ kind)))
+        (named-at (r .stands .sight .stand) (row-word p node OWN + 1) at)
 
-    -- its body can be checked, with one variable more
+    -- the body of a `let` can be checked
     pub ready-body : {x n j : ℕ} {v : List ℕ} → row-word w node KIND ≡ LET → x ≡ token-value w (row-word w node OWN + 1)
         → Told p w (row-word p node FIRST) seen binds (Typing.«Type» n) → v ≡ put-variable w′ binds x n → j ≡ row-word w node SECOND
         → (j < node) × Ready v j seen (binds + 1)
     ready-body {x} {n} kind ex h ev ej =
         let c = ready-parts in
-        let a : 2 ≡ children (c .row .shape) = let-children _ (ready-row 0 (omega arith) ∙ kind) (c .row .shape) (c .row .known) in
+        let e = ready-row 0 (omega arith) ∙ kind in
+        let a : 2 ≡ children (c .row .shape) = let-children _ e (c .row .shape) (c .row .known) in
         let d : 2 ≤ children (c .row .shape) = omega arith in
         let q = type-told (h (r .tokens) (c .f) (r .functions) (r .variables)
         record { depth = r .stands .depth; sight = r .stands .sight; whole = c .row .first (omega arith) .1; scope = r .stands .scope }) in
-        let long : TABLE ≤ length w′ = omega (arith, r .long, k .long) in
-        let e : without-variables (put-variable w′ binds x n) ≡ p = without-put-variable w′ binds x n ready-binds ∙ k .rest in
-        let g = length-put-variable w′ binds x n in
         subst₂ (λ (v : List ℕ) (j : ℕ). (j < node) × Ready v j seen (binds + 1)) (sym ev) (ready-row 3 (omega arith) ∙ sym ej) (
           c .row .second d .0,
-          record {
-            tokens = r .tokens;
-            depth = c .f;
-            functions = r .functions;
-            variables = push (spelling-at (r .tokens) (row-word p node OWN + 1)) (q .0) (r .variables);
-            long = omega arith;
-            stands = record {
-              depth = r .stands .depth;
-              sight = subst (λ (v : List ℕ). InSight (r .tokens) (r .stands .depth) v seen (r .functions)) (sym e) (r .stands .sight);
-              whole = subst (λ (v : List ℕ). Right (c .f) (r .tokens) v (row-word p node SECOND)) (sym e) (c .row .second d .1);
-              scope = variables-put long ready-binds (bound-named kind ex) (q .2) (variables-kept k (r .stands .scope));
-            };
-            room = subst (λ (v : List ℕ). binds + 1 + below (tree-at (c .f) (r .tokens) v (row-word p node SECOND)) < NODES) (sym e)
-                (c .second d);
-          },
+          ready-with (q .0) (c .f) _ (behind-named (c .row .bound e) ex) (q .2) (c .row .second d .1) (c .second d),
         )
 
-  -- the arguments of a call can be checked
+  -- a list can be checked
+  pub ready-list : {c : Taker} (f j : ℕ) → j ≤ node → RightArgs f (r .tokens) p j → binds + under (args-at f (r .tokens) p j) < NODES
+      → Readable p c → ReadyAll w j seen binds c 0
+  ready-list f j m h l a = record {
+    tokens = r .tokens;
+    depth = f;
+    functions = r .functions;
+    variables = r .variables;
+    long = r .long;
+    stands = record { depth = r .stands .depth; sight = r .stands .sight; whole = h; scope = r .stands .scope };
+    room = l;
+    readable = a;
+    few = let i = ready-inside in omega arith;
+  }
+
+  -- the arguments of a call
   pub ready-args : {x row : ℕ} {c : Callee} → row-word w node KIND ≡ CALL → x ≡ token-value w (row-word w node OWN)
       → c ≡ callee-in w x seen → row ≡ row-word w node FIRST
-      → (row ≤ node) × ReadyAll w row seen binds c 0
+      → (row ≤ node) × ReadyAll w row seen binds (Taker.Call c) 0
   ready-args {x} {c = c} kind ex ec er =
       let q = ready-parts in
       let k = ready-row 0 (omega arith) ∙ kind in
@@ -233,18 +280,7 @@ module _ {w : List ℕ} {node seen binds : ℕ} (r : Ready w node seen binds) wh
       let nm = subst (λ (z : ℕ). Named (r .tokens) z (spelling-at (r .tokens) (row-word p node OWN))) e
       (named-at (r .stands .sight .stand) (row-word p node OWN) (q .row .called k)) in
       let h = q .row .args k in
-      subst (λ (row : ℕ). (row ≤ node) × ReadyAll w row seen binds c 0) (ready-row 2 (omega arith) ∙ sym er) (
-        h .0,
-        record {
-          tokens = r .tokens;
-          depth = q .f;
-          functions = r .functions;
-          variables = r .variables;
-          long = r .long;
-          stands = record { depth = r .stands .depth; sight = r .stands .sight; whole = h .1; scope = r .stands .scope };
-          room = q .args k;
-          callee = subst (λ (c : Callee). Rowed p c) (callee-plain w x seen (sight-headed (r .stands .sight))
-              ∙ sym ec) (callee-rowed (r .stands .sight) nm);
-          few = let i = ready-inside in omega (arith, h .0);
-        },
-      )
+      let a = subst (λ (c : Callee). Rowed p c) (callee-plain w x seen (sight-headed (r .stands .sight)) ∙ sym ec)
+      (callee-rowed (r .stands .sight) nm) in
+      subst (λ (row : ℕ). (row ≤ node) × ReadyAll w row seen binds (Taker.Call c) 0) (ready-row 2 (omega arith) ∙ sym er)
+      (h .0, ready-list (q .f) _ (h .0) (h .1) (q .args k) a)

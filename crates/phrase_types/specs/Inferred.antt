@@ -1,4 +1,4 @@
--- What the functions that call each other ask and promise: the answer of a node, and of a list of arguments, is what
+-- What the functions that call each other ask and promise: the answer of a node, and of a list of expressions, is what
 -- the executable checker of the language answers, whatever the words stand for.
 use mathlib.Core.Bool.{Bool, _&&_}
 use mathlib.Core.List.{List}
@@ -17,13 +17,13 @@ use Rattle.layout.specs.Table.{OWN, token-value, row-word, variable-name, varia
 use Rattle.layout.specs.Rows.{below, under}
 use Rattle.layout.specs.Decode.{tree-at, args-at, Right, RightArgs}
 use Rattle.numbers.specs.Meanings.{reason-meant}
-use Rattle.rules.specs.Sight.{Variables, find-variable, InSight, Rowed}
+use Rattle.rules.specs.Sight.{Variables, find-variable, InSight, Readable}
 use Rattle.rules.specs.Asked.{Tells, suits}
 use Rattle.numbers.specs.declared.Reason.{Reason}
 use Rattle.numbers.specs.declared.Reason.the-variants.{NoBinding}
 use Rattle.rules.specs.declared.Typing.{Typing}
 use Rattle.rules.specs.declared.Typing.the-variants as Typing
-use Rattle.rules.specs.declared.sight.Callee.{Callee}
+use Rattle.rules.specs.declared.sight.Taker.{Taker}
 use Rattle.phrase_types.specs.declared.expressions.Passed.{Passed}
 use Rattle.phrase_types.specs.declared.expressions.Passed.the-variants as Passed
 
@@ -75,18 +75,18 @@ looked none i = Typing.Fault NoBinding i
 abbrev pub name-answer : List ℕ → ℕ → ℕ → Typing
 name-answer w node binds = looked (find-variable w (token-value w (row-word w node OWN)) binds) (row-word w node OWN)
 
--- ---- arguments
+-- ---- lists: the arguments of a call, the bounds of a `for`
 
--- Of arguments of the callee c, k of which come before: how many there are with those, and whether they suit, as those
+-- Of expressions that c takes, k of which come before: how many there are with those, and whether they suit, as those
 -- did or did not (b).
-pub data TellsAll (w : List ℕ) (c : Callee) (k : ℕ) (b : Bool) : Passed → Res (List Ty) → Type 0 where
+pub data TellsAll (w : List ℕ) (c : Taker) (k : ℕ) (b : Bool) : Passed → Res (List Ty) → Type 0 where
   tells-types : {n : ℕ} {s : Bool} {ts : List Ty} → n ≡ k + length ts → s ≡ (b && suits w c k ts)
       → TellsAll w c k b (Passed.Typed n s) (ok ts)
   tells-wrong : {r : Reason} {q : Faults.Reason} {i : ℕ} → reason-meant r ≡ q
       → TellsAll w c k b (Passed.Wrong r i) (bad q i)
 
--- arguments can be checked, k of the callee's before them
-pub record ReadyAll (w : List ℕ) (row seen binds : ℕ) (c : Callee) (k : ℕ) : Type 0 where
+-- they can be checked, k of the list's before them
+pub record ReadyAll (w : List ℕ) (row seen binds : ℕ) (c : Taker) (k : ℕ) : Type 0 where
   pub tokens : List Token
   pub depth : ℕ
   pub functions : Scope Sig
@@ -94,16 +94,16 @@ pub record ReadyAll (w : List ℕ) (row seen binds : ℕ) (c : Callee) (k : ℕ)
   pub long : TABLE ≤ length w
   pub stands : Stands RightArgs (without-variables w) w row seen binds tokens depth functions variables
   pub room : binds + under (args-at depth tokens (without-variables w) row) < NODES
-  pub callee : Rowed (without-variables w) c
+  pub readable : Readable (without-variables w) c
   pub few : k + row < NODES
 
 -- their answer is the written checker's
-abbrev pub ToldAll : List ℕ → List ℕ → ℕ → ℕ → ℕ → Callee → ℕ → Bool → Passed → Type 0
+abbrev pub ToldAll : List ℕ → List ℕ → ℕ → ℕ → ℕ → Taker → ℕ → Bool → Passed → Type 0
 ToldAll p w row seen binds c k b r =
     (ts : List Token) (f : ℕ) (Δ : Scope Sig) (Γ : Scope Ty) → Stands RightArgs p w row seen binds ts f Δ Γ
     → TellsAll p c k b r (infers Δ (args-at f ts p row) Γ)
 
 -- what is left and what is told
-pub record InferredAll (w w′ : List ℕ) (row seen binds : ℕ) (c : Callee) (k : ℕ) (b : Bool) (r : Passed) : Type 0 where
+pub record InferredAll (w w′ : List ℕ) (row seen binds : ℕ) (c : Taker) (k : ℕ) (b : Bool) (r : Passed) : Type 0 where
   pub kept : Kept w w′ binds
   pub right : ToldAll (without-variables w) w row seen binds c k b r

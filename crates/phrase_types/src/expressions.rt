@@ -3,26 +3,29 @@
 ghost use mathlib.Core.Path.{_≡_};
 ghost use Prim.Native.Nat.{_+_, _≤_, _<_};
 ghost use lib.ListN.{length};
-ghost use mathlib.Core.Bool.{_&&_};
+ghost use mathlib.Core.Bool.{true, _&&_};
 ghost use lib.Dec.{eqb};
 ghost use Rattle.language.specs.Sizes.{TOKENS, NODES, TABLE};
 ghost use Rattle.language.specs.Tokens.{LET};
 ghost use Rattle.layout.specs.Table.{KIND, OWN, row-word};
 ghost use Rattle.layout.specs.Rows.{CALL};
+ghost use Rattle.layout.specs.Decode.{counts};
 ghost use Rattle.rules.specs.Asked.{Children};
 ghost use Rattle.phrase_types.specs.Inferred.{name-answer, Ready, Inferred, ReadyAll, InferredAll};
 use language::kinds;
 use layout::rows;
 use layout::token;
+use layout::types;
 use layout::variables;
 use numbers::Reason;
 use rules::Typing;
 use rules::operators;
 use rules::sight;
-use rules::sight::Callee;
 use rules::sight::Found;
+use rules::sight::Taker;
 
-// The arguments of a call: how many, and whether each has the type that the callee wants of it.
+// The expressions of a list, which are the arguments of a call or the bounds of a `for`: how many, and whether
+// each has the type that is wanted of it.
 pub enum Passed {
     Typed(usize, bool),
     Wrong(Reason, u32),
@@ -58,6 +61,9 @@ pub fn type_at(table: &mut [u32], node: usize, seen: usize, binds: usize) -> Typ
     }
     if kind == kinds::LET {
         return bind(table, node, seen, binds);
+    }
+    if operators::counts(kind) {
+        return counted(table, node, seen, binds);
     }
     let count = operators::children(kind);
     if count == 0 {
@@ -129,6 +135,30 @@ fn bind(table: &mut [u32], node: usize, seen: usize, binds: usize) -> Typing
     }
 }
 
+// `for` types its bounds, and its body with its name in sight, which is an int, before it asks.
+fn counted(table: &mut [u32], node: usize, seen: usize, binds: usize) -> Typing
+    requires { ⌜ Ready (now table) node seen binds × (counts (row-word (now table) node KIND) ≡ true) ⌝ }
+    ensures { λ r. ⌜ Inferred (now (table .entry)) (now (table .exit)) node seen binds r ⌝ }
+{
+    let at = rows::word(table, node, rows::OWN);
+    let token = rows::link(table, node, rows::OWN);
+    let number = token::value(table, token + 1);
+    let start = rows::link(table, node, rows::START);
+    let body = rows::link(table, node, rows::PASS);
+    let bounds = arguments(table, start, seen, binds, Taker::For, 0, true);
+    match bounds {
+        Passed::Wrong(r, i) => Typing::Fault(r, i),
+        Passed::Typed(n, ints) => {
+            variables::put(table, binds, number, types::INT);
+            let pass = type_at(table, body, seen, binds + 1);
+            match pass {
+                Typing::Fault(r, i) => Typing::Fault(r, i),
+                Typing::Type(t) => operators::counted(n, ints, t, at),
+            }
+        }
+    }
+}
+
 // `if`, its condition and its branches.
 fn branch(table: &mut [u32], node: usize, seen: usize, binds: usize) -> Typing
     requires { ⌜ Ready (now table) node seen binds × Children (row-word (now table) node KIND) 3 ⌝ }
@@ -167,7 +197,7 @@ fn call(table: &mut [u32], node: usize, seen: usize, binds: usize) -> Typing
     let number = token::value(table, token);
     let callee = sight::called(table, seen, number);
     let row = rows::link(table, node, rows::FIRST);
-    let passed = arguments(table, row, seen, binds, callee, 0, true);
+    let passed = arguments(table, row, seen, binds, Taker::Call(callee), 0, true);
     match passed {
         Passed::Wrong(r, i) => Typing::Fault(r, i),
         Passed::Typed(n, suited) => operators::call(table, callee, n, suited, at),
@@ -184,31 +214,31 @@ fn still(suited: bool, found: u32, wanted: u32) -> bool
     false
 }
 
-// The arguments from row `row` on, the first of which is the callee's argument k.
+// The expressions of a list from row `row` on, the first of which is its expression k.
 fn arguments(
     table: &mut [u32],
     row: usize,
     seen: usize,
     binds: usize,
-    callee: Callee,
+    taker: Taker,
     k: usize,
     suited: bool,
 ) -> Passed
-    requires { ⌜ ReadyAll (now table) row seen binds callee k ⌝ }
-    ensures { λ r. ⌜ InferredAll (now (table .entry)) (now (table .exit)) row seen binds callee k suited r ⌝ }
+    requires { ⌜ ReadyAll (now table) row seen binds taker k ⌝ }
+    ensures { λ r. ⌜ InferredAll (now (table .entry)) (now (table .exit)) row seen binds taker k suited r ⌝ }
 {
     if row == 0 {
         return Passed::Typed(k, suited);
     }
     let child = rows::link(table, row, rows::EXPRESSION);
     let next = rows::link(table, row, rows::NEXT);
-    let wanted = sight::wanted(table, callee, k);
+    let wanted = sight::expected(table, taker, k);
     let first = type_at(table, child, seen, binds);
     match first {
         Typing::Fault(r, i) => Passed::Wrong(r, i),
         Typing::Type(t) => {
             let suits = still(suited, t, wanted);
-            arguments(table, next, seen, binds, callee, k + 1, suits)
+            arguments(table, next, seen, binds, taker, k + 1, suits)
         }
     }
 }

@@ -4,7 +4,7 @@ use mathlib.Core.Path.{_≡_, refl, ap, subst, _∙_}
 use Prim.Native.Nat.{ℕ, _+_, _<_}
 use native.Mathlib.Omega.{arith}
 use Rattle.language.specs.Tokens.{NAME, COMMA, LPAR, RPAR, spelling-at}
-use Rattle.language.specs.Trees.{name, call, Exps, last, more}
+use Rattle.language.specs.Trees.{name, call, last}
 use Rattle.language.specs.Grammar.{atom}
 use Rattle.language.proofs.Executable.Parses.{got}
 use Rattle.language.proofs.Executable.Parser.{read}
@@ -12,10 +12,11 @@ use Rattle.language.proofs.Executable.Settles.{Settles}
 use Rattle.language.proofs.Executable.SettlesExpressions as S
 use Rattle.layout.specs.Table.{kind-of, put-row}
 use Rattle.layout.specs.Rows.{CALL, ARGUMENT, below, under, head, lay, lay-all}
-use Rattle.phrases.specs.Parts.{Told, Yields, YieldsAll, Written, Topped, Seq, Atom, Closed}
+use Rattle.phrases.specs.Parts.{Yields, YieldsAll, Written, Topped, Seq, Atom, Closed}
 use Rattle.phrases.specs.declared.parts.Part.{Part}
 use Rattle.phrases.proofs.Standing.{at, not-at}
 use Rattle.phrases.proofs.Answering.{after, single}
+use Rattle.phrases.proofs.Listing.{lists-last, lists-more}
 
 -- ---- a name, and a call
 
@@ -72,11 +73,6 @@ module _ {count n f : ℕ} {w w₁ : List ℕ} (h : kind-of w count n ≡ NAME) 
 
 -- ---- the arguments of the call at token i
 
--- an answer that is known
-pub known-all : {T : Told Exps} {i count n f : ℕ} {w w′ : List ℕ} {g h : Part} → YieldsAll T i count w n f g w′ → g ≡ h
-    → YieldsAll T i count w n f h w′
-known-all {T} {i} {count} {n} {f} {w} {w′} a e = subst (λ (x : Part). YieldsAll T i count w n f x w′) e a
-
 module _ {count n f i : ℕ} {w w₁ : List ℕ} where
   -- no first argument
   pub args-none : {e : ℕ} → Yields (Seq n) count w n f (Part.None e) w₁ → YieldsAll (Closed n) i count w n f (Part.None e) w₁
@@ -94,49 +90,14 @@ module _ {count n f i : ℕ} {w w₁ : List ℕ} where
     -- the last argument
     pub args-last : {w₂ : List ℕ} {g : Part} → kind-of w₁ count m ≡ RPAR → m < count → Written k (m + 1) (put-row w₁ k ARGUMENT i r 0 0) w₁ g w₂
         → YieldsAll (Closed n) i count w n f g w₂
-    unfolding lay below head
-    args-last h j x = rw (x .answer) (record {
-      told = λ ts s.
-          let y = a .told ts s in
-          let o = a .ahead in
-          let e₁ : r ≡ f + below (y .tree) = y .top in
-          let e₂ : k ≡ f + below (y .tree) + 1 + 0 = omega arith in
-          let l₁ : w₁ ≡ lay w f (y .tree) = y .laid in
-          let l₂ = x .laid in
-          record {
-            args = more (y .tree) last;
-            told = S.closed-one (y .told) (at m (after a ts s) h);
-            top = e₂;
-            past = omega arith;
-            laid = cc;
-          };
-      ahead = let o = a .ahead in record { least = omega arith; most = omega arith; owned = omega arith; end = refl };
-      clear = x .clear ∙ a .clear;
-    })
+    args-last h j x =
+        let o = a .ahead in
+        lists-last a (λ ts v y p. S.closed-one p (at m v h)) x record { least = omega arith; most = omega arith; owned = omega arith; end = refl }
 
     -- an argument, `,`, and others with `)` or none
     pub args-more : {w₂ w₃ : List ℕ} {z : Part} (g : Part) → kind-of w₁ count m ≡ COMMA → YieldsAll (Closed (m + 1)) i count w₁ (m + 1) k g w₂
         → Topped (λ u x y. put-row u x ARGUMENT i r y 0) (λ l. l) g w₂ z w₃ → YieldsAll (Closed n) i count w n f z w₃
-    unfolding lay below head
-    args-more {w₂} (Part.Tree r₂ m₂ k₂) h b x = rw (x .answer) (record {
-      told = λ ts s.
-          let v = after a ts s in
-          let y = a .told ts s in
-          let q = b .told ts v in
-          let o = a .ahead in
-          let e₁ : r ≡ f + below (y .tree) = y .top in
-          let e₂ : k ≡ f + below (y .tree) + 1 = omega arith in
-          let e₃ : r₂ ≡ head k (q .args) = q .top in
-          let e₄ : k₂ ≡ f + below (y .tree) + 1 + under (q .args) = omega (arith, q .past) in
-          let l₁ : w₁ ≡ lay w f (y .tree) = y .laid in
-          let l₂ : w₂ ≡ lay-all w₁ k i (q .args) = q .laid in
-          let l₃ = x .laid in
-          record { args = more (y .tree) (q .args); told = S.closed-more (y .told) (at m v h) (q .told); top = e₄; past = omega arith; laid = cc };
-      ahead = let o₁ = a .ahead in let o₂ = b .ahead in record { least = omega arith; most = o₂ .most; owned = omega arith; end = refl };
-      clear = x .clear ∙ b .clear ∙ a .clear;
-    })
-    args-more (Part.None e) h b x = rw (x .0, x .1) (record {
-      told = λ ts s. let v = after a ts s in S.closed-more (a .told ts s .told) (at m v h) (b .told ts v);
-      ahead = tt;
-      clear = b .clear ∙ a .clear;
-    })
+    args-more g h b x =
+        let d = a .ahead in
+        lists-more a g (λ ts v y p. (λ es l q. S.closed-more p (at m v h) q, λ e q. S.closed-more p (at m v h) q)) b x
+        (λ q l j o. record { least = omega arith; most = o .most; owned = omega arith; end = refl })

@@ -3,7 +3,7 @@ use mathlib.Core.List.{List}
 use mathlib.Core.Path.{_≡_, refl, _∙_}
 use Prim.Native.Nat.{ℕ, _+_}
 use native.Mathlib.Omega.{arith}
-use Rattle.language.specs.Tokens.{Token, At, LET, WHILE, IF, THEN, ELSE, LBRACE, RBRACE}
+use Rattle.language.specs.Tokens.{Token, At, LET, WHILE, IF, THEN, ELSE, LBRACE, RBRACE, FOR}
 use Rattle.language.specs.Trees.{Exp, block, branch, loop}
 use Rattle.language.proofs.Executable.Parses.{Result, failed, got}
 use Rattle.language.proofs.Executable.Parser.{clause, until}
@@ -11,7 +11,7 @@ use Rattle.language.proofs.Executable.Settles.{Settles}
 use Rattle.language.proofs.Executable.SettlesExpressions as S
 use Rattle.layout.specs.Table.{kind-of, put-row}
 use Rattle.layout.specs.Rows.{below, lay}
-use Rattle.phrases.specs.Parts.{Told, Yields, Halts, Topped, Clause, Let, Assign, Until}
+use Rattle.phrases.specs.Parts.{Told, Yields, Halts, Topped, Clause, Let, For, Assign, Until}
 use Rattle.phrases.specs.declared.parts.Part.{Part}
 use Rattle.phrases.proofs.Standing.{at, not-at}
 use Rattle.phrases.proofs.Answering.{after, fails-first, fails-second, same, tops, over-one, over-two}
@@ -23,10 +23,14 @@ module _ {count n f : ℕ} {w w₁ : List ℕ} {g : Part} where
   pub clause-let : kind-of w count n ≡ LET → Yields (Let n) count w n f g w₁ → Yields (Clause n) count w n f g w₁
   clause-let h a = same g a (λ ts s r x. S.clause-let (at n s h) x)
 
+  -- a For or none
+  pub clause-for : kind-of w count n ≡ FOR → Yields (For n) count w n f g w₁ → Yields (Clause n) count w n f g w₁
+  clause-for h a = same g a (λ ts s r x. S.clause-for (at n s h) x)
+
   -- an Assign or none
   pub clause-assign : (kind-of w count n ≡ LET → ⊥) → (kind-of w count n ≡ IF → ⊥) → (kind-of w count n ≡ WHILE → ⊥)
-      → Yields (Assign n) count w n f g w₁ → Yields (Clause n) count w n f g w₁
-  clause-assign h i j a = same g a (λ ts s r x. S.clause-assign (not-at n s h) (not-at n s i) (not-at n s j) x)
+      → (kind-of w count n ≡ FOR → ⊥) → Yields (Assign n) count w n f g w₁ → Yields (Clause n) count w n f g w₁
+  clause-assign h i j k a = same g a (λ ts s r x. S.clause-assign (not-at n s h) (not-at n s i) (not-at n s j) (not-at n s k) x)
 
 -- ---- if
 

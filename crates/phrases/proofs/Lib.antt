@@ -4,8 +4,10 @@ pub mod Standing
 pub mod Moving
 mod RowKinds
 pub mod Answering
+mod Listing
 mod SeqLaws
 pub mod ItemLaws
 mod OperandLaws
 mod OperatorLaws
 mod CallLaws
+mod LoopLaws

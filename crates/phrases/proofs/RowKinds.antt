@@ -1,5 +1,5 @@
 -- What the tables of the grammar give for a token's kind, and the kind of the row that is put for it.
-use mathlib.Core.Bool.{true, false}
+use mathlib.Core.Bool.{Bool, true, false}
 use mathlib.Core.List.{List}
 use mathlib.Core.Option.{Option, none, some}
 use mathlib.Core.Path.{_≡_, refl}
@@ -8,11 +8,11 @@ use native.Mathlib.Omega.{arith}
 use lib.Dec.{leb, leb→le}
 use Rattle.language.specs.Tokens.{Entry, entry, PAST, RBRACE}
 use Rattle.language.specs.Trees.{Literal, Unary, Binary}
-use Rattle.language.specs.Grammar.{or, and, sum, prod, operators, comparisons, prefixes, constants}
+use Rattle.language.specs.Grammar.{or, and, sum, prod, operators, comparisons, prefixes, constants, ranges}
 use Rattle.language.proofs.Grammar.Entries.{every, entry-passes, by-entries}
 use Rattle.language.proofs.Executable.Climbing.{Joins, joins-or, joins-and, joins-cmp, joins-sum, joins-prod}
 use Rattle.layout.specs.Table.{kind-of}
-use Rattle.layout.specs.Rows.{PREFIX, literal-kind, unary-kind, binary-kind}
+use Rattle.layout.specs.Rows.{PREFIX, literal-kind, unary-kind, binary-kind, range-kind}
 use Rattle.layout.proofs.TableLaws.{kind-within}
 use Rattle.phrases.specs.Parts.{has, in-table}
 
@@ -54,6 +54,11 @@ module _ (w : List ℕ) (count i k : ℕ) (h : k ≡ kind-of w count i) where
   unfolding entry
   constant-within l = listed constants refl l
 
+  -- a mark between bounds
+  pub range-within : in-table ranges k ≡ true → i < count
+  unfolding entry
+  range-within l = listed ranges refl l
+
 -- ---- the kinds of rows
 
 -- an operator before its operand
@@ -70,6 +75,11 @@ prefix-small k h = leb→le k RBRACE (entry-passes (λ c x. leb c RBRACE) prefix
 pub constant-row : (k : ℕ) {l : Literal} → entry constants k ≡ some l → literal-kind l ≡ k
 unfolding literal-kind every
 constant-row k e = by-entries literal-kind (λ c. c) constants k tt e
+
+-- a `for`, by the mark between its bounds
+pub range-row : (k : ℕ) {b : Bool} → entry ranges k ≡ some b → range-kind b ≡ k
+unfolding range-kind every
+range-row k e = by-entries range-kind (λ c. c) ranges k tt e
 
 -- an operator between two operands
 pub joins-row : {k : ℕ} {o : Binary} {p : ℕ} → Joins k o p → binary-kind o ≡ k

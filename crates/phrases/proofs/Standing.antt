@@ -5,12 +5,12 @@ use Prim.Native.Nat.{ℕ, _+_, _≤_, _<_}
 use native.Mathlib.Omega.{arith}
 use lib.ListN.{length, getD}
 use Rattle.language.specs.Tokens.{Token, At}
-use Rattle.language.specs.Trees.{Exp, Param, Def}
+use Rattle.language.specs.Trees.{Exp, Exps, Param, Def}
 use Rattle.layout.specs.Table.{kind-of, put-row, put-function}
 use Rattle.layout.specs.Names.{Stand}
-use Rattle.layout.specs.Rows.{lay, lay-params, lay-def, def-rows}
+use Rattle.layout.specs.Rows.{lay, lay-all, lay-params, lay-def, def-rows}
 use Rattle.layout.proofs.TableLaws.{kind-within, put-row-before, put-function-other}
-use Rattle.layout.proofs.LayLaws.{lay-before, lay-params-other, lay-def-other}
+use Rattle.layout.proofs.LayLaws.{lay-before, lay-all-before, lay-params-other, lay-def-other}
 use Rattle.layout.proofs.TokenLaws.{stand-same}
 
 -- ---- kinds
@@ -34,6 +34,11 @@ module _ {w v : List ℕ} {count : ℕ} {ts : List Token} where
   -- a tree was laid
   pub stand-lay : (e : Exp) (f : ℕ) → v ≡ lay w f e → Stand w count ts → Stand v count ts
   stand-lay e f l s = stand-same v w count ts (λ j h. ap (λ (z : List ℕ). getD z j 0) l ∙ lay-before e w f j (omega arith)) s
+
+  -- arguments or bounds were laid
+  pub stand-lay-all : (es : Exps) (f i : ℕ) → v ≡ lay-all w f i es → Stand w count ts → Stand v count ts
+  stand-lay-all es f i l s =
+      stand-same v w count ts (λ j h. ap (λ (z : List ℕ). getD z j 0) l ∙ lay-all-before es w f i j (omega arith)) s
 
   -- a row was put
   pub stand-row : (i k t a b c : ℕ) → v ≡ put-row w i k t a b c → Stand w count ts → Stand v count ts

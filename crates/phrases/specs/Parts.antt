@@ -8,10 +8,10 @@ use mathlib.Core.Path.{_≡_}
 use Prim.Native.Nat.{ℕ, _+_, _≤_, _<_}
 use lib.ListN.{length}
 use Rattle.language.specs.Sizes.{TOKENS, NODES, TABLE}
-use Rattle.language.specs.Tokens.{Token, Entry, entry}
-use Rattle.language.specs.Trees.{Exp, Exps}
-use Rattle.language.specs.Grammar.{un, seq, bound, assign, atom, tier}
-use Rattle.language.proofs.Executable.Parses.{Result, failed, got}
+use Rattle.language.specs.Tokens.{Token, Entry, entry, Means}
+use Rattle.language.specs.Trees.{Exp, Exps, more}
+use Rattle.language.specs.Grammar.{un, seq, bound, counting, bounds, ranges, assign, atom, tier, Span}
+use Rattle.language.proofs.Executable.Parses.{Result, failed, got, made}
 use Rattle.language.proofs.Executable.Parser.{read, clause, until, closed}
 use Rattle.language.proofs.Executable.Settles.{Settles}
 use Rattle.language.proofs.Executable.Climbing.{tier-of, More}
@@ -45,6 +45,9 @@ Clause n = λ ts. Settles ts clause n
 abbrev pub Let : ℕ → Told Exp
 Let n = λ ts. Settles ts (read bound) n
 
+abbrev pub For : ℕ → Told Exp
+For n = λ ts. Settles ts (read counting) n
+
 abbrev pub Assign : ℕ → Told Exp
 Assign n = λ ts. Settles ts (read assign) n
 
@@ -65,6 +68,18 @@ Until mark n = λ ts. Settles ts (until mark) n
 -- Args, and the `)` behind them
 abbrev pub Closed : ℕ → Told Exps
 Closed n = λ ts. Settles ts closed n
+
+-- the bounds of a For: start, end and maybe step; with `b` the end is a pass too
+abbrev pub span : Bool → Exps → Span
+span b es = record { through = b; parts = es }
+
+abbrev pub Bounds : Bool → ℕ → Told Exps
+Bounds b n = λ ts r. Settles ts (read bounds) n (made r (span b))
+
+-- what stands behind the mark of Bounds at token n: with it, whatever start stands before, they come to this
+abbrev pub Ends : ℕ → Told Exps
+Ends n = λ ts r. (i : ℕ) (b : Bool) (x : Exp)
+    → Tier 1 i ts (got x n) → Means ts n ranges b → Bounds b i ts (made r (more x))
 
 -- ---- numbers
 
@@ -122,7 +137,7 @@ pub record Continues (v u count : ℕ) (w : List ℕ) (n left f : ℕ) (g : Part
   pub ahead : Ahead n f n (count + 1) g
   pub clear : without-rows w′ ≡ without-rows w
 
--- ---- the arguments of the call at token i
+-- ---- the arguments of the call at token i, or the bounds of the `for` there
 
 pub record LaidAll (T : Result Exps → Type 0) (w : List ℕ) (i f r m k : ℕ) (w′ : List ℕ) : Type 0 where
   pub args : Exps

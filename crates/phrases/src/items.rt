@@ -1,10 +1,11 @@
-// Seq, Tail, Let and Item. These readers, those of `operands` and those of `names` call each other. Each call
+// Seq, Tail, Let and Item. These readers and those of `loops`, `operands` and `names` call each other. Each call
 // goes to a later token, or to a lower rule at the same one.
 ghost use mathlib.Core.Path.{_≡_};
 ghost use Prim.Native.Nat.{_≤_};
 ghost use Rattle.language.specs.Tokens.{LET, IF, WHILE};
 ghost use Rattle.layout.specs.Table.{kind-of};
 ghost use Rattle.phrases.specs.Parts.{Room, Yields, Halts, Seq, Clause, Let, Until};
+use crate::loops::for_in;
 use crate::operands::assign;
 use crate::parts::Part;
 use crate::parts::around;
@@ -81,6 +82,9 @@ fn clause(table: &mut [u32], count: usize, at: usize, free: usize) -> Part
     }
     if k == kinds::WHILE {
         return while_block(table, count, at, free);
+    }
+    if k == kinds::FOR {
+        return for_in(table, count, at, free);
     }
     assign(table, count, at, free)
 }

@@ -5,6 +5,7 @@
 // failed. `specs/` says what is told of an answer.
 
 pub mod items;
+pub mod loops;
 pub mod names;
 pub mod operands;
 pub mod operators;

@@ -49,7 +49,7 @@ pub fn assign(table: &mut [u32], count: usize, at: usize, free: usize) -> Part
 
 // Or, And, Cmp, Sum, Prod and Un, all by one function: operands with operators between them that bind
 // at least as tightly as `least`.
-fn tier(table: &mut [u32], count: usize, at: usize, free: usize, least: u32) -> Part
+pub fn tier(table: &mut [u32], count: usize, at: usize, free: usize, least: u32) -> Part
     requires { ⌜ Room count (now table) at free ⌝ }
     requires { ⌜ (1 ≤ least) × (least ≤ 7) × (least ≡ 4 → ⊥) ⌝ }
     ensures { λ g. ⌜ Yields (Tier least at) count (now (table .entry)) at free g (now (table .exit)) ⌝ }

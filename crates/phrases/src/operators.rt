@@ -1,6 +1,6 @@
 // What single tokens mean to the readers of operators and atoms.
 ghost use mathlib.Core.Path.{_≡_};
-ghost use Rattle.language.specs.Grammar.{prefixes, constants};
+ghost use Rattle.language.specs.Grammar.{prefixes, constants, ranges};
 ghost use Rattle.phrases.specs.Parts.{in-table};
 ghost use Rattle.language.proofs.Executable.Climbing.{tightness as TIGHTNESS, after as AFTER};
 use language::kinds;
@@ -71,6 +71,17 @@ pub fn is_constant(k: u32) -> bool
         kinds::TRUE => true,
         kinds::FALSE => true,
         kinds::TT => true,
+        _ => false,
+    }
+}
+
+// Is it `..` or `..=`?
+pub fn is_range(k: u32) -> bool
+    ensures { λ r. ⌜ r ≡ in-table ranges k ⌝ }
+{
+    match k {
+        kinds::UPTO => true,
+        kinds::THROUGH => true,
         _ => false,
     }
 }

@@ -22,27 +22,30 @@ use Rattle.rules.specs.declared.Typing.{Typing}
 use Rattle.rules.specs.declared.Typing.the-variants as Typing
 use Rattle.rules.specs.declared.sight.Callee.{Callee}
 use Rattle.rules.specs.declared.sight.Callee.the-variants as Callee
+use Rattle.rules.specs.declared.sight.Taker.the-variants as Taker
 use Rattle.rules.proofs.TellLaws.{fault-is, tells-from}
 
 -- the flag tells whether the statement holds
-abbrev Decided : Bool → Type 0 → Type 0
+abbrev pub Decided : Bool → Type 0 → Type 0
 Decided b A = (b ≡ true → A) × (b ≡ false → A → ⊥)
 
-clash : {A : Type 0} → true ≡ false → A
+-- the flag is not both
+pub clash : {A : Type 0} → true ≡ false → A
 clash e = absurd (let z : _≡_ {A = ℕ} 0 1 = cc in omega arith)
 
 -- of two lists of types, by their heads and their tails
-decided-more : (a b : Bool) (t u : Ty) (ts us : List Ty) → Decided a (t ≡ u) → Decided b (ts ≡ us) → Decided (a && b) ((t ∷ ts) ≡ (u ∷ us))
+pub decided-more : (a b : Bool) (t u : Ty) (ts us : List Ty) → Decided a (t ≡ u) → Decided b (ts ≡ us) → Decided (a && b) ((t ∷ ts) ≡ (u ∷ us))
 decided-more true b t u ts us p q = ((λ e. let x = p .0 refl in let y = q .0 e in cc), λ e d. q .1 e (cc))
 decided-more false b t u ts us p q = ((λ e. clash (sym e)), λ e d. p .1 refl (cc))
 
-decided-type : (t u : Ty) → Decided (eqb (type-number t) (type-number u)) (t ≡ u)
+-- and of two types
+pub decided-type : (t u : Ty) → Decided (eqb (type-number t) (type-number u)) (t ≡ u)
 decided-type t u = ((λ e. one-number t u (eqb-true _ _ e)), λ e d. eqb-false _ _ e (ap type-number d))
 
 -- as many arguments as parameters suit when their types are the parameters'
 suits-params : {ts : List Token} (w : List ℕ) (r k : ℕ) (us : List Ty) {ps : List Param} (j : ℕ) → j ≡ r + k + 1 → ParamsAt ts w j ps
     → k + length ps ≡ row-word w r ARITY → length us ≡ length ps
-    → Decided (suits w (Callee.Function r) k us) (us ≡ map (λ (p : Param). p .type) ps)
+    → Decided (suits w (Taker.Call (Callee.Function r)) k us) (us ≡ map (λ (p : Param). p .type) ps)
 unfolding suits
 suits-params w r k [] j e params-none l n = ((λ _. refl), λ d _. clash d)
 suits-params w r k (u ∷ us) j e params-none l n = absurd (omega arith)
@@ -53,7 +56,7 @@ suits-params w r k (u ∷ us) j e (params-more {p = p} {ps = ps} a b c d q) l n 
     (decided-more _ _ u (p .type) us (map (λ (p : Param). p .type) ps) (decided-type u (p .type))
     (suits-params w r (suc k) us (j + 1) (omega arith) q (omega arith) (omega arith)))
 
-suits-putchar : (w : List ℕ) (us : List Ty) → length us ≡ 1 → Decided (suits w Callee.Putchar 0 us) (us ≡ (int ∷ []))
+suits-putchar : (w : List ℕ) (us : List Ty) → length us ≡ 1 → Decided (suits w (Taker.Call Callee.Putchar) 0 us) (us ≡ (int ∷ []))
 unfolding suits
 suits-putchar w [] n = absurd (omega arith)
 suits-putchar w (u ∷ []) n = decided-more _ true u int [] [] (decided-type u int) ((λ _. refl), λ d _. clash d)

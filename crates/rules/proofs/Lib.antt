@@ -3,4 +3,5 @@ pub mod SightLaws
 pub mod OperatorLaws
 pub mod ShapeLaws
 pub mod CallLaws
+pub mod BoundLaws
 pub mod PlainLaws

@@ -16,11 +16,13 @@ use Rattle.layout.specs.Table.{OWN, TYPE, ARITY, token-value, row-word, functio
 use Rattle.layout.proofs.VariablesWords.{without-before, row-without, function-without, token-without}
 use Rattle.layout.proofs.VariablesTrees.{function-alike}
 use Rattle.layout.specs.Functions.{Headed, function-name, find-function}
-use Rattle.rules.specs.Sight.{callee-by, callee-in, Means, Rowed, wanted-in}
+use Rattle.rules.specs.Sight.{callee-by, callee-in, Means, Rowed, wanted-in, Readable, expected-in}
 use Rattle.rules.specs.Asked.{suits, AsksCall}
 use Rattle.rules.specs.declared.Typing.{Typing}
 use Rattle.rules.specs.declared.sight.Callee.{Callee}
 use Rattle.rules.specs.declared.sight.Callee.the-variants as Callee
+use Rattle.rules.specs.declared.sight.Taker.{Taker}
+use Rattle.rules.specs.declared.sight.Taker.the-variants as Taker
 
 module _ (w : List ℕ) where
   abbrev p : List ℕ
@@ -77,10 +79,22 @@ module _ (w : List ℕ) where
   wanted-plain Callee.Putchar k h = refl
   wanted-plain Callee.Nobody k h = refl
 
-  suits-plain : (c : Callee) (k : ℕ) (us : List Ty) → Rowed p c → suits p c k us ≡ suits w c k us
+  -- ---- lists
+
+  -- what is wanted of a list
+  pub readable-plain : (c : Taker) → Readable p c → Readable w c
+  readable-plain (Taker.Call c) h = rowed-plain c h
+  readable-plain Taker.For h = tt
+
+  -- of each expression
+  pub expected-plain : (c : Taker) (k : ℕ) → Readable p c → expected-in p c k ≡ expected-in w c k
+  expected-plain (Taker.Call c) k h = wanted-plain c k h
+  expected-plain Taker.For k h = refl
+
+  suits-plain : (c : Taker) (k : ℕ) (us : List Ty) → Readable p c → suits p c k us ≡ suits w c k us
   unfolding suits
   suits-plain c k [] h = refl
-  suits-plain c k (u ∷ us) h = ap₂ (λ (n : ℕ) (b : Bool). eqb (type-number u) n && b) (wanted-plain c k h) (suits-plain c (suc k) us h)
+  suits-plain c k (u ∷ us) h = ap₂ (λ (n : ℕ) (b : Bool). eqb (type-number u) n && b) (expected-plain c k h) (suits-plain c (suc k) us h)
 
   means-plain : (f : ℕ) (ts : List Token) (c : Callee) (o : Option Sig) → Means f ts p c o → Means f ts w c o
   means-plain f ts (Callee.Function r) o (d, a, e) = (d, function-alike w p (λ j l. sym (without-before w j l)) a, e)
@@ -89,4 +103,4 @@ module _ (w : List ℕ) where
 
   -- and what it answers
   pub asks-plain : (c : Callee) {n : ℕ} {b : Bool} (i : ℕ) {r : Typing} → Rowed p c → AsksCall w c n b i r → AsksCall p c n b i r
-  asks-plain c i h q ts f Δ Γ x es us m e l s = q ts f Δ Γ x es us (means-plain f ts c _ m) e l (s ∙ suits-plain c 0 us h)
+  asks-plain c i h q ts f Δ Γ x es us m e l s = q ts f Δ Γ x es us (means-plain f ts c _ m) e l (s ∙ suits-plain (Taker.Call c) 0 us h)

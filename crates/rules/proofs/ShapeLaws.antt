@@ -1,20 +1,23 @@
 -- What a row's kind says of its node: how many children it has, and what it asks of their types.
-use mathlib.Core.Bool.{true, false, cond}
+use mathlib.Core.Bool.{Bool, true, false, cond, _||_, false≢true}
+use mathlib.Core.Option.{some}
 use mathlib.Core.Path.{_≡_, refl, sym, ap, subst₂, _∙_}
 use Prim.Native.Nat.{ℕ, _≤_, _<_}
 use native.Mathlib.Omega.{arith}
 use lib.Dec.{eqb, leb, ltb}
-use Rattle.language.specs.Tokens.{NUMBER, FLOAT-NUMBER, TRUE, FALSE, TT, LET, IF, WHILE, SEMI, LPAR, LBRACE, PLUS, AND, OR, EQUAL}
+use borrow.Author.Tests.{eqb-true}
+use Rattle.language.specs.Tokens.{entry, UPTO, THROUGH, NUMBER, FLOAT-NUMBER, TRUE, FALSE, TT, LET, IF, WHILE, SEMI, LPAR, LBRACE, PLUS, AND, OR, EQUAL}
 use Rattle.language.specs.Trees.{Ty, int, bool, unit, float, ref, add, sub, mul, div, less, equal, and, or, assign}
 use Rattle.language.specs.Trees.{whole, truth, trivial, decimal}
 use Rattle.language.specs.Meaning.{type-number}
 use Rattle.language.proofs.Grammar.Entries.{every}
 use Rattle.language.proofs.Executable.Checks.{ok, after-ok}
 use Rattle.language.proofs.Executable.Checker.{literal-type, infer}
-use Rattle.layout.specs.Rows.{PREFIX, CALL, literal-kind, unary-kind, binary-kind}
-use Rattle.layout.specs.Decode.{Shape, shape-of, build}
-use Rattle.layout.proofs.Shapes.{shape-kind, kind-of-shape, unary-high, binary-between, children-by-entries, children-most, Parted, is-name, is-number}
-use Rattle.layout.proofs.Shapes.{is-float, is-constant, is-call, is-unary, is-group, is-block, is-binary, is-follow, is-let, is-while, parted}
+use Rattle.layout.specs.Rows.{PREFIX, literal-kind, unary-kind, binary-kind}
+use Rattle.layout.specs.Decode.{Shape, a-for, shape-of, counts, build}
+use Rattle.layout.proofs.Shapes.{shape-kind, kind-of-shape, range-counts, unary-high, binary-between, children-by-entries, children-most}
+use Rattle.layout.proofs.Shapes.{Parted, is-name, is-number, is-float, is-constant, is-call, is-for, is-unary, is-group, is-block}
+use Rattle.layout.proofs.Shapes.{is-binary, is-follow, is-let, is-while, parted}
 use Rattle.rules.specs.Asked.{Tells, Children, Constant, AsksOne, AsksTwo, Prefixed, Between, Follows, Repeats}
 use Rattle.rules.specs.Asked.{as-arithmetic, Operand, Result}
 use Rattle.rules.specs.declared.Typing.{Typing}
@@ -27,14 +30,13 @@ use Rattle.rules.proofs.TellLaws.{type-is, tells-from}
 abbrev pub children-by : ℕ → ℕ
 children-by k =
     cond (leb PREFIX k) 1
-    (cond (eqb k CALL) 0
-    (cond (eqb k FLOAT-NUMBER) 0
+    (cond (leb FLOAT-NUMBER k) 0
     (cond (eqb k LPAR) 1
     (cond (eqb k LBRACE) 1
     (cond (eqb k IF) 3
     (cond (eqb k LET) 2
     (cond (eqb k WHILE) 2
-    (cond (ltb k PLUS) 0 2))))))))
+    (cond (ltb k PLUS) 0 2)))))))
 
 -- the tests on a kind tell how many children its node has
 pub children-are : (k : ℕ) {n : ℕ} → children-by k ≡ n → Children k n
@@ -48,6 +50,16 @@ children-as e d h = subst₂ (λ (k m : ℕ). Children k m) e d h
 -- a node that has neither none, one nor two has three
 pub children-rest : {k j m : ℕ} → k ≡ j → (m ≡ 0 → ⊥) → (m ≡ 1 → ⊥) → (m ≡ 2 → ⊥) → Children k m → Children j 3
 children-rest {k} {j} {m} e x y z h s d = let a = h s (ap shape-of e ∙ d) in let b = children-most j d in omega arith
+
+-- a `for` is told by its kind
+pub for-shape : (k : ℕ) → counts k ≡ true → (b : Bool) × (shape-of k ≡ some (a-for b))
+unfolding counts shape-of entry
+for-shape k h = go (eqb k UPTO) (eqb k THROUGH) refl refl h
+  where
+    go : (a b : Bool) → eqb k UPTO ≡ a → eqb k THROUGH ≡ b → (a || b) ≡ true → (c : Bool) × (shape-of k ≡ some (a-for c))
+    go true b x y z = (false, ap shape-of (eqb-true k UPTO x))
+    go false true x y z = (true, ap shape-of (eqb-true k THROUGH y))
+    go false false x y z = absurd (false≢true z)
 
 -- ---- the types of operators, by the tests
 
@@ -103,11 +115,12 @@ module _ (k : ℕ) {m n : ℕ} where
 pub constant-is : {k n : ℕ} → (k ≡ NUMBER → n ≡ type-number int) → (k ≡ FLOAT-NUMBER → n ≡ type-number float)
     → (k ≡ TRUE → n ≡ type-number bool) → (k ≡ FALSE → n ≡ type-number bool) → (k ≡ TT → n ≡ type-number unit) → Constant k n
 unfolding infer build literal-type shape-kind literal-kind
-constant-is {k} {n} a f b c d ts s Δ Γ i x y z es sh ch nn nc = go s (parted s ch) (kind-of-shape k s sh)
+constant-is {k} {n} a f b c d ts s Δ Γ i x y z es sh ch nn nc nf = go s (parted s ch) (kind-of-shape k s sh)
   where
     go : (s : Shape) → Parted s 0 → k ≡ shape-kind s → (t : Ty) × (infer Δ (build ts s i x y z es) Γ ≡ ok t) × (n ≡ type-number t)
     go s is-name e = absurd (nn e)
     go s is-call e = absurd (nc e)
+    go s (is-for {b = m}) e = absurd (nf (ap counts e ∙ range-counts m))
     go s is-number e = (int, refl, a e)
     go s is-float e = (float, refl, f e)
     go s (is-constant {l = whole m}) e = (int, refl, a e)

@@ -12,9 +12,11 @@ use Rattle.layout.specs.Table.{TYPE, ARITY, row-word, variable-name, variable-t
 use Rattle.layout.specs.Functions.{find-function, found}
 use Rattle.layout.specs.declared.functions.Found.{Found}
 use Rattle.layout.specs.declared.functions.Found.the-variants as Found
-use Rattle.rules.specs.Sight.{find-variable, callee-by, callee-in, Rowed, wanted-in}
+use Rattle.rules.specs.Sight.{find-variable, callee-by, callee-in, Rowed, wanted-in, Readable, expected-in}
 use Rattle.rules.specs.declared.sight.Callee.{Callee}
 use Rattle.rules.specs.declared.sight.Callee.the-variants as Callee
+use Rattle.rules.specs.declared.sight.Taker.{Taker}
+use Rattle.rules.specs.declared.sight.Taker.the-variants as Taker
 
 module _ (w : List ℕ) (x : ℕ) {i k : ℕ} (last : i ≡ suc k) where
   -- the last variable is the one, or it is one of those before
@@ -72,3 +74,18 @@ module _ (w : List ℕ) {c : Callee} where
   -- and no second argument
   pub wanted-later : {k : ℕ} → c ≡ Callee.Putchar → (k ≡ 0 → ⊥) → wanted-in w c k ≡ 0
   wanted-later {k} e h = ap (λ (c : Callee). wanted-in w c k) e ∙ rw (ne-eqb _ _ h) refl
+
+-- ---- who takes a list, by its case
+
+-- a call's callee
+pub readable-call : (w : List ℕ) {t : Taker} {c : Callee} → t ≡ Taker.Call c → Readable w t → Rowed w c
+readable-call w e h = subst (λ (t : Taker). Readable w t) e h
+
+module _ (w : List ℕ) (k : ℕ) {t : Taker} where
+  -- a call wants what its callee does
+  pub expected-call : {c : Callee} → t ≡ Taker.Call c → expected-in w t k ≡ wanted-in w c k
+  expected-call e = ap (λ (t : Taker). expected-in w t k) e
+
+  -- a `for` wants ints
+  pub expected-for : t ≡ Taker.For → expected-in w t k ≡ type-number int
+  expected-for e = ap (λ (t : Taker). expected-in w t k) e

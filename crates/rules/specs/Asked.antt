@@ -10,8 +10,9 @@ use lib.Dec.{eqb}
 use lib.ListN.{length}
 use Rattle.language.specs.Tokens.{Token, NAME, LET}
 use Rattle.language.specs.Trees.{Name, Ty, int, bool, unit, float, ref, Ty-discrete, Unary, Binary, add, sub}
-use Rattle.language.specs.Trees.{mul, div, less, equal, and, or, assign, Exp, branch, call, Exps, Scope, nearest}
-use Rattle.language.specs.Types.{Sig}
+use Rattle.language.specs.Trees.{mul, div, less, equal, and, or, assign, Exp, branch, call, counted, Exps}
+use Rattle.language.specs.Trees.{Scope, push, nearest}
+use Rattle.language.specs.Types.{Bounds, Sig}
 use Rattle.language.specs.Faults as Faults
 use Rattle.language.specs.Faults.{unsuited, wrong-operand, wrong-operands}
 use Rattle.language.specs.Faults.{not-unit, not-bool, wrong-number, wrong-argument}
@@ -20,13 +21,15 @@ use Rattle.language.proofs.Executable.Checks.{Res, ok, bad, told, need}
 use Rattle.language.proofs.Executable.Operators.{if-yes, unop, binop}
 use Rattle.language.proofs.Executable.Checker.{same-types, infer, infers}
 use Rattle.layout.specs.Rows.{CALL, unary-kind, binary-kind}
-use Rattle.layout.specs.Decode.{Shape, shape-of, children, build}
+use Rattle.layout.specs.Decode.{Shape, shape-of, children, counts, build}
 use Rattle.numbers.specs.Meanings.{reason-meant}
-use Rattle.rules.specs.Sight.{Means, wanted-in}
+use Rattle.rules.specs.Sight.{Means, expected-in}
 use Rattle.numbers.specs.declared.Reason.{Reason}
 use Rattle.rules.specs.declared.Typing.{Typing}
 use Rattle.rules.specs.declared.Typing.the-variants as Typing
 use Rattle.rules.specs.declared.sight.Callee.{Callee}
+use Rattle.rules.specs.declared.sight.Taker.{Taker}
+use Rattle.rules.specs.declared.sight.Taker.the-variants as Taker
 
 -- ---- answers
 
@@ -35,10 +38,10 @@ pub data Tells : Typing → Res Ty → Type 0 where
   tells-type : {n : ℕ} {t : Ty} → n ≡ type-number t → Tells (Typing.«Type» n) (ok t)
   tells-fault : {r : Reason} {q : Faults.Reason} {i : ℕ} → reason-meant r ≡ q → Tells (Typing.Fault r i) (bad q i)
 
--- the types ts are those that the callee wants from its argument k on
-unfoldable pub suits : List ℕ → Callee → ℕ → List Ty → Bool
+-- the types ts are those that are wanted from expression k of a list on
+unfoldable pub suits : List ℕ → Taker → ℕ → List Ty → Bool
 suits w c k [] = true
-suits w c k (t ∷ ts) = eqb (type-number t) (wanted-in w c k) && suits w c (suc k) ts
+suits w c k (t ∷ ts) = eqb (type-number t) (expected-in w c k) && suits w c (suc k) ts
 
 -- ---- what a node asks when its children are typed
 
@@ -50,7 +53,7 @@ Children kind n = (s : Shape) → shape-of kind ≡ some s → n ≡ children s
 abbrev pub Constant : ℕ → ℕ → Type 0
 Constant kind n =
     (ts : List Token) (s : Shape) (Δ : Scope Sig) (Γ : Scope Ty) (i : ℕ) (a b c : Exp) (es : Exps)
-    → shape-of kind ≡ some s → children s ≡ 0 → (kind ≡ NAME → ⊥) → (kind ≡ CALL → ⊥)
+    → shape-of kind ≡ some s → children s ≡ 0 → (kind ≡ NAME → ⊥) → (kind ≡ CALL → ⊥) → (counts kind ≡ true → ⊥)
     → (t : Ty) × (infer Δ (build ts s i a b c es) Γ ≡ ok t) × (n ≡ type-number t)
 
 -- the answer of a node with one child, whose type has the number n
@@ -165,5 +168,20 @@ Matches a g n b i r =
 abbrev pub AsksCall : List ℕ → Callee → ℕ → Bool → ℕ → Typing → Type 0
 AsksCall w c n b i r =
     (ts : List Token) (f : ℕ) (Δ : Scope Sig) (Γ : Scope Ty) (x : Name) (es : Exps) (us : List Ty)
-    → Means f ts w c (nearest x Δ) → infers Δ es Γ ≡ ok us → n ≡ length us → b ≡ suits w c 0 us
+    → Means f ts w c (nearest x Δ) → infers Δ es Γ ≡ ok us → n ≡ length us → b ≡ suits w (Taker.Call c) 0 us
     → Tells r (infer Δ (call i x es) Γ)
+
+-- whether the bounds of a `for` will do, which are so many, all of them ints or not
+abbrev pub Bounded : ℕ → Bool → Bool → Type 0
+Bounded n b r =
+    (w : List ℕ) (us : List Ty) → n ≡ length us → b ≡ suits w Taker.For 0 us
+    → (r ≡ true → Bounds us) × (r ≡ false → Bounds us → ⊥)
+
+-- what a `for` answers of these, and of a body with the type's number m
+abbrev pub AsksFor : ℕ → Bool → ℕ → ℕ → Typing → Type 0
+AsksFor n b m i r =
+    (w : List ℕ) (Δ : Scope Sig) (Γ : Scope Ty) (x : Name) (through : Bool) (es : Exps) (e : Exp)
+    (us : List Ty) (t : Ty)
+    → infers Δ es Γ ≡ ok us → n ≡ length us → b ≡ suits w Taker.For 0 us
+    → infer Δ e (push x int Γ) ≡ ok t → m ≡ type-number t
+    → Tells r (infer Δ (counted i x through es e) Γ)

@@ -18,6 +18,8 @@ use Rattle.rules.specs.declared.sight.Found.{Found}
 use Rattle.rules.specs.declared.sight.Found.the-variants.{Is, Nowhere}
 use Rattle.rules.specs.declared.sight.Callee.{Callee}
 use Rattle.rules.specs.declared.sight.Callee.the-variants as Callee
+use Rattle.rules.specs.declared.sight.Taker.{Taker}
+use Rattle.rules.specs.declared.sight.Taker.the-variants as Taker
 
 -- ---- variables
 
@@ -79,3 +81,15 @@ abbrev pub wanted-in : List ℕ → Callee → ℕ → ℕ
 wanted-in w (Callee.Function r) k = cond (ltb k (row-word w r ARITY)) (row-word w (r + k + 1) TYPE) 0
 wanted-in w Callee.Putchar k = cond (eqb k 0) (type-number int) 0
 wanted-in w Callee.Nobody k = 0
+
+-- ---- lists
+
+-- what is wanted of a list can be read
+abbrev pub Readable : List ℕ → Taker → Type 0
+Readable w (Taker.Call c) = Rowed w c
+Readable w Taker.For = Unit {0}
+
+-- the type's number of each expression of a list: a call's arguments are its callee's, and the bounds of a `for` ints
+abbrev pub expected-in : List ℕ → Taker → ℕ → ℕ
+expected-in w (Taker.Call c) k = wanted-in w c k
+expected-in w Taker.For k = type-number int

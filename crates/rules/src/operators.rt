@@ -1,10 +1,13 @@
 // What a node asks of its children's types, once all of them are known.
+ghost use mathlib.Core.Path.{_≡_};
 ghost use Prim.Native.Nat.{_≤_};
 ghost use lib.ListN.{length};
 ghost use Rattle.language.specs.Sizes.{TABLE};
+ghost use Rattle.layout.specs.Decode.{counts};
 ghost use Rattle.rules.specs.Sight.{Rowed};
 ghost use Rattle.rules.specs.Asked.{Children, Constant, AsksOne, AsksTwo, AsksIf, AsksCall, Prefixed};
 ghost use Rattle.rules.specs.Asked.{Between, Alike, Assigns, Follows, Repeats, Matches, Operand, Result};
+ghost use Rattle.rules.specs.Asked.{Bounded, AsksFor};
 use crate::Typing;
 use crate::sight::Callee;
 use language::kinds;
@@ -19,17 +22,15 @@ const DENY: u32 = rows::PREFIX + kinds::NOT;
 
 const FETCH: u32 = rows::PREFIX + kinds::BANG;
 
-// How many children a node has; a call's arguments are not counted.
+// How many children a node has; a call's arguments are not counted, nor are the parts of a `for`.
 pub fn children(kind: u32) -> usize
     ensures { λ r. ⌜ Children kind r ⌝ }
 {
     if rows::PREFIX <= kind {
         return 1;
     }
-    if kind == rows::CALL {
-        return 0;
-    }
-    if kind == kinds::FLOAT_NUMBER {
+    // A number with a point, a call or a `for`: these kinds come last.
+    if kinds::FLOAT_NUMBER <= kind {
         return 0;
     }
     if kind == kinds::LPAR {
@@ -51,6 +52,16 @@ pub fn children(kind: u32) -> usize
         return 0;
     }
     2
+}
+
+// Is it a `for`? Its row has the kind of the mark between its start and its end.
+pub fn counts(kind: u32) -> bool
+    ensures { λ r. ⌜ r ≡ counts kind ⌝ }
+{
+    if kind == kinds::UPTO {
+        return true;
+    }
+    kind == kinds::THROUGH
 }
 
 // The type of a number, with a point or without, `true`, `false` or `tt`.
@@ -215,6 +226,32 @@ pub fn branches(condition: u32, first: u32, second: u32, at: u32) -> Typing
         return Typing::Fault(Reason::BranchesDiffer, at);
     }
     Typing::Fault(Reason::NotBool, at)
+}
+
+// Will bounds do, so many, which are all ints or not? There are a start and an end, and maybe a step.
+fn bounded(count: usize, ints: bool) -> bool
+    ensures { λ r. ⌜ Bounded count ints r ⌝ }
+{
+    if count == 2 {
+        return ints;
+    }
+    if count == 3 {
+        return ints;
+    }
+    false
+}
+
+// `for` wants bounds that will do, and a body of type unit.
+pub fn counted(count: usize, ints: bool, body: u32, at: u32) -> Typing
+    ensures { λ r. ⌜ AsksFor count ints body at r ⌝ }
+{
+    if bounded(count, ints) {
+        if body == types::UNIT {
+            return Typing::Type(types::UNIT);
+        }
+        return Typing::Fault(Reason::NotUnit, at);
+    }
+    Typing::Fault(Reason::NotInt, at)
 }
 
 // A call that has so many arguments, of a function that takes so many and gives this result.

@@ -5,7 +5,7 @@ ghost use Prim.Native.Nat.{ℕ, _+_, _≤_, _<_};
 ghost use lib.ListN.{length};
 ghost use Rattle.language.specs.Sizes.{TOKENS, TABLE};
 ghost use Rattle.layout.specs.Functions.{Headed};
-ghost use Rattle.rules.specs.Sight.{find-variable, found, callee-in, Rowed, wanted-in};
+ghost use Rattle.rules.specs.Sight.{find-variable, found, callee-in, Rowed, wanted-in, Readable, expected-in};
 use layout::PUTCHAR;
 use layout::functions;
 use layout::rows;
@@ -23,6 +23,12 @@ pub enum Callee {
     Function(usize),
     Putchar,
     Nobody,
+}
+
+// Who takes a list of expressions, each of some type: a callee its arguments, or a `for` its bounds.
+pub enum Taker {
+    Call(Callee),
+    For,
 }
 
 // The nearest of the first `binds` variables that has this name.
@@ -77,5 +83,16 @@ pub fn wanted(table: &[u32], callee: Callee, k: usize) -> u32
             0
         }
         Callee::Nobody => 0,
+    }
+}
+
+// The number of the type that is wanted of expression k of a list: a bound is an int.
+pub fn expected(table: &[u32], taker: Taker, k: usize) -> u32
+    requires { ⌜ (TABLE ≤ length (now table)) × Readable (now table) taker ⌝ }
+    ensures { λ r. ⌜ r ≡ expected-in (now (table .entry)) taker k ⌝ }
+{
+    match taker {
+        Taker::Call(callee) => wanted(table, callee, k),
+        Taker::For => types::INT,
     }
 }

@@ -1,12 +1,14 @@
 -- What the functions of arguments that have their values ask and promise, by the ways through them.
 use mathlib.Core.Path.{_≡_, refl, sym, ap, subst, _∙_}
+use mathlib.Core.Bool.{Bool, false}
 use mathlib.Core.List.{List}
 use mathlib.Core.Option.{none, some}
 use Prim.Native.Nat.{ℕ, _+_, _*_, _/_, _%_, _≤_, _<_}
 use native.Mathlib.Omega.{arith}
 use lib.ListN.{length}
 use Rattle.language.specs.Sizes.{NODES, PARAMETERS, TABLE, WORK}
-use Rattle.layout.specs.Table.{OWN, EXPRESSION, NEXT, ARITY, row-word}
+use Rattle.layout.specs.Table.{KIND, OWN, EXPRESSION, NEXT, ARITY, row-word}
+use Rattle.layout.specs.Decode.{counts}
 use Rattle.layout.specs.Slots.{TAGS, HELD, SLOTS, put-slot}
 use Rattle.layout.specs.Frames.{SIZES, FRAMES, frame-mark, put-frame}
 use Rattle.layout.specs.Values.{Survives}
@@ -19,7 +21,7 @@ use Rattle.runner.specs.Waiting.{Run}
 use Rattle.runner.specs.Standing.{Resumes, above, begun, weight, Any, OfAll, Prints, Printing, LastOf, Heads, callee, Callable, Enters}
 use Rattle.runner.specs.declared.state.Spot.{Spot}
 use Rattle.runner.specs.declared.state.Next.{Next}
-use Rattle.runner.proofs.Passing.{argument-row, argument-heads, argument-inside, argument-slot, argument-size, argument-prints, argument-callable, argument-fits, argument-enters, next-inside, next-small, argument-passes}
+use Rattle.runner.proofs.Passing.{argument-row, argument-heads, argument-inside, argument-slot, argument-prints, argument-callable, argument-fits, argument-enters, next-inside, next-small, argument-passes}
 use Rattle.runner.proofs.Promises.{prints-to}
 use Rattle.runner.proofs.Resuming.{onward-less}
 
@@ -40,6 +42,10 @@ pub record Framed (t w o : List ℕ) (row : ℕ) (p : Spot) (s : Tally) : Type 0
   pub size : p .size < SIZES
   pub printed : s .printed ≤ length o
 
+-- it is no `for`
+is-call : (t : List ℕ) (row : ℕ) {kind : ℕ} → kind ≡ row-word t row KIND → {b : Bool} → b ≡ counts kind → b ≡ false → counts (row-word t row KIND) ≡ false
+is-call t row e f g = ap counts (sym e) ∙ sym f ∙ g
+
 -- the last one
 pub last-one : (t w : List ℕ) (h : ℕ) {mark next : ℕ} → mark ≡ frame-mark w h → next ≡ row-word t (mark / TAGS) NEXT → next ≡ 0 → LastOf t w h (mark % TAGS)
 last-one t w h m e f = record {
@@ -59,7 +65,7 @@ module _ {defs : ℕ} {t w o : List ℕ} {v : Value} {row : ℕ} {p : Spot} {s :
         frame = omega (arith, r .deep);
         inside = argument-row r refl;
         base = omega (arith, argument-slot r refl);
-        size = omega (arith, argument-size r refl);
+        size = omega (arith, argument-slot r refl);
         printed = r .fair .printed;
       }
 
@@ -94,14 +100,15 @@ module _ {defs : ℕ} {t w o : List ℕ} {v : Value} {row : ℕ} {p : Spot} {s :
 
   -- ---- the last argument
 
-  pub last-heads : Any (Arguing defs t w o v row p s) → Heads t defs row
-  last-heads x = argument-heads (x .holds .1) refl (x .holds .0)
+  -- of a call
+  module _ {kind : ℕ} (j : kind ≡ row-word t row KIND) {b : Bool} (f : b ≡ counts kind) (g : b ≡ false) {k : ℕ} (l : LastOf t w (p .height) k) where
+    pub last-heads : Any (Arguing defs t w o v row p s) → Heads t defs row
+    last-heads x = argument-heads (x .holds .1) refl (l .last) (is-call t row j f g) (x .holds .0)
 
-  module _ {k : ℕ} (l : LastOf t w (p .height) k) where
     pub last-prints : none ≡ callee t defs row → {o1 : List ℕ} {r : Next} → Printing (row-word t row OWN) v o o1 p s r
         → Prints (Arguing defs t w o v row p s) t w o1 (3 * s .units + p .height + 3) r
     last-prints n {o1} {r} c = record {
-      right = λ q b. argument-prints (b .1) refl (l .last) (b .0) n c;
+      right = λ q b. argument-prints (b .1) refl (l .last) (is-call t row j f g) (b .0) n c;
       less = subst (λ (x : Next). weight x < 3 * s .units + p .height + 3) (sym (c .is))
           (onward-less (c .outcome) (row-word t row OWN) v p (after-byte (c .outcome) s) (byte-units (c .outcome) s));
     }
@@ -111,16 +118,16 @@ module _ {defs : ℕ} {t w o : List ℕ} {v : Value} {row : ℕ} {p : Spot} {s :
 
     module _ {head : ℕ} (who : some head ≡ callee t defs row) where
       pub last-callable : Any (Arguing defs t w o v row p s) → Callable t head (row-word t head ARITY)
-      last-callable x = argument-callable (x .holds .1) refl (l .last) (x .holds .0) who
+      last-callable x = argument-callable (x .holds .1) refl (l .last) (is-call t row j f g) (x .holds .0) who
 
       pub last-fits : Any (Arguing defs t w o v row p s) → p .base + p .size + row-word t head ARITY ≤ SLOTS
-      last-fits x = argument-fits (x .holds .1) refl (l .last) (x .holds .0) who
+      last-fits x = argument-fits (x .holds .1) refl (l .last) (is-call t row j f g) (x .holds .0) who
 
       pub last-enters : Survives v → {w1 w2 : List ℕ} {r : Next} → w1 ≡ put-slot w 0 (p .base + p .size + k) HELD v
           → Enters t w1 w2 row head v p s r → Prints (Arguing defs t w o v row p s) t w2 o (3 * s .units + p .height + 3) r
       last-enters back {w2 = w2} {r = r} e x =
           let y = subst (λ (u : List ℕ). Enters t u w2 row head v p s r) (e ∙ ap (λ (n : ℕ). put-slot w 0 (p .base + p .size + n) HELD v) (l .number)) x in
           record {
-            right = λ q b. argument-enters (b .1) refl (l .last) (b .0) who back y;
+            right = λ q b. argument-enters (b .1) refl (l .last) (is-call t row j f g) (b .0) who back y;
             less = subst (λ (n : Next). weight n < 3 * s .units + p .height + 3) (sym (x .is)) (omega arith);
           }

@@ -8,7 +8,7 @@ use native.Mathlib.Omega.{arith}
 use lib.ListN.{length}
 use Rattle.language.specs.Sizes.{TOKENS, NODES, ACTIVE}
 use Rattle.language.specs.Tokens.{Token, NAME}
-use Rattle.language.specs.Trees.{Name, whole, Exp, name, literal, unary, binary, follow, group, block, call, bind, branch, loop, Scope, own, nearest}
+use Rattle.language.specs.Trees.{Name, whole, Exp, name, literal, unary, binary, follow, group, block, call, bind, branch, loop, counted, Scope, own, nearest}
 use Rattle.language.specs.State as M
 use Rattle.language.specs.State.{value, stop, stuck, no-unit, too-deep, then, when-some, with-units}
 use Rattle.language.specs.Meaning.{Fun, Env, charge, begin, literal-value, step, eval}
@@ -22,13 +22,13 @@ use Rattle.machine.specs.Outcomes.{memory}
 use Rattle.numbers.specs.declared.Stop.{Stop}
 use Rattle.machine.specs.declared.state.Tally.{Tally}
 use Rattle.runner.specs.Phases.{waits}
-use Rattle.runner.specs.Trees.{NameAt, At, at-name, at-literal, at-unary, at-binary, at-follow, at-group, at-block, at-call, at-bind, at-branch, at-loop, slack, Scene}
+use Rattle.runner.specs.Trees.{NameAt, At, at-name, at-literal, at-unary, at-binary, at-follow, at-group, at-block, at-call, at-bind, at-branch, at-loop, at-counted, slack, Scene}
 use Rattle.runner.specs.Waiting.{Run, Then, Binds, Stack}
 use Rattle.runner.specs.Standing.{Fair, Begins, Starts, Gives, Good, charged, over}
 use Rattle.runner.specs.declared.state.Spot.{Spot}
 use Rattle.runner.specs.declared.state.Ending.{Ending}
 use Rattle.layout.proofs.Shapes.{unary-high, binary-between}
-use Rattle.runner.proofs.RowKinds.{literal-range, unary-waits, binary-waits, semi-waits, group-waits, block-waits, call-waits, let-waits, if-waits, while-waits, clash, clash-waits}
+use Rattle.runner.proofs.RowKinds.{literal-range, range-between, range-waits, unary-waits, binary-waits, semi-waits, group-waits, block-waits, call-waits, let-waits, if-waits, while-waits, clash, clash-waits}
 use Rattle.runner.proofs.Finding.{bound-holds}
 use Rattle.runner.proofs.Entering.{fair-low}
 
@@ -48,6 +48,7 @@ module _ {ts : List Token} {t : List ℕ} {row : ℕ} where
   own-at (at-bind h x y z) = sym (h .own-is)
   own-at (at-branch h x y z) = sym (h .own-is)
   own-at (at-loop h x y) = sym (h .own-is)
+  own-at (at-counted h x y z u) = sym (h .own-is)
 
   pub inside-at : {e : Exp} → At ts t row e → row < NODES
   inside-at (at-name h x) = h .inside
@@ -61,6 +62,7 @@ module _ {ts : List Token} {t : List ℕ} {row : ℕ} where
   inside-at (at-bind h x y z) = h .inside
   inside-at (at-branch h x y z) = h .inside
   inside-at (at-loop h x y) = h .inside
+  inside-at (at-counted h x y z u) = h .inside
 
 -- a Block has one slot more at most
 pub slack-one : (e : Exp) → slack e ≤ 1
@@ -76,6 +78,7 @@ slack-one (call i f es) = omega arith
 slack-one (bind i x e f) = omega arith
 slack-one (branch i c e f) = omega arith
 slack-one (loop i c e) = omega arith
+slack-one (counted i x b es e) = omega arith
 
 -- ---- a unit is used
 
@@ -225,6 +228,7 @@ module _ (q : Run) {t w : List ℕ} {node base : ℕ} {L : List ℕ} {env : Env}
   looked (at-bind h x y z) means k = clash (h .kind-is) k (λ z. omega arith)
   looked (at-branch h x y z) means k = clash (h .kind-is) k (λ z. omega arith)
   looked (at-loop h x y) means k = clash (h .kind-is) k (λ z. omega arith)
+  looked (at-counted {b = b} h x y z u) means k = clash (h .kind-is) k (λ e. omega (arith, range-between b))
 
 -- ---- literals
 
@@ -243,6 +247,7 @@ module _ (q : Run) {t : List ℕ} {node : ℕ} (go : Exp → Env → M.State →
   literal-row (at-bind h x y z) n f = clash-waits (h .kind-is) f let-waits
   literal-row (at-branch h x y z) n f = clash-waits (h .kind-is) f if-waits
   literal-row (at-loop h x y) n f = clash-waits (h .kind-is) f while-waits
+  literal-row (at-counted {b = b} h x y z u) n f = clash-waits (h .kind-is) f (range-waits b)
 
 module _ {q : Run} {t w o : List ℕ} {node : ℕ} {p : Spot} {s : Tally} (b : Starts q t w o node p s) where
   found : row-word t node KIND ≡ NAME

@@ -1,16 +1,16 @@
 -- Calls: who is called, the first argument begins, or the body of a function without parameters.
 use mathlib.Core.Path.{_≡_, refl, sym, ap, subst, _∙_}
-use mathlib.Core.List.{List, [], _∷_}
+use mathlib.Core.List.{List, []}
 use mathlib.Core.Option.{Option, none, some}
 use Prim.Native.Nat.{ℕ, suc, _+_, _*_, _≤_, _<_}
 use native.Mathlib.Omega.{arith}
 use lib.ListN.{length}
 use Rattle.language.specs.Sizes.{NODES, ACTIVE, PARAMETERS}
-use Rattle.language.specs.Trees.{Name, Exp, call, Exps, last, more, nearest}
+use Rattle.language.specs.Trees.{Name, Exp, call, Exps, nearest}
 use Rattle.language.specs.State as M
-use Rattle.language.specs.State.{value, stop, stuck, then}
-use Rattle.language.specs.Meaning.{Env, arguments, step, eval}
-use Rattle.layout.specs.Table.{KIND, FIRST, EXPRESSION, NEXT, ARITY, row-word, token-value}
+use Rattle.language.specs.State.{then}
+use Rattle.language.specs.Meaning.{arguments, step, eval}
+use Rattle.layout.specs.Table.{KIND, FIRST, EXPRESSION, ARITY, row-word, token-value}
 use Rattle.layout.specs.Functions.{find-function}
 use Rattle.layout.specs.Rows.{CALL}
 use Rattle.layout.specs.Slots.{TAGS, WAITING, SLOTS}
@@ -21,37 +21,18 @@ use Rattle.machine.specs.Slots.{values-from}
 use Rattle.machine.specs.Outcomes.{memory}
 use Rattle.machine.specs.declared.state.Tally.{Tally}
 use Rattle.runner.specs.Phases.{LAST, ARGUMENT}
-use Rattle.runner.specs.Trees.{Head, NameAt, count, helds, At, at-name, at-literal, at-unary, at-binary, at-follow, at-group, at-block, at-call, at-bind, at-branch, at-loop, Args, args-last, args-more, slack, Scene}
-use Rattle.runner.specs.Waiting.{Run, Then, FrameAt, which, called, Waits}
+use Rattle.runner.specs.Trees.{Head, NameAt, count, At, at-name, at-literal, at-unary, at-binary, at-follow, at-group, at-block, at-call, at-bind, at-branch, at-loop, at-counted, Args, slack, Scene}
+use Rattle.runner.specs.Waiting.{Run, FrameAt, which, called, Does, by-call, Waits}
 use Rattle.runner.specs.Standing.{Begins, Starts, Good, Heads, callee, Callable, Enters}
 use Rattle.runner.specs.declared.state.Spot.{Spot}
 use Rattle.runner.specs.declared.state.Next.{Next}
 use Rattle.runner.proofs.Memory.{Stored, stored-frame, stored-keyed, stored-then, frame-pushed, frame-kept}
-use Rattle.runner.proofs.Stacks.{binds-kept}
 use Rattle.runner.proofs.Finding.{Calls, calls-of, heads-of}
 use Rattle.runner.proofs.Functions.{parameters-length, callable, Called, call-enters, call-empty, Body, body-of}
-use Rattle.runner.proofs.RowKinds.{literal-range, clash}
+use Rattle.runner.proofs.RowKinds.{literal-range, range-between, clash}
 use Rattle.runner.proofs.Entering.{spot}
-use Rattle.runner.proofs.Waiting.{part-begins-at, first-begins}
-
--- what is done with the values, by another name
-module _ (q : Run) (d : ℕ) (env : Env) where
-  abbrev All : Exps → M.State → (List M.Value → M.State → M.Outcome) → M.Outcome
-  All es s f = arguments (q .fs) (eval (q .fs) d) es env s f
-
-  then-same : (o : M.Outcome) (f g : Then) → ((v : M.Value) (s : M.State) → f v s ≡ g v s) → then o f ≡ then o g
-  unfolding then
-  then-same (value v s) f g h = h v s
-  then-same (stop y i s) f g h = refl
-  then-same stuck f g h = refl
-
-  pub arguments-same : (es : Exps) (s : M.State) (f g : List M.Value → M.State → M.Outcome) → ((vs : List M.Value) (s : M.State) → f vs s ≡ g vs s)
-      → All es s f ≡ All es s g
-  unfolding arguments
-  arguments-same last s f g h = h [] s
-  arguments-same (more e es) s f g h =
-      then-same (eval (q .fs) d e env s) (λ v s. All es s λ vs s. f (v ∷ vs) s) (λ v s. All es s λ vs s. g (v ∷ vs) s)
-      (λ v s. arguments-same es s (λ vs s. f (v ∷ vs) s) (λ vs s. g (v ∷ vs) s) (λ vs s. h (v ∷ vs) s))
+use Rattle.runner.proofs.Waiting.{part-begins-at}
+use Rattle.runner.proofs.Arguments.{none-left, first-inside, first-begins-at}
 
 -- ---- a call begins
 
@@ -80,24 +61,7 @@ module _ (q : Run) {t : List ℕ} where
   call-at (at-bind h x y z) k = clash (h .kind-is) k (λ z. omega arith)
   call-at (at-branch h x y z) k = clash (h .kind-is) k (λ z. omega arith)
   call-at (at-loop h x y) k = clash (h .kind-is) k (λ z. omega arith)
-
-  -- no argument
-  pub none-left : {r : ℕ} {es : Exps} → Args (q .ts) t r es → r ≡ 0 → es ≡ last
-  none-left (args-last e) z = refl
-  none-left (args-more n l a m) z = absurd (n z)
-
--- an argument, and those behind it
-pub record Argued (q : Run) (t : List ℕ) (r : ℕ) (es : Exps) : Type 0 where
-  pub e : Exp
-  pub rest : Exps
-  pub is : es ≡ more e rest
-  pub inside : r < NODES
-  pub at : At (q .ts) t (row-word t r EXPRESSION) e
-  pub args : Args (q .ts) t (row-word t r NEXT) rest
-
-pub some-left : (q : Run) {t : List ℕ} {r : ℕ} {es : Exps} → Args (q .ts) t r es → (r ≡ 0 → ⊥) → Argued q t r es
-some-left q (args-last e) n = absurd (n e)
-some-left q (args-more {e = e} {es = es} n l a m) z = record { e = e; rest = es; is = refl; inside = l; at = a; args = m }
+  call-at (at-counted {b = b} h x y z u) k = clash (h .kind-is) k (λ e. omega (arith, range-between b))
 
 -- ---- who is called
 
@@ -199,61 +163,21 @@ module _ {q : Run} {t w o : List ℕ} {node : ℕ} {p : Spot} {s : Tally} (b : S
 
   -- ---- the first argument
 
+  abbrev doing : List M.Value → M.State → M.Outcome
+  doing = called (q .fs) (b .d) (calling .i) (calling .x)
+
+  does : Does q t (b .d) node (b .env) doing
+  does = by-call (record { i = calling .i; x = calling .x; head = calling .head; named = calling .named; is = λ vs s. refl })
+
+  all-means : then (arguments (q .fs) (eval (q .fs) (b .d)) (calling .es) (b .env) σ doing) (b .κ) ≡ q .whole
+  unfolding step
+  all-means = call-means
+
   module _ (row : ℕ) (is : row ≡ row-word t node FIRST) (some-there : row ≡ 0 → ⊥) where
-    argued : Argued q t row (calling .es)
-    argued = some-left q (subst (λ (r : ℕ). Args (q .ts) t r (calling .es)) (sym is) (calling .args)) some-there
-
     pub argument-inside : row < NODES
-    argument-inside = argued .inside
-
-    argued-few : suc (count (argued .rest)) ≤ PARAMETERS
-    unfolding count
-    argued-few = subst (λ (es : Exps). count es ≤ PARAMETERS) (argued .is) (calling .few)
-
-    first-means : then (then (eval (q .fs) (b .d) (argued .e) (b .env) σ)
-        λ v s. arguments (q .fs) (eval (q .fs) (b .d)) (argued .rest) (b .env) s λ ws s. called (q .fs) (b .d) (calling .i) (calling .x) (v ∷ ws) s) (b .κ)
-        ≡ q .whole
-    unfolding step arguments
-    first-means =
-        ap (λ (es : Exps). then (step (q .fs) (eval (q .fs) (b .d)) (call (calling .i) (calling .x) es) (b .env) σ) (b .κ)) (sym (argued .is)) ∙ call-means
-
-    passes-at : (size : ℕ) → size ≡ length (b .L)
-        → Begins q t (put-frame w (p .height) node ARGUMENT (p .base) (length (b .L)) (TAGS * row + 0)) o (row-word t row EXPRESSION)
-        (spot (p .base) size (p .height + 1)) s
-    unfolding Waits which values-from helds
-    passes-at size sized =
-        first-begins (b .d) (p .height) node ARGUMENT (p .base) (TAGS * row + 0) (b .L) (b .env) s (b .κ) (b .scene) (b .fair) (b .deep) (b .binds)
-        (omega (arith, call-room)) (b .stack)
-        (λ v s. arguments (q .fs) (eval (q .fs) (b .d)) (argued .rest) (b .env) s λ ws s. called (q .fs) (b .d) (calling .i) (calling .x) (v ∷ ws) s)
-        size sized (argued .at)
-        (record {
-          i = calling .i;
-          x = calling .x;
-          arg = row;
-          k = 0;
-          vs = [];
-          es = argued .rest;
-          head = calling .head;
-          named = calling .named;
-          marked = refl;
-          inside = argued .inside;
-          room = call-room;
-          few = omega (arith, argued-few);
-          used = refl;
-          long = refl;
-          held = refl;
-          sees = binds-kept
-              (stored-frame w (p .height) node ARGUMENT (p .base) (length (b .L)) (TAGS * row + 0) (p .base + length (b .L)) (omega (arith, b .deep))
-              (omega (arith, call-room)) .slots)
-              (omega arith) (b .binds);
-          rest = argued .args;
-          goes = λ v s. refl;
-        })
-        first-means
+    argument-inside = first-inside b doing does (calling .args) (calling .few) call-room all-means row is some-there
 
     -- it begins
     pub start-pass : Begins q t (put-frame w (p .height) node ARGUMENT (p .base) (p .size) (TAGS * row + 0)) o (row-word t row EXPRESSION)
         (spot (p .base) (p .size + 0) (p .height + 1)) s
-    start-pass =
-        subst (λ (n : ℕ). Begins q t (put-frame w (p .height) node ARGUMENT (p .base) n (TAGS * row + 0)) o (row-word t row EXPRESSION)
-        (spot (p .base) (p .size + 0) (p .height + 1)) s) (sym (b .sized)) (passes-at (p .size + 0) (omega (arith, b .sized)))
+    start-pass = first-begins-at b doing does (calling .args) (calling .few) call-room all-means row is some-there

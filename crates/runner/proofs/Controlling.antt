@@ -22,7 +22,7 @@ use Rattle.layout.specs.declared.values.Value.the-variants.{Nothing}
 use Rattle.machine.specs.Operands.{is-true}
 use Rattle.machine.specs.Outcomes.{memory}
 use Rattle.machine.specs.declared.state.Tally.{Tally}
-use Rattle.runner.specs.Phases.{LAST, UNARY, LEFT, RIGHT, BEFORE, INSIDE, BOUND, CONDITION, TEST, PASS, ARGUMENT, Controls}
+use Rattle.runner.specs.Phases.{LAST, UNARY, LEFT, RIGHT, BEFORE, INSIDE, BOUND, CONDITION, TEST, PASS, ARGUMENT, COUNTED, Controls}
 use Rattle.runner.specs.Waiting.{Run, Then, binds-name, which, tested, WaitsBefore, WaitsBound, WaitsCondition, WaitsTest, WaitsPass, WaitsWhole, Waits}
 use Rattle.runner.specs.Standing.{Begins, Gives, Resumes, Ends}
 use Rattle.runner.specs.declared.state.Spot.{Spot}
@@ -35,7 +35,7 @@ use Rattle.runner.proofs.Giving.{waits-at, back, sees, turns, holding, 
 -- ---- a value of a kind that is wanted, where the run is not stuck
 
 module _ (q : Run) (κ : Then) where
-  unit-whole : (x : Option (Unit {0})) (k : Unit {0} → M.Outcome) → then (want x k) κ ≡ q .whole → then (k tt) κ ≡ q .whole
+  pub unit-whole : (x : Option (Unit {0})) (k : Unit {0} → M.Outcome) → then (want x k) κ ≡ q .whole → then (k tt) κ ≡ q .whole
   unfolding when-some then
   unit-whole none k e = absurd (q .safe (sym e))
   unit-whole (some u) k e = e
@@ -207,6 +207,7 @@ module _ {q : Run} {t w o : List ℕ} {v : Value} {row phase : ℕ} {p : Spot} {
           ne-eqb phase TEST z,
           ne-eqb phase PASS u,
           ne-eqb phase ARGUMENT (c .argument),
+          ne-eqb phase COUNTED (c .counted),
         ) at (r .waits)
 
     pub resume-whole : Ends q t w o Ending.«Value» v s

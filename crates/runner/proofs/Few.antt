@@ -1,4 +1,4 @@
--- In a program that has a type no call has more arguments than a function may have parameters.
+-- In a program that has a type no call has more arguments than a function may have parameters, and no `for` more bounds.
 use mathlib.Core.Path.{_≡_, refl, ap, subst}
 use mathlib.Core.Bool.{Bool, true, false}
 use mathlib.Core.List.{List, [], _∷_, map}
@@ -9,9 +9,9 @@ use lib.ListN.{length}
 use Rattle.language.specs.Sizes.{PARAMETERS}
 use Rattle.language.specs.Tokens.{same}
 use Rattle.language.specs.Trees.{Name, Ty, Exp, name, literal, unary, binary, follow, group, block, call, bind, branch}
-use Rattle.language.specs.Trees.{loop, Exps, last, more, Param, Def, Scope, empty, push, nearest, size, PUTCHAR}
+use Rattle.language.specs.Trees.{loop, counted, Exps, last, more, Param, Def, Scope, empty, push, nearest, size, PUTCHAR}
 use Rattle.language.specs.Types.{Sig, Typed, t-name, t-whole, t-truth, t-trivial, t-decimal, t-unary, t-binary, t-follow, t-group, t-block, t-call}
-use Rattle.language.specs.Types.{t-bind, t-branch, t-loop, TypedAll, t-last, t-more, Takes, takes-none, takes-more, sig, with-def, given, Fine, fine}
+use Rattle.language.specs.Types.{t-bind, t-branch, t-loop, t-counted, Bounds, two, three, TypedAll, t-last, t-more, Takes, takes-none, takes-more, sig, with-def, given, Fine, fine}
 use Rattle.language.proofs.Meaning.CellTypes.{none-some, some-one}
 use Rattle.runner.specs.Trees.{count}
 
@@ -28,6 +28,7 @@ unfoldable mutual
   Few (bind i x e f) = Few e × Few f
   Few (branch i c e f) = Few c × Few e × Few f
   Few (loop i c e) = Few c × Few e
+  Few (counted i x b es e) = (count es ≤ PARAMETERS) × FewAll es × Few e
 
   pub FewAll : Exps → Type 0
   FewAll last = Unit {0}
@@ -41,6 +42,10 @@ count-is : {Δ : Scope Sig} {Γ : Scope Ty} {es : Exps} {ts : List Ty} → Typed
 unfolding count
 count-is t-last = refl
 count-is (t-more e es) = ap suc (count-is es)
+
+bounds-few : {ts : List Ty} → Bounds ts → length ts ≤ PARAMETERS
+bounds-few two = omega arith
+bounds-few three = omega arith
 
 module _ {Δ : Scope Sig} (small : Small Δ) where
   mutual
@@ -61,6 +66,7 @@ module _ {Δ : Scope Sig} (small : Small Δ) where
     typed-few (t-bind a b) = (typed-few a, typed-few b)
     typed-few (t-branch a b c) = (typed-few a, typed-few b, typed-few c)
     typed-few (t-loop a b) = (typed-few a, typed-few b)
+    typed-few (t-counted xs bs a) = (omega (arith, count-is xs, bounds-few bs), typed-few-all xs, typed-few a)
 
     typed-few-all : {Γ : Scope Ty} {es : Exps} {ts : List Ty} → TypedAll Δ Γ es ts → FewAll es
     typed-few-all t-last = tt

@@ -1,5 +1,6 @@
 -- An argument has its value: the next one begins, or the body; or a byte is printed.
 use mathlib.Core.Path.{_≡_, refl, sym, ap, subst, _∙_}
+use mathlib.Core.Bool.{false}
 use mathlib.Core.List.{List, [], _∷_, _++_, append-assoc}
 use mathlib.Core.Option.{none, some}
 use Prim.Native.Nat.{ℕ, suc, _+_, _*_, _/_, _%_, _≤_, _<_}
@@ -10,7 +11,8 @@ use Rattle.language.specs.Trees.{Exps, last}
 use Rattle.language.specs.State as M
 use Rattle.language.specs.State.{then, as-int, want}
 use Rattle.language.specs.Meaning.{put, arguments, eval}
-use Rattle.layout.specs.Table.{OWN, EXPRESSION, NEXT, ARITY, row-word}
+use Rattle.layout.specs.Table.{KIND, OWN, EXPRESSION, NEXT, ARITY, row-word}
+use Rattle.layout.specs.Decode.{counts}
 use Rattle.layout.specs.Slots.{TAGS, HELD, SLOTS, key-at, value-at, put-slot}
 use Rattle.layout.specs.Frames.{frame-mark, put-frame}
 use Rattle.layout.specs.Values.{meant, Survives}
@@ -23,7 +25,7 @@ use Rattle.machine.specs.declared.state.Outcome.{Outcome}
 use Rattle.machine.proofs.Slotted.{put-key, put-value}
 use Rattle.runner.specs.Phases.{LAST, ARGUMENT}
 use Rattle.runner.specs.Trees.{count, helds, Args}
-use Rattle.runner.specs.Waiting.{Run, Then, Binds, binds-held, FrameAt, which, called, WaitsArgument, Waits}
+use Rattle.runner.specs.Waiting.{Run, Then, Binds, binds-held, FrameAt, which, called, CallDoes, WaitsArgument, Waits}
 use Rattle.runner.specs.Standing.{Begins, Resumes, Good, Printing, Heads, callee, Callable, Enters}
 use Rattle.runner.specs.declared.state.Spot.{Spot}
 use Rattle.runner.specs.declared.state.Next.{Next}
@@ -32,7 +34,8 @@ use Rattle.runner.proofs.Stacks.{then-then, helds-length, binds-kept}
 use Rattle.runner.proofs.Functions.{values-more, values-length, values-by, parameters-length, callable, Called, call-prints, call-enters, body-of}
 use Rattle.runner.proofs.Entering.{spot, told-whole, onward-good, fair-printed, same-stack}
 use Rattle.runner.proofs.Giving.{waits-at, frame-room, frame-low, below, part-enters, sees}
-use Rattle.runner.proofs.Calling.{arguments-same, none-left, Argued, some-left, heads-at, callee-of}
+use Rattle.runner.proofs.Arguments.{does-inside, call-does, arguments-same, none-left, Argued, some-left}
+use Rattle.runner.proofs.Calling.{heads-at, callee-of}
 
 module _ {q : Run} {t w o : List ℕ} {v : Value} {row phase : ℕ} {p : Spot} {s : Tally} (r : Resumes q t w o v row phase p s) (e : phase ≡ ARGUMENT) where
   abbrev σ : M.State
@@ -51,7 +54,7 @@ module _ {q : Run} {t w o : List ℕ} {v : Value} {row phase : ℕ} {p : Spot} {
   abbrev M1 : ℕ
   M1 = frame-mark w H
 
-  waiting : WaitsArgument q t w (r .d) row B (r .mark) (r .n) (r .b) (r .L) (r .env) (r .κ) (r .κ′) (r .u)
+  pub waiting : WaitsArgument q t w (r .d) row B (r .mark) (r .n) (r .b) (r .L) (r .env) (r .κ) (r .κ′) (r .u)
   unfolding Waits which
   waiting = waits-at r ARGUMENT e
 
@@ -59,10 +62,7 @@ module _ {q : Run} {t w o : List ℕ} {v : Value} {row phase : ℕ} {p : Spot} {
   K = waiting .k
 
   pub argument-row : row < NODES
-  argument-row = waiting .head .inside
-
-  pub argument-heads : {defs : ℕ} → q .defs ≡ defs → Heads t defs row
-  argument-heads few = heads-at q few (r .scene) (waiting .head) (waiting .named)
+  argument-row = does-inside (waiting .by)
 
   small : K < TAGS
   small = omega (arith, waiting .few)
@@ -74,7 +74,7 @@ module _ {q : Run} {t w o : List ℕ} {v : Value} {row phase : ℕ} {p : Spot} {
   row-is : M1 / TAGS ≡ waiting .arg
   row-is = ap (λ (m : ℕ). m / TAGS) mark-is ∙ packed-key (waiting .arg) K small
 
-  number-is : M1 % TAGS ≡ K
+  pub number-is : M1 % TAGS ≡ K
   number-is = ap (λ (m : ℕ). m % TAGS) mark-is ∙ packed-tag (waiting .arg) K small
 
   pub argument-inside : M1 / TAGS < NODES
@@ -86,11 +86,8 @@ module _ {q : Run} {t w o : List ℕ} {v : Value} {row phase : ℕ} {p : Spot} {
   pub argument-slot : B + p .size + M1 % TAGS < SLOTS
   argument-slot = omega (arith, r .sized, number-is, in-slot)
 
-  pub argument-size : p .size ≤ SLOTS
-  argument-size = omega (arith, r .sized, in-slot)
-
   argument-means : then (arguments (q .fs) (eval (q .fs) (r .d)) (waiting .es) (r .env) σ
-      λ ws s. called (q .fs) (r .d) (waiting .i) (waiting .x) (waiting .vs ++ (meant v ∷ ws)) s) (r .κ) ≡ q .whole
+      λ ws s. waiting .done (waiting .vs ++ (meant v ∷ ws)) s) (r .κ) ≡ q .whole
   argument-means = sym (waiting .goes (meant v) σ) ∙ r .means
 
   -- ---- the value is put into its slot, and the frame is put anew
@@ -145,25 +142,36 @@ module _ {q : Run} {t w o : List ℕ} {v : Value} {row phase : ℕ} {p : Spot} {
 
   -- ---- the last argument
 
-  module _ (end : row-word t (M1 / TAGS) NEXT ≡ 0) {defs : ℕ} (few : q .defs ≡ defs) where
+  module _ (end : row-word t (M1 / TAGS) NEXT ≡ 0) where
     last-is : waiting .es ≡ last
     last-is = none-left q (waiting .rest) (ap (λ (m : ℕ). row-word t m NEXT) (sym row-is) ∙ end)
 
     abbrev all : List M.Value
     all = waiting .vs ++ (meant v ∷ [])
 
-    last-means : then (called (q .fs) (r .d) (waiting .i) (waiting .x) all σ) (r .κ) ≡ q .whole
+    pub last-means : then (waiting .done all σ) (r .κ) ≡ q .whole
     unfolding arguments
     last-means =
-        ap (λ (es : Exps). then (arguments (q .fs) (eval (q .fs) (r .d)) es (r .env) σ
-        λ ws s. called (q .fs) (r .d) (waiting .i) (waiting .x) (waiting .vs ++ (meant v ∷ ws)) s) (r .κ)) (sym last-is) ∙ argument-means
+        ap (λ (es : Exps). then (arguments (q .fs) (eval (q .fs) (r .d)) es (r .env) σ λ ws s. waiting .done (waiting .vs ++ (meant v ∷ ws)) s) (r .κ))
+        (sym last-is) ∙ argument-means
+
+  -- they are those of a call
+  module _ (end : row-word t (M1 / TAGS) NEXT ≡ 0) (k : counts (row-word t row KIND) ≡ false) {defs : ℕ} (few : q .defs ≡ defs) where
+    call-of : CallDoes q t (r .d) row (r .env) (waiting .done)
+    call-of = call-does (waiting .by) k
+
+    pub argument-heads : Heads t defs row
+    argument-heads = heads-at q few (r .scene) (call-of .head) (call-of .named)
+
+    call-means : then (called (q .fs) (r .d) (call-of .i) (call-of .x) (all end) σ) (r .κ) ≡ q .whole
+    call-means = ap (λ (m : M.Outcome). then m (r .κ)) (sym (call-of .is (all end) σ)) ∙ last-means end
 
     -- `putchar` prints it
     pub argument-prints : none ≡ callee t defs row → {o1 : List ℕ} {z : Next} → Printing (row-word t row OWN) v o o1 p s z → Good q t w o1 z
     argument-prints n {o1} {z} c =
-        let m = call-prints q (r .κ) (r .d) (waiting .i) (waiting .x) σ (callee-of q few (r .scene) (waiting .head) (waiting .named) none n) refl
-        (waiting .vs) (meant v) last-means in
-        let i = waiting .head .own-is in
+        let m = call-prints q (r .κ) (r .d) (call-of .i) (call-of .x) σ (callee-of q few (r .scene) (call-of .head) (call-of .named) none n) refl
+        (waiting .vs) (meant v) call-means in
+        let i = call-of .head .own-is in
         subst (λ (y : Next). Good q t w o1 y) (sym (c .is))
         (onward-good (suc (r .d)) (B + N) p (c .outcome) (row-word t row OWN) v (r .scene) (fair-printed (c .outcome) (r .fair) (c .printed)) (r .deep)
         (omega (arith, r .deep, waiting .room)) (same-stack s (c .outcome) (below r))
@@ -171,9 +179,9 @@ module _ {q : Run} {t w o : List ℕ} {v : Value} {row phase : ℕ} {p : Spot} {
         (ap (λ (j : ℕ). then (want (as-int (meant v)) λ z. put j z σ) (r .κ)) i ∙ m)))
 
     module _ {head : ℕ} (who : some head ≡ callee t defs row) where
-      one : Called q t head (r .d) all σ (r .κ)
-      one = call-enters q (r .κ) (r .d) (waiting .i) (waiting .x) σ (callee-of q few (r .scene) (waiting .head) (waiting .named) (some head) who) refl all
-          last-means
+      one : Called q t head (r .d) (all end) σ (r .κ)
+      one = call-enters q (r .κ) (r .d) (call-of .i) (call-of .x) σ (callee-of q few (r .scene) (call-of .head) (call-of .named) (some head) who) refl
+          (all end) call-means
 
       pub argument-callable : Callable t head (row-word t head ARITY)
       argument-callable = callable (r .scene .long) (r .scene .stand) (one .function)
@@ -181,7 +189,7 @@ module _ {q : Run} {t w o : List ℕ} {v : Value} {row phase : ℕ} {p : Spot} {
       pub argument-fits : B + p .size + row-word t head ARITY ≤ SLOTS
       argument-fits = omega (arith, r .sized, one .function .arity, one .function .few, waiting .room)
 
-      all-long : Survives v → length all ≡ suc K
+      all-long : Survives v → length (all end) ≡ suc K
       all-long back = ap length (sym (values-are back LAST 0)) ∙ values-length (W back LAST 0) (B + N) (suc K)
 
       module _ (back : Survives v) {w1 : List ℕ} {z : Next} where
@@ -195,10 +203,10 @@ module _ {q : Run} {t w o : List ℕ} {v : Value} {row phase : ℕ} {p : Spot} {
             stored-then (passed back LAST 0) (stored-keyed (x .keyed) (B + N) H (omega arith) fits) in
             let frame : FrameAt w1 H row LAST B N 0 =
             frame-kept (stored-keyed (x .keyed) 0 (suc H) (omega arith) fits .frames) (omega arith) (frame-is back LAST 0) in
-            let n : length all ≡ row-word t head ARITY = omega (arith, one .count, one .function .arity) in
-            let vs : all ≡ values-from w1 0 (B + N) (length all) =
+            let n : length (all end) ≡ row-word t head ARITY = omega (arith, one .count, one .function .arity) in
+            let vs : all end ≡ values-from w1 0 (B + N) (length (all end)) =
             sym (values-are back LAST 0) ∙ ap (λ (k : ℕ). values-from (W back LAST 0) 0 (B + N) k) (sym (all-long back))
-            ∙ sym (values-by w1 (W back LAST 0) (B + N) (length all) (λ i l. x .keyed .values i (omega (arith, n)))) in
+            ∙ sym (values-by w1 (W back LAST 0) (B + N) (length (all end)) (λ i l. x .keyed .values i (omega (arith, n)))) in
             let body = body-of (r .scene .stand) one vs (λ i l. x .keyed .keys i (omega (arith, one .function .arity))) in
             subst (λ (n : Next). Good q t w1 o n) (sym (x .is))
             (part-enters r stored LAST 0 0 (r .κ) frame (record { deep = omega (arith, waiting .room); goes = λ x s. refl })
@@ -232,20 +240,20 @@ module _ {q : Run} {t w o : List ℕ} {v : Value} {row phase : ℕ} {p : Spot} {
     abbrev after : Then
     after x s =
         arguments (q .fs) (eval (q .fs) (r .d)) (argued .rest) (r .env) s λ ws s.
-        called (q .fs) (r .d) (waiting .i) (waiting .x) (waiting .vs ++ (meant v ∷ x ∷ ws)) s
+        waiting .done (waiting .vs ++ (meant v ∷ x ∷ ws)) s
 
     next-means : then (then (eval (q .fs) (r .d) (argued .e) (r .env) σ) after) (r .κ) ≡ q .whole
     unfolding arguments
     next-means =
         ap (λ (es : Exps). then (arguments (q .fs) (eval (q .fs) (r .d)) es (r .env) σ
-        λ ws s. called (q .fs) (r .d) (waiting .i) (waiting .x) (waiting .vs ++ (meant v ∷ ws)) s) (r .κ)) (sym (argued .is)) ∙ argument-means
+        λ ws s. waiting .done (waiting .vs ++ (meant v ∷ ws)) s) (r .κ)) (sym (argued .is)) ∙ argument-means
 
     regroup : (x : M.Value) (s : M.State) → after x s
         ≡ arguments (q .fs) (eval (q .fs) (r .d)) (argued .rest) (r .env) s λ ws s.
-        called (q .fs) (r .d) (waiting .i) (waiting .x) ((waiting .vs ++ (meant v ∷ [])) ++ (x ∷ ws)) s
+        waiting .done ((waiting .vs ++ (meant v ∷ [])) ++ (x ∷ ws)) s
     regroup x s =
         arguments-same q (r .d) (r .env) (argued .rest) s _ _
-        (λ ws s. ap (λ (us : List M.Value). called (q .fs) (r .d) (waiting .i) (waiting .x) us s) (sym (append-assoc (waiting .vs) (meant v ∷ []) (x ∷ ws))))
+        (λ ws s. ap (λ (us : List M.Value). waiting .done us s) (sym (append-assoc (waiting .vs) (meant v ∷ []) (x ∷ ws))))
 
     next-begins : Survives v → Begins q t (put-frame (put-slot w 0 (B + N + K) HELD v) H row ARGUMENT B N (TAGS * next + (K + 1))) o
         (row-word t next EXPRESSION) (spot B (N + (K + 1)) (H + 1)) s
@@ -255,14 +263,12 @@ module _ {q : Run} {t w o : List ℕ} {v : Value} {row phase : ℕ} {p : Spot} {
         let long = helds-length (suc K) (r .L) in
         part-enters r (passed back ARGUMENT mark) ARGUMENT mark (suc K) (λ x s. then (after x s) (r .κ)) (frame-is back ARGUMENT mark)
         (record {
-          i = waiting .i;
-          x = waiting .x;
           arg = next;
           k = suc K;
           vs = waiting .vs ++ (meant v ∷ []);
           es = argued .rest;
-          head = waiting .head;
-          named = waiting .named;
+          done = waiting .done;
+          by = waiting .by;
           marked = omega arith;
           inside = argued .inside;
           room = waiting .room;

@@ -16,15 +16,15 @@ use Rattle.layout.specs.Table.{KIND, OWN, FIRST, SECOND, THIRD, EXPRESSION, NEX
 use Rattle.layout.specs.Names.{value-word, Stand}
 use Rattle.layout.specs.Rows.{literal-kind}
 use Rattle.layout.specs.Decode.{Shape, a-name, a-number, a-float, a-follow, a-group, a-block, a-call, a-let, an-if, a-while, a-constant}
-use Rattle.layout.specs.Decode.{a-unary, a-binary, shape-of, children, build, build-if, tree-at, args-at, Node, Right, RightArgs}
+use Rattle.layout.specs.Decode.{a-unary, a-binary, a-for, counts, shape-of, children, build, build-if, tree-at, args-at, Node, Right, RightArgs}
 use Rattle.layout.proofs.FloatWords.{float-held}
 use Rattle.layout.proofs.NameLaws.{name-inside, named-at}
-use Rattle.layout.proofs.Shapes.{shape-kind, kind-of-shape}
+use Rattle.layout.proofs.Shapes.{shape-kind, kind-of-shape, range-counts}
 use Rattle.language.proofs.Meaning.CellTypes.{some-one}
 use Rattle.machine.specs.Rows.{literal-of, LiteralRow}
 use Rattle.runner.specs.Trees as Trees
 use Rattle.runner.specs.Trees.{Head, NameAt, at-name, at-literal, at-unary, at-binary, at-follow, at-group}
-use Rattle.runner.specs.Trees.{at-block, at-call, at-bind, at-branch, at-loop, Args, args-last, args-more}
+use Rattle.runner.specs.Trees.{at-block, at-call, at-bind, at-branch, at-loop, at-counted, Args, args-last, args-more}
 use Rattle.runner.proofs.Few.{Few, FewAll}
 use Rattle.runner.proofs.RowKinds.{clash}
 
@@ -192,6 +192,9 @@ module _ (ts : List Token) (w : List ℕ) (long : TABLE ≤ length w) (stand : S
     by-shape a-call e f =
         let k = kind-of-shape (row-word w i KIND) a-call e in
         at-call (head a-call e) (name-at _ (n .called k)) (f .0) (ihs F (n .args k .1) (f .1))
+    by-shape (a-for b) e f =
+        let l = n .loops (ap counts (kind-of-shape (row-word w i KIND) (a-for b) e) ∙ range-counts b) in
+        at-counted (head (a-for b) e) (name-at _ (l .named)) (f .0) (ihs F (l .bounds .1) (f .1)) (ih S (l .body .1) (f .2))
 
   -- ---- arguments
 

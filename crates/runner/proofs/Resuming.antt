@@ -21,7 +21,7 @@ use Rattle.machine.specs.Rows.{unary-of, binary-of}
 use Rattle.machine.specs.Outcomes.{Answered, Applied, after-birth}
 use Rattle.machine.specs.declared.state.Tally.{Tally}
 use Rattle.machine.specs.declared.state.Outcome.{Outcome}
-use Rattle.runner.specs.Phases.{LAST, UNARY, LEFT, RIGHT, BEFORE, INSIDE, BOUND, CONDITION, TEST, PASS, ARGUMENT, Controls}
+use Rattle.runner.specs.Phases.{LAST, UNARY, LEFT, RIGHT, BEFORE, INSIDE, BOUND, CONDITION, TEST, PASS, ARGUMENT, COUNTED, Controls}
 use Rattle.runner.specs.Waiting.{Run}
 use Rattle.runner.specs.Standing.{Gives, Resumes, Good, above, begun, given, over, onward, weight, Some, Goes, Any, OfAll, Creating}
 use Rattle.runner.specs.declared.state.Spot.{Spot}
@@ -61,6 +61,9 @@ module _ {defs : ℕ} {t w o : List ℕ} {v : Value} {p : Spot} {s : Tally} wher
 
     pub gives-argument : phase ≡ ARGUMENT → (q : Run) → Giving defs t w o v p s q → OfAll defs (λ q. Resumes q t w o v row ARGUMENT (spot base size g) s) q
     gives-argument f q x = (x .0, subst (λ (k : ℕ). Resumes q t w o v row k (spot base size g) s) f (gives-resumes q x))
+
+    pub gives-counted : phase ≡ COUNTED → (q : Run) → Giving defs t w o v p s q → Resumes q t w o v row COUNTED (spot base size g) s
+    gives-counted f q x = subst (λ (k : ℕ). Resumes q t w o v row k (spot base size g) s) f (gives-resumes q x)
 
 -- ---- resume and control
 

@@ -3,9 +3,11 @@ use mathlib.Core.Path.{_≡_, refl, sym, ap, _∙_}
 use mathlib.Core.Bool.{Bool, true, false}
 use Prim.Native.Nat.{ℕ, _≤_}
 use native.Mathlib.Omega.{arith}
-use Rattle.language.specs.Tokens.{NUMBER, FLOAT-NUMBER, LET, IF, WHILE, SEMI, LPAR, LBRACE}
+use lib.Dec.{eqb}
+use Rattle.language.specs.Tokens.{NUMBER, FLOAT-NUMBER, LET, IF, WHILE, UPTO, THROUGH, SEMI, LPAR, LBRACE}
 use Rattle.language.specs.Trees.{Literal, whole, truth, trivial, decimal, Unary, minus, fetch, new, Binary}
-use Rattle.layout.specs.Rows.{CALL, literal-kind, unary-kind, binary-kind}
+use Rattle.layout.specs.Rows.{CALL, literal-kind, unary-kind, binary-kind, range-kind}
+use Rattle.layout.specs.Decode.{counts}
 use Rattle.runner.specs.Phases.{LAST, UNARY, LEFT, BEFORE, INSIDE, BOUND, CONDITION, TEST, waits, phase-of}
 
 -- kinds that wait, and those that do not
@@ -43,6 +45,26 @@ literal-range (truth true) = (omega arith, omega arith)
 literal-range (truth false) = (omega arith, omega arith)
 literal-range trivial = (omega arith, omega arith)
 literal-range (decimal x) = (omega arith, omega arith)
+
+pub range-waits : (b : Bool) → waits (range-kind b) ≡ true
+unfolding waits range-kind
+range-waits false = refl
+range-waits true = refl
+
+pub range-between : (b : Bool) → (UPTO ≤ range-kind b) × (range-kind b ≤ THROUGH)
+unfolding range-kind
+range-between false = (omega arith, omega arith)
+range-between true = (omega arith, omega arith)
+
+-- the mark of a `for` tells whether its end is a pass too
+pub range-through : (b : Bool) → eqb (range-kind b) THROUGH ≡ b
+unfolding range-kind
+range-through false = refl
+range-through true = refl
+
+pub call-counts : counts CALL ≡ false
+unfolding counts
+call-counts = refl
 
 pub semi-waits : waits SEMI ≡ true
 unfolding waits

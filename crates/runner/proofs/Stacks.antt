@@ -12,8 +12,8 @@ use Rattle.language.specs.State.{Outcome, value, stop, stuck, then}
 use Rattle.language.specs.Meaning.{Env}
 use Rattle.layout.specs.Slots.{key-at}
 use Rattle.layout.specs.Frames.{FRAMES-AT, CELLS-AT}
-use Rattle.runner.specs.Phases.{LAST, UNARY, LEFT, RIGHT, BEFORE, INSIDE, BOUND, CONDITION, TEST, PASS, ARGUMENT}
-use Rattle.runner.specs.Waiting.{Run, Then, Binds, binds-none, binds-name, binds-held, Later, which, WaitsLast, WaitsUnary, WaitsLeft, WaitsRight, WaitsBefore, WaitsInside, WaitsBound, WaitsCondition, WaitsTest, WaitsPass, WaitsArgument, WaitsWhole, Waits, Stack, ground, frame}
+use Rattle.runner.specs.Phases.{LAST, UNARY, LEFT, RIGHT, BEFORE, INSIDE, BOUND, CONDITION, TEST, PASS, ARGUMENT, COUNTED}
+use Rattle.runner.specs.Waiting.{Run, Then, Binds, binds-none, binds-name, binds-held, Later, which, WaitsLast, WaitsUnary, WaitsLeft, WaitsRight, WaitsBefore, WaitsInside, WaitsBound, WaitsCondition, WaitsTest, WaitsPass, WaitsArgument, WaitsCounted, WaitsWhole, Waits, Stack, ground, frame}
 use Rattle.runner.specs.Trees.{helds}
 use Rattle.runner.proofs.Memory.{Below, frame-kept, value-kept, key-kept, values-kept}
 
@@ -118,14 +118,12 @@ module _ (q : Run) (t : List ℕ) {w w1 : List ℕ} {a h c : ℕ} (k : Kept w w1
 
   argument-kept : WaitsArgument q t w d row base mark n b L env κ κ′ u → WaitsArgument q t w1 d row base mark n b L env κ κ′ u
   argument-kept y = record {
-    i = y .i;
-    x = y .x;
     arg = y .arg;
     k = y .k;
     vs = y .vs;
     es = y .es;
-    head = y .head;
-    named = y .named;
+    done = y .done;
+    by = y .by;
     marked = y .marked;
     inside = y .inside;
     room = y .room;
@@ -135,6 +133,20 @@ module _ (q : Run) (t : List ℕ) {w w1 : List ℕ} {a h c : ℕ} (k : Kept w w1
     held = values-kept (k .slots) (base + length L) (y .k) (omega (arith, y .used)) ∙ y .held;
     sees = let e = helds-length (y .k) L in binds-kept (k .slots) (omega (arith, y .used)) (y .sees);
     rest = y .rest;
+    goes = y .goes;
+  }
+
+  counted-kept : WaitsCounted q t w d row base mark n b L env κ κ′ u → WaitsCounted q t w1 d row base mark n b L env κ κ′ u
+  counted-kept y = record {
+    loop = y .loop;
+    to = y .to;
+    by = y .by;
+    z = y .z;
+    room = y .room;
+    used = y .used;
+    counter = value-kept (k .slots) (base + length L) (omega (arith, y .used)) ∙ y .counter;
+    end = value-kept (k .slots) (base + length L + 1) (omega (arith, y .used)) ∙ y .end;
+    step = value-kept (k .slots) (base + length L + 2) (omega (arith, y .used)) ∙ y .step;
     goes = y .goes;
   }
 
@@ -151,7 +163,8 @@ module _ (q : Run) (t : List ℕ) {w w1 : List ℕ} {a h c : ℕ} (k : Kept w w1
       (which-map (eqb p CONDITION) condition-kept
       (which-map (eqb p TEST) test-kept
       (which-map (eqb p PASS) pass-kept
-      (which-map (eqb p ARGUMENT) argument-kept whole-kept))))))))))
+      (which-map (eqb p ARGUMENT) argument-kept
+      (which-map (eqb p COUNTED) counted-kept whole-kept)))))))))))
 
 pub later-kept : {w w1 : List ℕ} {a h n b c m : ℕ} → Kept w w1 a h c → Later w n b c m → Later w1 n b c m
 later-kept k l = record { few = l .few; older = l .older; later = λ i x y. omega (arith, k .keys i y, l .later i x y) }

@@ -10,6 +10,7 @@ use Rattle.language.specs.Tokens.{NAME}
 use Rattle.language.specs.Meaning.{literal-value}
 use Rattle.layout.specs.Table.{KIND, OWN, FIRST, EXPRESSION, ARITY, row-word, token-value}
 use Rattle.layout.specs.Rows.{CALL}
+use Rattle.layout.specs.Decode.{counts}
 use Rattle.layout.specs.Slots.{TAGS, SLOTS}
 use Rattle.layout.specs.Frames.{put-frame}
 use Rattle.layout.specs.Values.{meant}
@@ -27,6 +28,7 @@ use Rattle.runner.specs.declared.state.Next.{Next}
 use Rattle.runner.proofs.Beginning.{begin-none, begin-deep, begin-starts, name-token, start-name, literal-is, start-literal}
 use Rattle.runner.proofs.Waiting.{start-waits}
 use Rattle.runner.proofs.Calling.{call-heads, start-nobody, start-callable, start-fits, start-enters, argument-inside, start-pass}
+use Rattle.runner.proofs.Counting.{bound-inside, start-bound}
 use Rattle.runner.proofs.Promises.{goes-to}
 
 abbrev Beginning : ℕ → List ℕ → List ℕ → ℕ → Spot → Tally → Run → List ℕ → Type 0
@@ -59,13 +61,25 @@ module _ {defs : ℕ} {t w : List ℕ} {node : ℕ} {p : Spot} {s : Tally} where
 
   module _ {kind : ℕ} (k : kind ≡ row-word t node KIND) where
     -- it waits for its first part
-    pub starts-waits : (kind ≡ NAME → ⊥) → (kind ≡ CALL → ⊥) → {b : Bool} → b ≡ waits kind → b ≡ true → {phase first : ℕ} → phase ≡ phase-of kind
-        → first ≡ row-word t node FIRST → (v : Value) {w1 : List ℕ} {r : Next} → w1 ≡ put-frame w (p .height) node phase (p .base) (p .size) (s .cells)
+    pub starts-waits : (kind ≡ NAME → ⊥) → (kind ≡ CALL → ⊥) → {a : Bool} → a ≡ counts kind → a ≡ false → {b : Bool} → b ≡ waits kind
+        → b ≡ true → {phase first : ℕ} → phase ≡ phase-of kind → first ≡ row-word t node FIRST → (v : Value) {w1 : List ℕ} {r : Next}
+        → w1 ≡ put-frame w (p .height) node phase (p .base) (p .size) (s .cells)
         → r ≡ begun first v (above (p .base) (p .size) p) s → Goes (Started defs t w node p s) t w1 (3 * s .units + p .height + 3) r
-    starts-waits n c e f g h v x y =
+    starts-waits n c i j e f g h v x y =
         goes-to (x ∙ ap (λ (z : ℕ). put-frame w (p .height) node z (p .base) (p .size) (s .cells)) (g ∙ ap phase-of k))
         (y ∙ ap (λ (z : ℕ). begun z v (above (p .base) (p .size) p) s) h)
-        (λ q o b. start-waits (b .1) (λ z. n (k ∙ z)) (λ z. c (k ∙ z)) (ap waits (sym k) ∙ sym e ∙ f)) (omega arith)
+        (λ q o b. start-waits (b .1) (λ z. n (k ∙ z)) (λ z. c (k ∙ z)) (ap counts (sym k) ∙ sym i ∙ j) (ap waits (sym k) ∙ sym e ∙ f))
+        (omega arith)
+
+    -- it is a `for`, whose first bound begins
+    module _ {a : Bool} (i : a ≡ counts kind) (j : a ≡ true) {row : ℕ} (e : row ≡ row-word t node FIRST) where
+      pub starts-inside : Some (Started defs t w node p s) → row < NODES
+      starts-inside x = bound-inside (x .holds .1) (ap counts (sym k) ∙ sym i ∙ j) row e
+
+      pub starts-bound : {v : Value} {w1 : List ℕ} {r : Next} → w1 ≡ put-frame w (p .height) node ARGUMENT (p .base) (p .size) (TAGS * row + 0)
+          → r ≡ begun (row-word t row EXPRESSION) v (above (p .base) (p .size + 0) p) s
+          → Goes (Started defs t w node p s) t w1 (3 * s .units + p .height + 3) r
+      starts-bound x y = goes-to x y (λ q o b. start-bound (b .1) (ap counts (sym k) ∙ sym i ∙ j) row e) (omega arith)
 
     -- it is a literal
     pub starts-literal : (kind ≡ NAME → ⊥) → {b : Bool} → b ≡ waits kind → b ≡ false → Some (Started defs t w node p s) → LiteralRow t node

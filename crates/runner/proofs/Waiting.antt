@@ -1,6 +1,6 @@
 -- A node that waits for its first part: a frame is put above the others, and the part begins.
 use mathlib.Core.Path.{_≡_, refl, sym, ap, subst, _∙_}
-use mathlib.Core.Bool.{true}
+use mathlib.Core.Bool.{true, false}
 use mathlib.Core.List.{List}
 use Prim.Native.Nat.{ℕ, suc, _+_, _*_, _≤_, _<_}
 use native.Mathlib.Omega.{arith}
@@ -14,18 +14,20 @@ use Rattle.language.specs.Meaning.{Env, apply-unary, apply-binary, settles, ste
 use Rattle.language.proofs.Meaning.Spending.{while-is}
 use Rattle.layout.specs.Table.{KIND, FIRST, row-word}
 use Rattle.layout.specs.Rows.{CALL}
+use Rattle.layout.specs.Decode.{counts}
 use Rattle.layout.specs.Slots.{WAITING, key-at}
 use Rattle.layout.specs.Frames.{CELLS-AT, put-frame}
+use Rattle.layout.proofs.Shapes.{range-counts}
 use Rattle.machine.specs.Outcomes.{memory}
 use Rattle.machine.specs.declared.state.Tally.{Tally}
 use Rattle.runner.specs.Phases.{waits, phase-of}
-use Rattle.runner.specs.Trees.{At, at-name, at-literal, at-unary, at-binary, at-follow, at-group, at-block, at-call, at-bind, at-branch, at-loop, slack, Scene}
+use Rattle.runner.specs.Trees.{At, at-name, at-literal, at-unary, at-binary, at-follow, at-group, at-block, at-call, at-bind, at-branch, at-loop, at-counted, slack, Scene}
 use Rattle.runner.specs.Waiting.{Run, Then, Binds, FrameAt, Later, which, tested, Waits, Stack}
 use Rattle.runner.specs.Standing.{Fair, Begins, Starts}
 use Rattle.runner.specs.declared.state.Spot.{Spot}
 use Rattle.runner.proofs.Memory.{Stored, stored-frame, frame-pushed, keys-kept, memory-kept, fair-kept}
 use Rattle.runner.proofs.Stacks.{then-then, Kept, binds-kept, stack-kept}
-use Rattle.runner.proofs.RowKinds.{literal-waits, unary-phase, binary-phase, group-phase, block-phase, semi-phase, let-phase, if-phase, while-phase, clash-still}
+use Rattle.runner.proofs.RowKinds.{literal-waits, unary-phase, binary-phase, group-phase, block-phase, semi-phase, let-phase, if-phase, while-phase, clash-bool, clash-still}
 use Rattle.runner.proofs.Entering.{spot, enter}
 
 -- what is live now
@@ -112,22 +114,23 @@ module _ {q : Run} {t w o : List ℕ} (d h node base : ℕ) (L : List ℕ) (env 
 
   wait-begins : {e : Exp} → At (q .ts) t node e → base + length L + WAITING * suc d ≤ WAITING * ACTIVE + slack e
       → then (step (q .fs) (eval (q .fs) d) e env (memory w o s)) κ ≡ q .whole
-      → (K ≡ NAME → ⊥) → (K ≡ CALL → ⊥) → waits K ≡ true → Begins q t W o (row-word t node FIRST) (spot base size (h + 1)) s
+      → (K ≡ NAME → ⊥) → (K ≡ CALL → ⊥) → counts K ≡ false → waits K ≡ true → Begins q t W o (row-word t node FIRST) (spot base size (h + 1)) s
   unfolding step Waits which slack then
-  wait-begins (at-name hd x) room means a b c = absurd (a (hd .kind-is))
-  wait-begins (at-literal {l = l} hd x y) room means a b c = clash-still (hd .kind-is) c (literal-waits l)
-  wait-begins (at-call hd x y z) room means a b c = absurd (b (hd .kind-is))
-  wait-begins (at-unary {i = i} {o = o} hd x) room means a b c =
+  wait-begins (at-name hd x) room means a b g c = absurd (a (hd .kind-is))
+  wait-begins (at-literal {l = l} hd x y) room means a b g c = clash-still (hd .kind-is) c (literal-waits l)
+  wait-begins (at-call hd x y z) room means a b g c = absurd (b (hd .kind-is))
+  wait-begins (at-counted {b = u} hd x y z v) room means a b g c = clash-bool (ap counts (hd .kind-is) ∙ range-counts u) g
+  wait-begins (at-unary {i = i} {o = o} hd x) room means a b g c =
       begins (λ v σ. apply-unary i o v σ) (omega arith) x (ap phase-of (hd .kind-is) ∙ unary-phase o)
       (record { i = i; o = o; head = hd; room = omega arith; goes = λ v σ. refl }) means
-  wait-begins (at-binary {i = i} {o = o} {f = f} hd x y) room means a b c =
+  wait-begins (at-binary {i = i} {o = o} {f = f} hd x y) room means a b g c =
       begins (λ v σ. choose (settles o v) (λ _. value v σ) λ _. then (eval (q .fs) d f env σ) λ u σ. apply-binary i o v u σ) (omega arith) x
       (ap phase-of (hd .kind-is) ∙ binary-phase o)
       (record { i = i; o = o; f = f; head = hd; room = omega arith; at = y; goes = λ v σ. refl }) means
-  wait-begins (at-follow {i = i} {f = f} hd x y) room means a b c =
+  wait-begins (at-follow {i = i} {f = f} hd x y) room means a b g c =
       begins (λ v σ. want (as-unit v) λ _. eval (q .fs) d f env σ) (omega arith) x (ap phase-of (hd .kind-is) ∙ semi-phase)
       (record { f = f; inside = hd .inside; room = omega arith; at = y; goes = λ v σ. refl }) means
-  wait-begins (at-block {i = i} hd x) room means a b c =
+  wait-begins (at-block {i = i} hd x) room means a b g c =
       begins (λ v σ. value v (with-cells (keep (s .births) (σ .cells)) σ)) (omega arith) x (ap phase-of (hd .kind-is) ∙ block-phase)
       (record {
         live = refl;
@@ -135,29 +138,30 @@ module _ {q : Run} {t w o : List ℕ} (d h node base : ℕ) (L : List ℕ) (env 
         low = low-now d h node (phase-of K) base (s .cells) L env s κ scene fair deep binds (omega arith) stack;
         goes = λ v σ. refl;
       }) means
-  wait-begins (at-bind {i = i} {x = n} {f = f} hd x y z) room means a b c =
+  wait-begins (at-bind {i = i} {x = n} {f = f} hd x y z) room means a b g c =
       begins (λ v σ. eval (q .fs) d f (push n v env) σ) (omega arith) y (ap phase-of (hd .kind-is) ∙ let-phase)
       (record { i = i; x = n; f = f; inside = hd .inside; own = hd .own-is; named = x; room = omega arith; at = z; goes = λ v σ. refl }) means
-  wait-begins (at-branch {i = i} {e = e} {f = f} hd x y z) room means a b c =
+  wait-begins (at-branch {i = i} {e = e} {f = f} hd x y z) room means a b g c =
       begins (λ v σ. want (as-bool v) λ b. choose b (λ _. eval (q .fs) d e env σ) λ _. eval (q .fs) d f env σ) (omega arith) x
       (ap phase-of (hd .kind-is) ∙ if-phase)
       (record { e = e; f = f; inside = hd .inside; room = omega arith; at-e = y; at-f = z; goes = λ v σ. refl }) means
-  wait-begins (at-loop {i = i} {c = c1} {e = e} hd x y) room means a b c =
+  wait-begins (at-loop {i = i} {c = c1} {e = e} hd x y) room means a b g c =
       begins (tested (q .fs) d c1 e env) (omega arith) x (ap phase-of (hd .kind-is) ∙ while-phase)
       (record { c = c1; e = e; inside = hd .inside; room = omega arith; at-c = x; at-e = y; goes = λ v σ. refl })
       (ap (λ (m : M.Outcome). then m κ) (sym (while-is (q .fs) d c1 e env (memory w o s))) ∙ means)
-  wait-begins (at-group {i = i} hd x) room means a b c =
+  wait-begins (at-group {i = i} hd x) room means a b g c =
       part-begins d h node (phase-of K) base (s .cells) L env s κ scene fair deep binds (omega arith) stack κ sized (omega arith) x
       (binds-kept (stored-frame w h node (phase-of K) base (length L) (s .cells) (base + length L) (omega arith) (omega arith) .slots) (omega arith) binds)
       (omega arith)
       (subst (Waiting κ) (sym (ap phase-of (hd .kind-is) ∙ group-phase)) (record { deep = omega arith; goes = λ v σ. refl })) means
 
 module _ {q : Run} {t w o : List ℕ} {node : ℕ} {p : Spot} {s : Tally} (b : Starts q t w o node p s) where
-  pub start-waits : (row-word t node KIND ≡ NAME → ⊥) → (row-word t node KIND ≡ CALL → ⊥) → waits (row-word t node KIND) ≡ true
+  pub start-waits : (row-word t node KIND ≡ NAME → ⊥) → (row-word t node KIND ≡ CALL → ⊥) → counts (row-word t node KIND) ≡ false
+      → waits (row-word t node KIND) ≡ true
       → Begins q t (put-frame w (p .height) node (phase-of (row-word t node KIND)) (p .base) (p .size) (s .cells)) o (row-word t node FIRST)
       (spot (p .base) (p .size) (p .height + 1)) s
-  start-waits x y z =
+  start-waits x y g z =
       subst (λ (n : ℕ). Begins q t (put-frame w (p .height) node (phase-of (row-word t node KIND)) (p .base) n (s .cells)) o (row-word t node FIRST)
       (spot (p .base) (p .size) (p .height + 1)) s) (sym (b .sized))
       (wait-begins (b .d) (p .height) node (p .base) (b .L) (b .env) s (b .κ) (b .scene) (b .fair) (b .deep) (b .high) (p .size) (b .sized)
-      (b .binds) (b .stack) (b .at) (b .room) (b .means) x y z)
+      (b .binds) (b .stack) (b .at) (b .room) (b .means) x y g z)

@@ -47,6 +47,10 @@ ARGUMENT = 10
 abbrev pub WHOLE : ℕ
 WHOLE = 11
 
+-- a pass of a `for`
+abbrev pub COUNTED : ℕ
+COUNTED = 12
+
 -- a node of this kind waits for its first part, and in which phase
 unfoldable pub waits : ℕ → Bool
 waits k =
@@ -58,7 +62,7 @@ phase-of k =
     cond (eqb k LPAR) LAST (cond (eqb k LBRACE) INSIDE (cond (eqb k SEMI) BEFORE (cond (eqb k LET) BOUND
     (cond (eqb k IF) CONDITION (cond (eqb k WHILE) TEST (cond (leb PREFIX k) UNARY LEFT))))))
 
--- none of the phases of operators, `;`, Blocks and calls, nor the last part
+-- none of the phases of operators, `;`, Blocks, calls and `for`s, nor the last part
 pub record Controls (p : ℕ) : Type 0 where
   pub last : p ≡ LAST → ⊥
   pub right : p ≡ RIGHT → ⊥
@@ -67,3 +71,4 @@ pub record Controls (p : ℕ) : Type 0 where
   pub before : p ≡ BEFORE → ⊥
   pub inside : p ≡ INSIDE → ⊥
   pub argument : p ≡ ARGUMENT → ⊥
+  pub counted : p ≡ COUNTED → ⊥

@@ -1,15 +1,16 @@
 -- Which tree a row of the table is: all that the runner reads in rows.
+use mathlib.Core.Bool.{Bool}
 use mathlib.Core.Path.{_≡_}
 use mathlib.Core.List.{List, [], _∷_}
 use Prim.Native.Nat.{ℕ, zero, suc, _+_, _≤_, _<_}
 use lib.ListN.{length}
 use Rattle.language.specs.Sizes.{TOKENS, NODES, PARAMETERS, TABLE}
 use Rattle.language.specs.Tokens.{Token, NAME, LET, IF, WHILE, SEMI, LPAR, LBRACE}
-use Rattle.language.specs.Trees.{Name, Literal, Unary, Binary, Exp, name, literal, unary, binary, follow, group, block, call, bind, branch, loop, Exps, last, more, Def, Scope, empty, push, PUTCHAR}
+use Rattle.language.specs.Trees.{Name, Literal, Unary, Binary, Exp, name, literal, unary, binary, follow, group, block, call, bind, branch, loop, counted, Exps, last, more, Def, Scope, empty, push, PUTCHAR}
 use Rattle.language.specs.Meaning.{Fun, putchar, defined}
 use Rattle.layout.specs.Table.{KIND, OWN, FIRST, SECOND, THIRD, EXPRESSION, NEXT, ARITY, BODY, token-value, row-word, function-row}
 use Rattle.layout.specs.Names.{Stand, Named}
-use Rattle.layout.specs.Rows.{CALL, literal-kind, unary-kind, binary-kind}
+use Rattle.layout.specs.Rows.{CALL, literal-kind, unary-kind, binary-kind, range-kind}
 use Rattle.layout.specs.Functions.{function-name, Headed}
 use Rattle.layout.specs.Decode.{ParamsAt}
 use Rattle.layout.specs.Slots.{HELD}
@@ -47,6 +48,7 @@ slack (call i f es) = 0
 slack (bind i x e f) = 0
 slack (branch i c e f) = 0
 slack (loop i c e) = 0
+slack (counted i x b es e) = 0
 
 -- the keys of the first slots of a function's frame, the newest first, where n of its parameters are bound
 unfoldable pub parameters-in : List ℕ → ℕ → ℕ → List ℕ
@@ -78,8 +80,11 @@ module _ (ts : List Token) (t : List ℕ) where
           → At row (branch i c e f)
       at-loop : {row i : ℕ} {c e : Exp}
           → Head t row WHILE i → At (row-word t row FIRST) c → At (row-word t row SECOND) e → At row (loop i c e)
+      at-counted : {row i : ℕ} {x : Name} {b : Bool} {es : Exps} {e : Exp}
+          → Head t row (range-kind b) i → NameAt ts t (i + 1) x → count es ≤ PARAMETERS → Args (row-word t row FIRST) es
+          → At (row-word t row SECOND) e → At row (counted i x b es e)
 
-    -- the arguments from a row on
+    -- the arguments from a row on, or the bounds
     pub data Args : ℕ → Exps → Type 0 where
       args-last : {r : ℕ} → r ≡ 0 → Args r last
       args-more : {r : ℕ} {e : Exp} {es : Exps}

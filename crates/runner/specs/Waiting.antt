@@ -3,22 +3,24 @@ use mathlib.Core.Bool.{Bool, true, false}
 use mathlib.Core.List.{List, [], _∷_, _++_}
 use mathlib.Core.Path.{_≡_}
 use Prim.Native.Nat.{ℕ, suc, _+_, _*_, _≤_, _<_}
+use lib.IntN.{ℤ, _+ℤ_}
 use lib.Dec.{eqb}
 use lib.ListN.{length}
 use Rattle.language.specs.Sizes.{NODES, ACTIVE, PARAMETERS}
 use Rattle.language.specs.Tokens.{Token}
 use Rattle.language.specs.Trees.{Name, Unary, Binary, Exp, Exps, Scope, empty, push, nearest}
 use Rattle.language.specs.State as M
-use Rattle.language.specs.State.{nothing, value, stuck, then, as-bool, as-unit, want, choose, keep, with-cells}
-use Rattle.language.specs.Meaning.{Fun, Env, apply-unary, apply-binary, settles, arguments, invoke, eval}
+use Rattle.language.specs.State.{number, nothing, value, stop, stuck, zero-step, then, as-bool, as-unit, want, choose, keep, with-cells}
+use Rattle.language.specs.Meaning.{Fun, Env, in-range, is-zero, apply-unary, apply-binary, settles, with-bounds, arguments, invoke, eval}
 use Rattle.language.proofs.Meaning.Spending.{while}
+use Rattle.language.proofs.Meaning.Turns.{for-from}
 use Rattle.layout.specs.Table.{OWN, FIRST, SECOND, THIRD, NEXT, row-word}
 use Rattle.layout.specs.Names.{Named}
-use Rattle.layout.specs.Rows.{CALL, unary-kind, binary-kind}
+use Rattle.layout.specs.Rows.{CALL, unary-kind, binary-kind, range-kind}
 use Rattle.layout.specs.Slots.{TAGS, HELD, WAITING, key-at, value-at}
 use Rattle.layout.specs.Frames.{NODE, PHASE, BASE, CELLS-AT, frame-word, frame-size, frame-mark}
 use Rattle.machine.specs.Slots.{values-from}
-use Rattle.runner.specs.Phases.{LAST, UNARY, LEFT, RIGHT, BEFORE, INSIDE, BOUND, CONDITION, TEST, PASS, ARGUMENT}
+use Rattle.runner.specs.Phases.{LAST, UNARY, LEFT, RIGHT, BEFORE, INSIDE, BOUND, CONDITION, TEST, PASS, ARGUMENT, COUNTED}
 use Rattle.runner.specs.Trees.{Head, NameAt, count, helds, At, Args}
 
 -- ---- a run: its tokens and functions, the outcome of the whole, which is not stuck, and the memories as they were lent
@@ -74,6 +76,43 @@ tested fs d c e env v s =
 -- what a call does with the values of its arguments
 abbrev pub called : Scope Fun → ℕ → ℕ → Name → List M.Value → M.State → M.Outcome
 called fs d i x vs s = want (nearest x fs) λ g. invoke fs (eval fs d) i g vs s
+
+-- what a `for` does with the values of its bounds, and with that of a pass for z
+abbrev pub bounded : Scope Fun → ℕ → ℕ → Name → Bool → Exp → Env → List M.Value → M.State → M.Outcome
+bounded fs d i x through e env vs s =
+    with-bounds vs λ from to by. choose (is-zero by) (λ _. stop zero-step i s) λ _. for-from fs d x through to by e env from s
+
+abbrev pub passed : Scope Fun → ℕ → Name → Bool → ℤ → ℤ → Exp → Env → ℤ → Then
+passed fs d x through to by e env z v s =
+    want (as-unit v) λ _. choose (in-range (z +ℤ by)) (λ _. for-from fs d x through to by e env (z +ℤ by) s) λ _. value nothing s
+
+-- the `for` at a row
+pub record ForAt (q : Run) (t : List ℕ) (row : ℕ) : Type 0 where
+  pub i : ℕ
+  pub x : Name
+  pub through : Bool
+  pub e : Exp
+  pub head : Head t row (range-kind through) i
+  pub named : NameAt (q .ts) t (i + 1) x
+  pub at : At (q .ts) t (row-word t row SECOND) e
+
+-- what the node at a row does with the values of its arguments is a call's, or a `for`'s
+module _ (q : Run) (t : List ℕ) (d row : ℕ) (env : Env) (done : List M.Value → M.State → M.Outcome) where
+  pub record CallDoes : Type 0 where
+    pub i : ℕ
+    pub x : Name
+    pub head : Head t row CALL i
+    pub named : NameAt (q .ts) t i x
+    pub is : (vs : List M.Value) (s : M.State) → done vs s ≡ called (q .fs) d i x vs s
+
+  pub record ForDoes : Type 0 where
+    pub loop : ForAt q t row
+    pub is : (vs : List M.Value) (s : M.State)
+        → done vs s ≡ bounded (q .fs) d (loop .i) (loop .x) (loop .through) (loop .e) env vs s
+
+  pub data Does : Type 0 where
+    by-call : CallDoes → Does
+    by-for : ForDoes → Does
 
 -- A frame of the node at a row, whose part may have d more active: κ is what comes behind the node, κ′ what comes behind the
 -- part, and u slots above its own L hold values. There were n cells and b births when it began to wait.
@@ -168,16 +207,14 @@ module _ (q : Run) (t w : List ℕ) (d row base mark n b : ℕ) (L : List ℕ) (
     pub at-e : Tree (row-word t row SECOND) e
     pub goes : (v : M.Value) (s : M.State) → κ′ v s ≡ then (want (as-unit v) λ _. while (q .fs) d c e env s) κ
 
-  -- for argument k, whose row and number are the mark, with the values vs before it and the arguments es behind it
+  -- for argument or bound k, whose row and number are the mark, with the values vs before it and the arguments es behind it
   pub record WaitsArgument : Type 0 where
-    pub i : ℕ
-    pub x : Name
     pub arg : ℕ
     pub k : ℕ
     pub vs : List M.Value
     pub es : Exps
-    pub head : Head t row CALL i
-    pub named : NameAt (q .ts) t i x
+    pub done : List M.Value → M.State → M.Outcome
+    pub by : Does q t d row env done
     pub marked : mark ≡ TAGS * arg + k
     pub inside : arg < NODES
     pub room : Roomy
@@ -188,7 +225,21 @@ module _ (q : Run) (t w : List ℕ) (d row base mark n b : ℕ) (L : List ℕ) (
     pub sees : Binds (q .ts) w base (helds k L) env
     pub rest : Args (q .ts) t (row-word t arg NEXT) es
     pub goes : (v : M.Value) (s : M.State)
-        → κ′ v s ≡ then (arguments (q .fs) (eval (q .fs) d) es env s λ ws s. called (q .fs) d i x (vs ++ (v ∷ ws)) s) κ
+        → κ′ v s ≡ then (arguments (q .fs) (eval (q .fs) d) es env s λ ws s. done (vs ++ (v ∷ ws)) s) κ
+
+  -- for the pass for z, to which the name is bound in the slot above L, with the end and the step above that
+  pub record WaitsCounted : Type 0 where
+    pub loop : ForAt q t row
+    pub to : ℤ
+    pub by : ℤ
+    pub z : ℤ
+    pub room : Roomy
+    pub used : u ≡ 3
+    pub counter : value-at w 0 (base + length L) ≡ number z
+    pub end : value-at w 0 (base + length L + 1) ≡ number to
+    pub step : value-at w 0 (base + length L + 2) ≡ number by
+    pub goes : (v : M.Value) (s : M.State)
+        → κ′ v s ≡ then (passed (q .fs) d (loop .x) (loop .through) to by (loop .e) env z v s) κ
 
   pub record WaitsWhole : Type 0 where
     pub goes : (v : M.Value) (s : M.State) → κ′ v s ≡ value v s
@@ -205,7 +256,8 @@ module _ (q : Run) (t w : List ℕ) (d row base mark n b : ℕ) (L : List ℕ) (
       (which (eqb p CONDITION) WaitsCondition
       (which (eqb p TEST) WaitsTest
       (which (eqb p PASS) WaitsPass
-      (which (eqb p ARGUMENT) WaitsArgument WaitsWhole))))))))))
+      (which (eqb p ARGUMENT) WaitsArgument
+      (which (eqb p COUNTED) WaitsCounted WaitsWhole)))))))))))
 
 -- h frames, above which d more nodes may be active, with c cells live and m births in all; they use slots below a
 pub data Stack (q : Run) (t w : List ℕ) : ℕ → ℕ → ℕ → ℕ → ℕ → Then → Type 0 where

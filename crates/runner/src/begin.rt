@@ -9,6 +9,7 @@ ghost use Rattle.layout.specs.Frames.{FRAMES, SIZES, put-frame};
 ghost use Rattle.runner.specs.Phases.{waits, phase-of};
 ghost use Rattle.runner.specs.Standing.{Begins, Starts, Some, Goes, Of, charged, above, begun};
 use crate::calls;
+use crate::loops;
 use crate::state;
 use crate::state::Next;
 use crate::state::Spot;
@@ -62,7 +63,7 @@ pub fn begin(
     start(table, work, defs, node, v, spot, t)
 }
 
-// Does a node of this kind wait for its first part? All do but names, literals and calls.
+// Does a node of this kind wait for its first part? All do but names, literals, calls and `for`s.
 fn waits(kind: u32) -> bool
     ensures { λ r. ⌜ r ≡ waits kind ⌝ }
 {
@@ -128,6 +129,10 @@ fn start(
     }
     if kind == rows::CALL {
         return calls::call(table, work, defs, node, v, spot, s);
+    }
+    if loops::counts(kind) {
+        let bound = rows::link(table, node, rows::START);
+        return calls::pass(table, work, node, bound, 0, v, spot, s);
     }
     if waits(kind) {
         let phase = phase_of(kind);

@@ -1,4 +1,5 @@
-// Calls: the arguments one after another, each into its slot, then the function's body, or `putchar`.
+// Calls: the arguments one after another, each into its slot, then the function's body, or `putchar`. The bounds of a
+// `for` are worked out so, too.
 ghost use mathlib.Core.Path.{_≡_};
 ghost use Prim.Native.Nat.{_+_, _*_, _≤_, _<_};
 ghost use lib.ListN.{length};
@@ -10,6 +11,7 @@ ghost use Rattle.layout.specs.Slots.{SLOTS, TAGS};
 ghost use Rattle.layout.specs.Frames.{FRAMES, SIZES, put-frame};
 ghost use Rattle.runner.specs.Phases.{ARGUMENT};
 ghost use Rattle.runner.specs.Standing.{Starts, Resumes, Some, Goes, Of, Any, Prints, OfAll, LastOf, Printing, Keyed, Callable, Enters, Heads, callee, above, begun};
+use crate::loops;
 use crate::state;
 use crate::state::Next;
 use crate::state::Spot;
@@ -63,7 +65,7 @@ pub fn call(
 }
 
 // Argument k, at a row of its own, begins, above those that wait.
-fn pass(
+pub fn pass(
     table: &[u32],
     work: &mut [u32],
     node: usize,
@@ -159,7 +161,8 @@ pub fn argument(
     pass(table, work, node, next, k + 1, v, spot, s)
 }
 
-// All arguments are worked out: the function is entered. `putchar` has no body, and its one argument is printed.
+// All arguments are worked out: the function is entered. `putchar` has no body, and its one argument is printed. With
+// its bounds a `for` goes on.
 fn last_argument(
     table: &[u32],
     work: &mut [u32],
@@ -174,6 +177,10 @@ fn last_argument(
     requires { ⌜ Any (OfAll defs λ q. Resumes q (now table) (now work) (now out) v node ARGUMENT spot s) × LastOf (now table) (now work) (spot .height) k ⌝ }
     ensures { λ r. ⌜ Prints (OfAll defs λ q. Resumes q (now (table .entry)) (now (work .entry)) (now (out .entry)) v node ARGUMENT spot s) (now (table .entry)) (now (work .exit)) (now (out .exit)) (3 * s .units + spot .height + 3) r ⌝ }
 {
+    let kind = rows::word(table, node, rows::KIND);
+    if loops::counts(kind) {
+        return loops::bounded(table, work, v, node, k, spot, s);
+    }
     let who = callee(table, defs, node);
     match who {
         Found::Nowhere => print(table, out, v, node, spot, s),

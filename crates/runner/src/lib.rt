@@ -4,6 +4,7 @@
 
 mod begin;
 mod calls;
+mod loops;
 mod resume;
 mod state;
 

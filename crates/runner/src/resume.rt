@@ -7,9 +7,10 @@ ghost use Rattle.layout.specs.Slots.{SLOTS, KEYS, put-slot};
 ghost use Rattle.layout.specs.Frames.{FRAMES, put-phase};
 ghost use Rattle.layout.specs.Values.{Survives};
 ghost use Rattle.machine.specs.Outcomes.{Room};
-ghost use Rattle.runner.specs.Phases.{UNARY, LEFT, RIGHT, ARGUMENT, Controls};
+ghost use Rattle.runner.specs.Phases.{UNARY, LEFT, RIGHT, ARGUMENT, COUNTED, Controls};
 ghost use Rattle.runner.specs.Standing.{Gives, Resumes, Some, Goes, Any, Prints, OfAll, Creating, above, begun};
 use crate::calls;
+use crate::loops;
 use crate::state;
 use crate::state::Next;
 use crate::state::Spot;
@@ -55,6 +56,9 @@ pub fn give(
     if phase == state::ARGUMENT {
         return calls::argument(table, work, out, defs, v, node, back, s);
     }
+    if phase == state::COUNTED {
+        return loops::next(table, work, v, node, back, s);
+    }
     resume(table, work, v, node, phase, back, s)
 }
 
@@ -67,7 +71,7 @@ fn resume(
     spot: Spot,
     s: Tally,
 ) -> Next
-    requires { ⌜ Some (λ q o. Resumes q (now table) (now work) o v node phase spot s) × (phase ≡ ARGUMENT → ⊥) ⌝ }
+    requires { ⌜ Some (λ q o. Resumes q (now table) (now work) o v node phase spot s) × (phase ≡ ARGUMENT → ⊥) × (phase ≡ COUNTED → ⊥) ⌝ }
     ensures { λ r. ⌜ Goes (λ q o. Resumes q (now (table .entry)) (now (work .entry)) o v node phase spot s) (now (table .entry)) (now (work .exit)) (3 * s .units + spot .height + 3) r ⌝ }
 {
     if phase == state::LAST {

@@ -62,6 +62,9 @@ pub const ARGUMENT: u32 = 10;
 // Below all frames: the whole run waits.
 pub const WHOLE: u32 = 11;
 
+// A pass of a `for`.
+pub const COUNTED: u32 = 12;
+
 pub fn begins(node: usize, value: Value, spot: Spot, tally: Tally) -> Next
     ensures { λ r. ⌜ r ≡ begun node value spot tally ⌝ }
 {

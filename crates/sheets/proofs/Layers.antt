@@ -1,6 +1,7 @@
 -- What the layers say of a sheet, put together: one law for each way through the code.
 use mathlib.Core.Bool.{Bool, true, false, cond}
 use mathlib.Core.List.{List}
+use mathlib.Core.Option.{some}
 use mathlib.Core.Path.{_≡_, refl, sym, ap, subst, _∙_}
 use Prim.Native.Nat.{ℕ, _≤_, _<_}
 use native.Mathlib.Omega.{arith}
@@ -8,9 +9,12 @@ use lib.Dec.{ltb}
 use lib.ListN.{length}
 use borrow.Author.Tests.{ltb-true, lt-ltb, le-ltb}
 use Rattle.language.specs.Sizes.{TOKENS, TABLE}
-use Rattle.language.specs.Tokens.{Token, place-at}
+use Rattle.language.specs.Tokens.{Vocabulary, Token, place-at}
 use Rattle.language.specs.Trees.{Program}
 use Rattle.language.specs.Answers.{at, too-long, flawed, TextGives, from-text, Denied, unread, faulty, Refused, by-origin, by-tokens}
+use Rattle.language.specs.Edition.{edition, text-in, unknown}
+use Rattle.language.proofs.Answers.Editions.{text-alike, passes-in, refused-in}
+use Rattle.language.proofs.Text.Marks.{Laws}
 use Rattle.numbers.specs.Meanings.{reason-meant, refusal-meant}
 use Rattle.numbers.specs.declared.Flaw.{Flaw}
 use Rattle.numbers.specs.declared.Reason.{Reason}
@@ -28,7 +32,10 @@ use Rattle.layout.proofs.VariablesTrees.{holds-without}
 use Rattle.layout.proofs.Wiped.{wiped-tokens, wiped-program, wiped-without-rows, wiped-without-variables}
 use Rattle.tokens.specs.Answer as Tokens
 use Rattle.tokens.proofs.OneAnswer.{split-stands}
+use Rattle.tokens.specs.Editions.{meant, Names}
 use Rattle.tokens.specs.declared.answer.Split as split
+use Rattle.tokens.specs.declared.edition.Edition.{Edition}
+use Rattle.tokens.specs.declared.edition.Known.{Known}
 use Rattle.reader.specs.Findings as Reader
 use Rattle.reader.specs.declared.Found as found
 use Rattle.checker.specs.Checked as Checker
@@ -40,10 +47,10 @@ use Rattle.sheets.specs.declared.Seen.{Seen}
 -- ---- places
 
 -- an ordinal's byte, read from the words, is the one that the text gives it
-pub byte-stands : {w : List ℕ} {count : ℕ} {ts : List Token} (source : List ℕ) → Stand w count ts → (i : ℕ)
-    → byte-of w count (length source) i ≡ from-text source .at ts i
+pub byte-stands : (voc : Vocabulary) {w : List ℕ} {count : ℕ} {ts : List Token} (source : List ℕ) → Stand w count ts → (i : ℕ)
+    → byte-of w count (length source) i ≡ from-text voc source .at ts i
 unfolding byte-of
-byte-stands {w} {count} {ts} source s i =
+byte-stands voc {w} {count} {ts} source s i =
     go (ltb i count) refl ∙ ap (λ (n : ℕ). cond (ltb i n) (place-at ts i) (length source)) (sym (s .long))
   where
     go : (b : Bool) → ltb i count ≡ b → cond b (token-place w i) (length source) ≡ cond (ltb i count) (place-at ts i) (length source)
@@ -165,9 +172,9 @@ pub placed-denied : (w : List ℕ) (count end x : ℕ) (y : Refusal) (i : ℕ) (
     → Placed w count end v (Seen.Refused y x)
 placed-denied w count end x y i v e f = subst (λ (v : Verdict). Placed w count end v (Seen.Refused y x)) (sym e) (ap (Seen.Refused y) f)
 
-module _ (source w w₁ : List ℕ) (long : TABLE ≤ length w) where
-  whole-stands : {n : ℕ} (x : Tokens.Whole source w w₁ n) → Stand w₁ n (x .tokens)
-  whole-stands {n} x = split-stands source w w₁ n (x .tokens) long x (x .splits)
+module _ {voc : Vocabulary} (laws : Laws voc) (source w w₁ : List ℕ) (long : TABLE ≤ length w) where
+  whole-stands : {n : ℕ} (x : Tokens.Whole voc source w w₁ n) → Stand w₁ n (x .tokens)
+  whole-stands {n} x = split-stands laws source w w₁ n (x .tokens) long x (x .splits)
 
   laid-long : (ts : List Token) → w₁ ≡ lay-tokens ts w 0 ts → length w₁ ≡ length w
   laid-long ts e = ap length e ∙ lay-length ts w 0 ts
@@ -176,22 +183,22 @@ module _ (source w w₁ : List ℕ) (long : TABLE ≤ length w) where
   laid-rest ts h e = ap wiped e ∙ wiped-tokens ts ts w 0 (omega arith)
 
   -- the scanner's table can be given to the reader
-  pub whole-standing : (r : split.Split) (n : ℕ) → Tokens.IsSplit source w w₁ r → r ≡ split.the-variants.Tokens n → Standing w₁ n
+  pub whole-standing : (r : split.Split) (n : ℕ) → Tokens.IsSplit voc source w w₁ r → r ≡ split.the-variants.Tokens n → Standing w₁ n
   whole-standing r n y e =
-      let x = subst (Tokens.IsSplit source w w₁) e y in
+      let x = subst (Tokens.IsSplit voc source w w₁) e y in
       record { tokens = x .tokens; stand = whole-stands x; long = rw (laid-long (x .tokens) (x .laid)) long }
 
   -- and what the reader leaves can be read for a place
-  pub whole-read : (r : split.Split) (n : ℕ) (w₂ : List ℕ) (v : Verdict) → Tokens.IsSplit source w w₁ r → r ≡ split.the-variants.Tokens n
+  pub whole-read : (r : split.Split) (n : ℕ) (w₂ : List ℕ) (v : Verdict) → Tokens.IsSplit voc source w w₁ r → r ≡ split.the-variants.Tokens n
       → Read w₁ w₂ n v → (TABLE ≤ length w₂) × (n ≤ TOKENS)
   whole-read r n w₂ v y e z = let s = whole-standing r n y e in (rw (z .long) (s .long), s .stand .few)
 
-  given : {n : ℕ} (x : Tokens.Whole source w w₁ n) → TextGives source (x .tokens)
+  given : {n : ℕ} (x : Tokens.Whole voc source w w₁ n) → TextGives voc source (x .tokens)
   given x = record { short = x .short; splits = x .splits }
 
-  of-tokens : {n : ℕ} (x : Tokens.Whole source w w₁ n) (w₂ : List ℕ) → Stand w₂ n (x .tokens) → (v : Verdict) (s : Seen) → OfTokens (x .tokens) w₂ v
-      → Placed w₂ n (length source) v s → OfSource source w₂ s
-  of-tokens {n} x w₂ st (Verdict.Proper P k) s a e = subst (OfSource source w₂) (sym e) record {
+  of-tokens : {n : ℕ} (x : Tokens.Whole voc source w w₁ n) (w₂ : List ℕ) → Stand w₂ n (x .tokens) → (v : Verdict) (s : Seen) → OfTokens (x .tokens) w₂ v
+      → Placed w₂ n (length source) v s → OfSource (from-text voc source) w₂ s
+  of-tokens {n} x w₂ st (Verdict.Proper P k) s a e = subst (OfSource (from-text voc source) w₂) (sym e) record {
     tokens = x .tokens;
     program = a .program;
     type = a .type;
@@ -200,12 +207,12 @@ module _ (source w w₁ : List ℕ) (long : TABLE ≤ length w) where
     holds = a .holds;
   }
   of-tokens x w₂ st (Verdict.Denied y i) s a e =
-      subst (OfSource source w₂) (sym e)
-      (subst (Refused (from-text source) (refusal-meant y)) (sym (byte-stands source st i)) (by-tokens (given x) a))
+      subst (OfSource (from-text voc source) w₂) (sym e)
+      (subst (Refused (from-text voc source) (refusal-meant y)) (sym (byte-stands voc source st i)) (by-tokens (given x) a))
 
-  pub examined-tokens : (r : split.Split) (n end : ℕ) (w₂ : List ℕ) (v : Verdict) (s : Seen) → Tokens.IsSplit source w w₁ r
-      → r ≡ split.the-variants.Tokens n → Read w₁ w₂ n v → end ≡ length source → Placed w₂ n end v s → Examined source w w₂ s
-  examined-tokens q n end w₂ v s y e r l z = let x = subst (Tokens.IsSplit source w w₁) e y in record {
+  pub examined-tokens : (r : split.Split) (n end : ℕ) (w₂ : List ℕ) (v : Verdict) (s : Seen) → Tokens.IsSplit voc source w w₁ r
+      → r ≡ split.the-variants.Tokens n → Read w₁ w₂ n v → end ≡ length source → Placed w₂ n end v s → Examined (from-text voc source) w w₂ s
+  examined-tokens q n end w₂ v s y e r l z = let x = subst (Tokens.IsSplit voc source w w₁) e y in record {
     told =
         of-tokens x w₂ (r .stands (x .tokens) (whole-stands x)) v s (r .told (x .tokens) (whole-stands x))
         (subst (λ (k : ℕ). Placed w₂ n k v s) l z);
@@ -213,16 +220,39 @@ module _ (source w w₁ : List ℕ) (long : TABLE ≤ length w) where
     long = r .long ∙ laid-long (x .tokens) (x .laid);
   }
 
-  pub examined-flaw : (r : split.Split) (f : Flaw) (i : ℕ) → Tokens.IsSplit source w w₁ r → r ≡ split.the-variants.Stopped f i
-      → Examined source w w₁ (Seen.Refused (Refusal.Text f) i)
-  examined-flaw r f i y e = let x = subst (Tokens.IsSplit source w w₁) e y in record {
+  pub examined-flaw : (r : split.Split) (f : Flaw) (i : ℕ) → Tokens.IsSplit voc source w w₁ r → r ≡ split.the-variants.Stopped f i
+      → Examined (from-text voc source) w w₁ (Seen.Refused (Refusal.Text f) i)
+  examined-flaw r f i y e = let x = subst (Tokens.IsSplit voc source w w₁) e y in record {
     told = by-origin (flawed (x .short) (x .flawed));
     rest = laid-rest (x .flawed .tokens) (x .flawed .few) (x .laid);
     long = laid-long (x .flawed .tokens) (x .laid);
   }
 
-  pub examined-long : (r : split.Split) → Tokens.IsSplit source w w₁ r → r ≡ split.the-variants.TooLong
-      → Examined source w w₁ (Seen.Refused Refusal.LongSource 0)
+  pub examined-long : (r : split.Split) → Tokens.IsSplit voc source w w₁ r → r ≡ split.the-variants.TooLong
+      → Examined (from-text voc source) w w₁ (Seen.Refused Refusal.LongSource 0)
   examined-long r y e =
-      let x = subst (Tokens.IsSplit source w w₁) e y in
+      let x = subst (Tokens.IsSplit voc source w w₁) e y in
       record { told = by-origin (too-long (x .long)); rest = ap wiped (x .kept); long = ap length (x .kept) }
+
+-- ---- in the edition that a number names
+
+module _ (number : ℕ) (source w w₁ : List ℕ) where
+  of-known : {v : Vocabulary} → edition number ≡ some v → (s : Seen) → OfSource (from-text v source) w₁ s → OfSource (text-in number source) w₁ s
+  of-known e (Seen.Passes P n) x = record {
+    tokens = x .tokens;
+    program = x .program;
+    type = x .type;
+    passes = passes-in number (text-alike source) e (x .passes);
+    numbered = x .numbered;
+    holds = x .holds;
+  }
+  of-known e (Seen.Refused y i) x = refused-in number (text-alike source) e x
+
+  pub examined-known : (k : Known) (e : Edition) (s : Seen) → Names number k → k ≡ Known.Is e → Examined (from-text (meant e) source) w w₁ s
+      → Examined (text-in number source) w w₁ s
+  examined-known k e s y z x =
+      record { told = of-known (subst (Names number) z y) s (x .told); rest = x .rest; long = x .long }
+
+pub examined-unknown : (number : ℕ) (source w : List ℕ) (k : Known) → Names number k → k ≡ Known.None
+    → Examined (text-in number source) w w (Seen.Refused Refusal.NoEdition 0)
+examined-unknown number source w k y z = record { told = by-origin (unknown (subst (Names number) z y)); rest = refl; long = refl }

@@ -12,7 +12,7 @@ use Rattle.language.specs.Types.{HasType}
 use Rattle.language.specs.Faults.{Reason, HasFault}
 use Rattle.language.specs.Meaning.{type-number}
 use Rattle.language.specs.Numbers.{types}
-use Rattle.language.specs.Answers.{at, from-text, Proper, Denied, Passes, Refused}
+use Rattle.language.specs.Answers.{Origin, at, Proper, Denied, Passes, Refused}
 use Rattle.numbers.specs.Meanings.{refusal-meant}
 use Rattle.layout.specs.Table.{token-place, zeros}
 use Rattle.layout.specs.Names.{Stand}
@@ -76,20 +76,20 @@ abbrev pub Placed : List ℕ → ℕ → ℕ → Verdict → Seen → Type 0
 Placed w count end (Verdict.Proper P n) s = s ≡ Seen.Passes P n
 Placed w count end (Verdict.Denied y i) s = s ≡ Seen.Refused y (byte-of w count end i)
 
--- it passes, and the table holds its program
-pub record Passing (source w : List ℕ) (P : Held) (n : ℕ) : Type 0 where
+-- as an origin of tokens it passes, and the table holds its program
+pub record Passing (o : Origin ℕ) (w : List ℕ) (P : Held) (n : ℕ) : Type 0 where
   pub tokens : List Token
   pub program : Program
   pub type : Ty
-  pub passes : Passes (from-text source) tokens program type
+  pub passes : Passes o tokens program type
   pub numbered : n ≡ type-number type
   pub holds : Holds tokens w P program
 
-abbrev pub OfSource : List ℕ → List ℕ → Seen → Type 0
-OfSource source w (Seen.Passes P n) = Passing source w P n
-OfSource source w (Seen.Refused y i) = Refused (from-text source) (refusal-meant y) i
+abbrev pub OfSource : Origin ℕ → List ℕ → Seen → Type 0
+OfSource o w (Seen.Passes P n) = Passing o w P n
+OfSource o w (Seen.Refused y i) = Refused o (refusal-meant y) i
 
-pub record Examined (source w w′ : List ℕ) (s : Seen) : Type 0 where
-  pub told : OfSource source w′ s
+pub record Examined (o : Origin ℕ) (w w′ : List ℕ) (s : Seen) : Type 0 where
+  pub told : OfSource o w′ s
   pub rest : wiped w′ ≡ wiped w
   pub long : length w′ ≡ length w

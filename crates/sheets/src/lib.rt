@@ -1,10 +1,14 @@
-// What becomes of a source: split into tokens, read and typed, it is a program that the table holds, or it
-// is refused. Both services of the box begin with this, for one sheet and for two.
+// What becomes of a source: split into the tokens of the edition that is named, read and typed, it is a
+// program that the table holds, or it is refused. All services of the box begin with this, for one sheet
+// and for two.
 ghost use mathlib.Core.Path.{_≡_};
 ghost use Prim.Native.Nat.{_≤_};
 ghost use lib.ListN.{length};
+ghost use Rattle.language.specs.Answers.{from-text};
+ghost use Rattle.language.specs.Edition.{text-in};
 ghost use Rattle.language.specs.Sizes.{TOKENS, TABLE};
 ghost use Rattle.checker.specs.Checked.{Checkable};
+ghost use Rattle.tokens.specs.Editions.{meant};
 ghost use Rattle.tokens.specs.Shown.{text-of};
 ghost use Rattle.sheets.specs.Sheets.{byte-of, Typed, Standing, Read, Placed, Examined};
 use layout::Held;
@@ -12,6 +16,9 @@ use numbers::Refusal;
 use reader::Found;
 use rules::Typing;
 use tokens::answer::Split;
+use tokens::edition::Edition;
+use tokens::edition::Known;
+use tokens::edition::named;
 use tokens::view::View;
 use tokens::view::len;
 
@@ -84,13 +91,14 @@ fn placed(table: &[u32], count: usize, end: usize, verdict: Verdict) -> Seen
     }
 }
 
-// What becomes of the source that a view shows.
-pub fn examine(first: &[u8], second: &[u8], view: View, table: &mut [u32]) -> Seen
+// What becomes of the source that a view shows, in an edition.
+fn examine_in(edition: Edition, first: &[u8], second: &[u8], view: View, table: &mut [u32]) -> Seen
     requires { ⌜ TABLE ≤ length (now table) ⌝ }
     ensures { λ r.
-        ⌜ Examined (text-of (first .entry) (second .entry) view) (now (table .entry)) (now (table .exit)) r ⌝ }
+        ⌜ Examined (from-text (meant edition) (text-of (first .entry) (second .entry) view)) (now (table .entry))
+        (now (table .exit)) r ⌝ }
 {
-    match tokens::split(first, second, view, table) {
+    match tokens::split(edition, first, second, view, table) {
         Split::Tokens(count) => {
             let verdict = read(table, count);
             let end = len(first, second, view);
@@ -98,5 +106,18 @@ pub fn examine(first: &[u8], second: &[u8], view: View, table: &mut [u32]) -> Se
         }
         Split::Stopped(flaw, at) => Seen::Refused(Refusal::Text(flaw), at),
         Split::TooLong => Seen::Refused(Refusal::LongSource, 0),
+    }
+}
+
+// In the edition that a number names; where it names none, that is told before all else.
+pub fn examine(edition: u32, first: &[u8], second: &[u8], view: View, table: &mut [u32]) -> Seen
+    requires { ⌜ TABLE ≤ length (now table) ⌝ }
+    ensures { λ r.
+        ⌜ Examined (text-in edition (text-of (first .entry) (second .entry) view)) (now (table .entry))
+        (now (table .exit)) r ⌝ }
+{
+    match named(edition) {
+        Known::Is(known) => examine_in(known, first, second, view, table),
+        Known::None => Seen::Refused(Refusal::NoEdition, 0),
     }
 }

@@ -30,6 +30,7 @@ slip --help                    this text
 slip --version                 editions and sizes
 ./slip --prove [WORDS]         proves the program first, and from then on uses the proved one
 
+--edition NUMBER               the edition of the language that the sheet is written in, 1 or 2; 1 without it
 --report FILE                  writes the report for machines too, a name and a value on each line
 --                             no word behind it is an option
 
@@ -47,7 +48,7 @@ const OUTPUT: u64 = 65536;
 // What `--version` is answered.
 pub fn version() -> u32 {
     let mut text = io::buffer();
-    let a = put(&mut text, 0, b"slip of Undovilaza\neditions 1\n");
+    let a = put(&mut text, 0, b"slip of Undovilaza\neditions 1 2\n");
     let b = field(&mut text, a, b"source", SOURCE as u64);
     let c = field(&mut text, b, b"tokens", TOKENS as u64);
     let d = field(&mut text, c, b"functions", FUNCTIONS as u64);

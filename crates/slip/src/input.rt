@@ -2,6 +2,8 @@
 ghost use Rattle.io.specs.Counts.{Counts};
 ghost use Rattle.slip.specs.Sheets.{Loaded};
 use crate::output;
+use clerk::asked::Asked;
+use clerk::tasks;
 use page::Number;
 
 // The bytes of a sheet, or nothing, when the reason was told.
@@ -67,20 +69,33 @@ pub fn load(word: usize, bytes: &mut [u8]) -> Sheet
     found
 }
 
+// What was read of a word that has to be a number up to a limit; where it is none, that is told.
+fn numbered(found: Number, what: &[u8], word: &[u8], most: u32) -> Number {
+    match found {
+        Number::Of(_) => found,
+        Number::None => {
+            let mut text = [0u8; 20000];
+            let n = clerk::mistakes::no_number(&mut text, 0, what, word, most);
+            output::tell(&text[..n]);
+            found
+        }
+    }
+}
+
 // Reads a word that has to be a number up to a limit; where it is none, that was told.
 pub fn number(word: usize, what: &[u8], most: u32) -> Number {
     let mut name = io::buffer();
     let length = os::arg(word, &mut name);
     let found = page::up_to(&name[..length], most);
-    match found {
-        Number::Of(_) => found,
-        Number::None => {
-            let mut text = [0u8; 20000];
-            let n = clerk::mistakes::no_number(&mut text, 0, what, &name[..length], most);
-            output::tell(&text[..n]);
-            found
-        }
-    }
+    numbered(found, what, &name[..length], most)
+}
+
+// The edition that the words name; where the word for it is no number, that was told.
+pub fn edition(asked: Asked) -> Number {
+    let mut name = io::buffer();
+    let length = os::arg(asked.edition, &mut name);
+    let found = tasks::edition(asked, &name[..length]);
+    numbered(found, b"edition", &name[..length], tasks::LARGEST)
 }
 
 // Says of a word that it has no meaning, or that it is too long.

@@ -1,8 +1,10 @@
+pub mod Editions
 pub mod Compared
 pub mod Views
 pub mod WordRows
 pub mod FirstBytes
 pub mod MarkBytes
+pub mod PointMarks
 pub mod Digits
 pub mod Decimals
 pub mod FoundTokens

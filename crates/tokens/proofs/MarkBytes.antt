@@ -104,5 +104,5 @@ module _ {t : List ℕ} {p : ℕ} (h : p < length t) (b : Begins t p others) (n 
   unmarked m e z = at-most-less m (λ l. rw (ahead-slice t p (n + 1) l) (is-none (ahead t p (n + 1)) e z))
 
 -- where no byte is one, nothing is there
-pub markless : {t : List ℕ} {p : ℕ} → Begins t p others → AtMost EDITION-1 t p 0 → Formless t p
+pub markless : {t : List ℕ} {p : ℕ} → Begins t p others → AtMost EDITION-1 t p 0 → Formless EDITION-1 t p
 markless {t} {p} b m = no-form laws-1 t p b m

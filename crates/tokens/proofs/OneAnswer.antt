@@ -1,17 +1,15 @@
--- No two answers of `split`, nor two tables, meet its contract for the same text and table.
+-- No two answers of `split`, nor two tables, meet its contract for the same edition, text and table.
 use lib.ListN.{length}
 use mathlib.Core.List.{List}
 use mathlib.Core.Path.{_≡_, refl, sym, _∙_, ap, ap₂, subst}
 use native.Mathlib.Omega.{arith}
 use Prim.Native.Nat.{ℕ, _≤_}
-use Rattle.language.proofs.Text.Marks.{laws-1}
+use Rattle.language.proofs.Text.Marks.{Laws}
 use Rattle.language.proofs.Text.SmallNumbers.{split-small}
 use Rattle.language.proofs.Text.OneSplit.{one-list, one-split, one-flaw, not-both}
 use Rattle.language.specs.Sizes.{TABLE}
-use Rattle.language.specs.Edition.{Splits}
-use Rattle.language.specs.Text.{Reaches}
+use Rattle.language.specs.Text.{Reaches, Splits}
 use Rattle.language.specs.Tokens as Language
-use Rattle.language.specs.Tokens.{EDITION-1}
 use Rattle.numbers.proofs.Apart.{same-flaw}
 use Rattle.layout.proofs.TokenLaws.{lay-stands}
 use Rattle.layout.specs.Names.{lay-tokens, Stand}
@@ -22,22 +20,22 @@ use Rattle.tokens.specs.declared.answer.Split.the-variants.{Tokens, Stop
 
 -- ---- one answer
 
-module _ (t w v v′ : List ℕ) where
+module _ {voc : Language.Vocabulary} (laws : Laws voc) (t w v v′ : List ℕ) where
   one-table : {ts us : List Language.Token} → ts ≡ us → Laid ts w v → Laid us w v′ → v ≡ v′
   one-table e a b = a ∙ ap (λ ts. lay-tokens ts w 0 ts) e ∙ sym b
 
   -- the answer and the table are determined by the text and the table before
-  pub one-answer : (r r′ : split.Split) → IsSplit t w v r → IsSplit t w v′ r′ → (r ≡ r′) × (v ≡ v′)
+  pub one-answer : (r r′ : split.Split) → IsSplit voc t w v r → IsSplit voc t w v′ r′ → (r ≡ r′) × (v ≡ v′)
   one-answer (Tokens n) (Tokens m) a b =
-      let e = one-split laws-1 (a .splits) (b .splits) in
+      let e = one-split laws (a .splits) (b .splits) in
       (ap Tokens (a .count ∙ ap length e ∙ sym (b .count)), one-table e (a .laid) (b .laid))
-  one-answer (Tokens n) (Stopped f p) a b = absurd (not-both laws-1 (a .splits) (b .flawed))
+  one-answer (Tokens n) (Stopped f p) a b = absurd (not-both laws (a .splits) (b .flawed))
   one-answer (Tokens n) TooLong a b = absurd (omega (arith, a .short, b .long))
-  one-answer (Stopped f p) (Tokens n) a b = absurd (not-both laws-1 (b .splits) (a .flawed))
+  one-answer (Stopped f p) (Tokens n) a b = absurd (not-both laws (b .splits) (a .flawed))
   one-answer (Stopped f p) (Stopped g q) a b =
-      let z = one-flaw laws-1 (a .flawed) (b .flawed) in
-      let x : Reaches EDITION-1 t q (a .flawed .tokens) = subst (λ i. Reaches EDITION-1 t i (a .flawed .tokens)) (z .1) (a .flawed .before) in
-      (ap₂ (λ h i. Stopped h i) (same-flaw f g (z .0)) (z .1), one-table (one-list laws-1 x (b .flawed .before)) (a .laid) (b .laid))
+      let z = one-flaw laws (a .flawed) (b .flawed) in
+      let x : Reaches voc t q (a .flawed .tokens) = subst (λ i. Reaches voc t i (a .flawed .tokens)) (z .1) (a .flawed .before) in
+      (ap₂ (λ h i. Stopped h i) (same-flaw f g (z .0)) (z .1), one-table (one-list laws x (b .flawed .before)) (a .laid) (b .laid))
   one-answer (Stopped f p) TooLong a b = absurd (omega (arith, a .short, b .long))
   one-answer TooLong (Tokens n) a b = absurd (omega (arith, b .short, a .long))
   one-answer TooLong (Stopped f p) a b = absurd (omega (arith, b .short, a .long))
@@ -46,10 +44,10 @@ module _ (t w v v′ : List ℕ) where
 -- ---- what the next layer gets
 
 -- the table of a text that splits stands for its tokens
-pub split-stands : (t w v : List ℕ) (n : ℕ) (ts : List Language.Token)
-    → TABLE ≤ length w → IsSplit t w v (Tokens n) → Splits t ts → Stand v n ts
-split-stands t w v n ts room a s =
-    let e : a .tokens ≡ ts = one-split laws-1 (a .splits) s in
+pub split-stands : {voc : Language.Vocabulary} → Laws voc → (t w v : List ℕ) (n : ℕ) (ts : List Language.Token)
+    → TABLE ≤ length w → IsSplit voc t w v (Tokens n) → Splits voc t ts → Stand v n ts
+split-stands laws t w v n ts room a s =
+    let e : a .tokens ≡ ts = one-split laws (a .splits) s in
     let x : v ≡ lay-tokens ts w 0 ts = a .laid ∙ ap (λ us. lay-tokens us w 0 us) e in
     let y : n ≡ length ts = a .count ∙ ap length e in
     rw (x, y) (lay-stands ts w (s .few) (λ i _. split-small s i) (reached-near (s .whole) (a .short)) room)

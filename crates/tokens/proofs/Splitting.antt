@@ -12,7 +12,7 @@ use Rattle.language.specs.Text as Text
 use Rattle.language.specs.Text.{Piece, Reaches, Wrong, token-of}
 use Rattle.language.specs.Text.Content.{space, token}
 use Rattle.language.specs.Text.Reaches.{start, skip, next}
-use Rattle.language.specs.Tokens.{EDITION-1, Token}
+use Rattle.language.specs.Tokens.{Vocabulary, Token}
 use Rattle.layout.proofs.TokenLaws.{lay-length, lay-more}
 use Rattle.layout.specs.Names.{lay-tokens}
 use Rattle.layout.specs.Table.{put-token}
@@ -21,31 +21,31 @@ use Rattle.tokens.proofs.Written.{reached-near, table-spans, words-foun
 use Rattle.tokens.specs.Answer.{Laid, Whole, Broken}
 use Rattle.tokens.specs.Found.{Spans, IsToken, TableWorth}
 
--- the split comes as far as p with n tokens, which lie in the table: w₀ before, w now
-pub record Reached (t w₀ w : List ℕ) (p n : ℕ) : Type 0 where
+-- by a vocabulary the split comes as far as p with n tokens, which lie in the table: w₀ before, w now
+pub record Reached (voc : Vocabulary) (t w₀ w : List ℕ) (p n : ℕ) : Type 0 where
   pub tokens : List Token
-  pub reaches : Reaches EDITION-1 t p tokens
+  pub reaches : Reaches voc t p tokens
   pub count : n ≡ length tokens
   pub few : n ≤ TOKENS
   pub laid : Laid tokens w₀ w
 
 -- at first no token is reached
-pub reached-none : (t w : List ℕ) → Reached t w w 0 0
+pub reached-none : {voc : Vocabulary} (t w : List ℕ) → Reached voc t w w 0 0
 unfolding lay-tokens
 reached-none t w = record { tokens = []; reaches = start; count = refl; few = omega arith; laid = refl }
 
-module _ {t w₀ w : List ℕ} {p n : ℕ} (r : Reached t w₀ w p n) where
+module _ {voc : Vocabulary} {t w₀ w : List ℕ} {p n : ℕ} (r : Reached voc t w₀ w p n) where
   -- the table keeps its length
   pub reached-length : length w ≡ length w₀
   reached-length = ap length (r .laid) ∙ lay-length (r .tokens) w₀ 0 (r .tokens)
 
   -- a piece that is no token is passed over
-  pub reached-skip : {q : ℕ} → Piece EDITION-1 t p q space → Reached t w₀ w q n
+  pub reached-skip : {q : ℕ} → Piece voc t p q space → Reached voc t w₀ w q n
   reached-skip x = record { tokens = r .tokens; reaches = skip (r .reaches) x; count = r .count; few = r .few; laid = r .laid }
 
   -- the flaw at p stops the split
-  pub reached-broken : (f : Text.Flaw) → length t ≤ SOURCE → ((ts : List Token) → n ≡ length ts → Wrong EDITION-1 t p ts f)
-      → Broken t w₀ w f p
+  pub reached-broken : (f : Text.Flaw) → length t ≤ SOURCE → ((ts : List Token) → n ≡ length ts → Wrong voc t p ts f)
+      → Broken voc t w₀ w f p
   reached-broken f l x =
       record {
         short = l;
@@ -55,12 +55,12 @@ module _ {t w₀ w : List ℕ} {p n : ℕ} (r : Reached t w₀ w p n) where
       }
 
   -- the end of the text ends it
-  pub reached-whole : length t ≤ SOURCE → p ≡ length t → Whole t w₀ w n
+  pub reached-whole : length t ≤ SOURCE → p ≡ length t → Whole voc t w₀ w n
   reached-whole l e =
       record {
         short = l;
         tokens = r .tokens;
-        splits = record { whole = subst (λ q. Reaches EDITION-1 t q (r .tokens)) e (r .reaches); few = omega (arith, r .count, r .few) };
+        splits = record { whole = subst (λ q. Reaches voc t q (r .tokens)) e (r .reaches); few = omega (arith, r .count, r .few) };
         count = r .count;
         laid = r .laid;
       }
@@ -75,8 +75,8 @@ module _ {t w₀ w : List ℕ} {p n : ℕ} (r : Reached t w₀ w p n) where
         subst₂ (λ v m. Spans t v m) (sym (r .laid)) (sym (r .count)) (table-spans t w₀ (r .tokens) (r .reaches) fits (reached-near (r .reaches) short))
 
     -- a token is written behind the others
-    pub reached-next : {q k x m high low : ℕ} {w′ : List ℕ} → n < TOKENS → IsToken t p k q x → TableWorth t w n k (slice p q t) x m
-        → high ≡ m / HALF → low ≡ m % HALF → w′ ≡ put-token w n k p q high low → Reached t w₀ w′ q (n + 1)
+    pub reached-next : {q k x m high low : ℕ} {w′ : List ℕ} → n < TOKENS → IsToken voc t p k q x → TableWorth t w n k (slice p q t) x m
+        → high ≡ m / HALF → low ≡ m % HALF → w′ ≡ put-token w n k p q high low → Reached voc t w₀ w′ q (n + 1)
     reached-next {q} {k} {x} {m} l y z g h e =
         let ts = r .tokens in
         let u = token-of t p q k (y .value) in

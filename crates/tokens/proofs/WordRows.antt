@@ -15,7 +15,7 @@ use Rattle.language.proofs.Text.Choices.{either, outcome, clash, and-both}
 use Rattle.language.proofs.Text.Spellings.{stands}
 use Rattle.language.proofs.Text.Tables.{Table, spelling-of, kind-of, every, same-one, no-kind}
 use Rattle.language.specs.Text.{byte, or-name, word-kind}
-use Rattle.language.specs.Tokens.{Spelling, spell, same, Entry, spelled, words, EDITION-1, NAME}
+use Rattle.language.specs.Tokens.{Spelling, spell, same, Entry, spelled, words, EDITION-1, EDITION-2, NAME, FOR, BY}
 use Rattle.language.specs.Tokens.Entry.{_is_}
 use Rattle.tokens.proofs.Compared.{stands-same}
 use Rattle.tokens.proofs.FirstBytes.{NoneOf, begins-so, other-first}
@@ -137,3 +137,20 @@ no-length t p q h m =
     let s = slice p q t in
     let l : q - p ≡ length s = sym (length-slice p q t h) in
     ap or-name (sym (no-kind short words s refl (not-short (length s) (subst (NoneOf (5 ∷ 4 ∷ 3 ∷ 2 ∷ [])) l m))))
+
+-- ---- edition 2
+
+-- its own words come before the others
+module _ (s : Spelling) where
+  pub word-for : same (spell "for") s ≡ true → FOR ≡ word-kind EDITION-2 s
+  unfolding word-kind spelled
+  word-for e = rw e
+
+  module _ (n : same (spell "for") s ≡ false) where
+    pub word-by : same (spell "by") s ≡ true → BY ≡ word-kind EDITION-2 s
+    unfolding word-kind spelled
+    word-by e = rw (n, e)
+
+    pub word-other : {r : ℕ} → same (spell "by") s ≡ false → r ≡ word-kind EDITION-1 s → r ≡ word-kind EDITION-2 s
+    unfolding word-kind spelled
+    word-other m e = rw (n, m) e

@@ -113,7 +113,7 @@ module _ {voc : Vocabulary} (t w₀ : List ℕ) (ts : List Token) {p : ℕ} (r :
       ⊎-elim (λ e. omega (arith, m .putchar e)) (λ e. omega (arith, m .first e .within)) (outcome (same (u .spelling) PUTCHAR))
 
   -- the words of the next token
-  pub words-found : {q k e x n : ℕ} (y : IsToken t q k e x) → length ts ≤ TOKENS
+  pub words-found : {q k e x n : ℕ} (y : IsToken voc t q k e x) → length ts ≤ TOKENS
       → TableWorth t (lay-tokens ts w₀ 0 ts) (length ts) k (slice q e t) x n
       → Halves (ts ++ (token-of t q e k (y .value) ∷ [])) (token-of t q e k (y .value)) n
   words-found {q} {k} {e} {x} {n} y few m =

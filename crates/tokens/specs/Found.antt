@@ -15,7 +15,7 @@ use Rattle.language.specs.Text as Text
 use Rattle.language.specs.Text.{byte, is-digit, is-digit-of, is-name-byte, is-in-line, Comment, Content, Form}
 use Rattle.language.specs.Text.Content.{space, token}
 use Rattle.language.specs.Tokens as Tokens
-use Rattle.language.specs.Tokens.{EDITION-1, Spelling, same, spelled, PAST, NAME, FLOAT-NUMBER}
+use Rattle.language.specs.Tokens.{Vocabulary, EDITION-1, Spelling, same, spelled, PAST, NAME, FLOAT-NUMBER}
 use Rattle.language.specs.Trees.{PUTCHAR}
 use Rattle.layout.specs.Names.{float-bits}
 use Rattle.layout.specs.Table.{token-place, token-end}
@@ -42,18 +42,19 @@ is-of InLine = is-in-line
 -- ---- what stands at a place
 
 -- no form of the language begins at p
-abbrev pub Formless : List ℕ → ℕ → Type 0
-Formless t p = (q : ℕ) (c : Content) → Form EDITION-1 t p q c → ⊥
+abbrev pub Formless : Vocabulary → List ℕ → ℕ → Type 0
+Formless voc t p = (q : ℕ) (c : Content) → Form voc t p q c → ⊥
 
--- the number at p, whose digits stand from `from` up to q, goes on with a point
-unfoldable pub has-point : List ℕ → (p from q : ℕ) → Bool
-has-point t p from q = eqb from p && eqb (byte t q) (code ".")
+-- the number at p, whose digits stand from `from` up to q, goes on with a point of its own
+unfoldable pub has-point : Vocabulary → List ℕ → (p from q : ℕ) → Bool
+has-point voc t p from q = eqb from p && (eqb (byte t q) (code ".") && voc .points (byte t (q + 1)))
 
 -- all digits from p on, up to the point at m
-pub record PointAt (t : List ℕ) (p m : ℕ) : Type 0 where
+pub record PointAt (voc : Vocabulary) (t : List ℕ) (p m : ℕ) : Type 0 where
   pub some : p < m
   pub digits : Run is-digit t p m
   pub point : byte t m ≡ code "."
+  pub own : voc .points (byte t (m + 1)) ≡ true
 
 -- a float number from p up to q, with its point at m and no more digits than it may have
 pub record Decimal (t : List ℕ) (p m q : ℕ) : Type 0 where
@@ -73,7 +74,7 @@ abbrev pub IsClose : List ℕ → ℕ → close.Close → Type 0
 IsClose t p (At q) = Comment t p q
 IsClose t p Never = (q : ℕ) → Comment t p q → ⊥
 
--- the kind of the mark that is spelled so; that of no token, where there is none
+-- the kind of the mark of every edition that is spelled so; that of no token, where there is none
 abbrev pub or-past : Option ℕ → ℕ
 or-past none = PAST
 or-past (some k) = k
@@ -81,22 +82,22 @@ or-past (some k) = k
 unfoldable pub mark-kind : Spelling → ℕ
 mark-kind s = or-past (spelled (EDITION-1 .marks) s)
 
-abbrev pub IsMark : List ℕ → ℕ → mark.Mark → Type 0
-IsMark t p (mark.the-variants.Is k n) = Text.Piece EDITION-1 t p (p + n) (token k 0)
-IsMark t p None = Formless t p
+abbrev pub IsMark : Vocabulary → List ℕ → ℕ → mark.Mark → Type 0
+IsMark voc t p (mark.the-variants.Is k n) = Text.Piece voc t p (p + n) (token k 0)
+IsMark voc t p None = Formless voc t p
 
 -- a token of this kind from p up to q, and what it is worth: of a float number the bits, of any other its value
-pub record IsToken (t : List ℕ) (p kind q worth : ℕ) : Type 0 where
+pub record IsToken (voc : Vocabulary) (t : List ℕ) (p kind q worth : ℕ) : Type 0 where
   pub value : ℕ
-  pub piece : Text.Piece EDITION-1 t p q (token kind value)
+  pub piece : Text.Piece voc t p q (token kind value)
   pub small : value ≤ LARGEST
   pub float : kind ≡ FLOAT-NUMBER → worth ≡ float-bits (slice p q t)
   pub other : (kind ≡ FLOAT-NUMBER → ⊥) → worth ≡ value
 
-abbrev pub IsPiece : List ℕ → ℕ → piece.Piece → Type 0
-IsPiece t p (Space q) = Text.Piece EDITION-1 t p q space
-IsPiece t p (Token k q x) = IsToken t p k q x
-IsPiece t p (Wrong f) = (ts : List Tokens.Token) → Text.Wrong EDITION-1 t p ts (flaw-meant f)
+abbrev pub IsPiece : Vocabulary → List ℕ → ℕ → piece.Piece → Type 0
+IsPiece voc t p (Space q) = Text.Piece voc t p q space
+IsPiece voc t p (Token k q x) = IsToken voc t p k q x
+IsPiece voc t p (Wrong f) = (ts : List Tokens.Token) → Text.Wrong voc t p ts (flaw-meant f)
 
 -- ---- spellings by a table
 

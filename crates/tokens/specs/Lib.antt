@@ -1,3 +1,4 @@
 pub mod Shown
+pub mod Editions
 pub mod Found
 pub mod Answer

@@ -6,11 +6,13 @@ ghost use lib.Seq.{slice};
 ghost use Rattle.language.specs.Sizes.{TABLE};
 ghost use Rattle.tokens.specs.Found.{Comparable, TableWorth};
 ghost use Rattle.tokens.specs.Answer.{IsSplit};
+ghost use Rattle.tokens.specs.Editions.{meant};
 ghost use Rattle.tokens.specs.Shown.{text-of};
 
 pub mod answer;
 pub mod bytes;
 mod comments;
+pub mod edition;
 mod floats;
 mod marks;
 mod names;
@@ -20,6 +22,7 @@ mod words;
 mod worth;
 
 use crate::answer::Split;
+use crate::edition::Edition;
 use crate::pieces::Piece;
 use crate::view::View;
 use crate::view::len;
@@ -51,12 +54,13 @@ fn table_worth(
     worth
 }
 
-// Splits the text into tokens and writes them into the table, as far as the first flaw. All other
+// Splits the text into the tokens of an edition and writes them into the table, as far as the first flaw. All other
 // words of the table stay as they were.
-pub fn split(first: &[u8], second: &[u8], view: View, table: &mut [u32]) -> Split
+pub fn split(edition: Edition, first: &[u8], second: &[u8], view: View, table: &mut [u32]) -> Split
     requires { ⌜ TABLE ≤ length (now table) ⌝ }
     ensures { λ r.
-        ⌜ IsSplit (text-of (first .entry) (second .entry) view) (now (table .entry)) (now (table .exit)) r ⌝ }
+        ⌜ IsSplit (meant edition) (text-of (first .entry) (second .entry) view) (now (table .entry))
+        (now (table .exit)) r ⌝ }
 {
     let size = len(first, second, view);
     if SOURCE < size {
@@ -65,7 +69,7 @@ pub fn split(first: &[u8], second: &[u8], view: View, table: &mut [u32]) -> Spli
     let mut at = 0;
     let mut count = 0;
     while at < size {
-        match pieces::piece_at(first, second, view, at) {
+        match pieces::piece_at(edition, first, second, view, at) {
             Piece::Space(end) => {
                 at = end;
             }

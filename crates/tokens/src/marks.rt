@@ -6,9 +6,12 @@ ghost use Prim.Native.Nat.{_<_};
 ghost use lib.ListN.{length};
 ghost use Rattle.language.proofs.Text.Places.{Begins};
 ghost use Rattle.language.proofs.Text.Places.Sort.{others};
-ghost use Rattle.language.specs.Tokens.{PAST};
+ghost use Rattle.language.specs.Tokens.{EDITION-1, EDITION-2, PAST};
+ghost use Rattle.tokens.specs.Editions.{meant};
 ghost use Rattle.tokens.specs.Found.{IsMark, mark-kind};
 ghost use Rattle.tokens.specs.Shown.{text-of};
+use crate::bytes::stands_at;
+use crate::edition::Edition;
 use crate::view::View;
 use crate::view::ahead;
 use crate::view::byte;
@@ -22,9 +25,34 @@ pub enum Mark {
 
 // The mark at a place where no blank, name, number or comment begins: of those that stand there the
 // longest.
-pub fn mark_at(first: &[u8], second: &[u8], view: View, at: usize) -> Mark
+pub fn mark_at(edition: Edition, first: &[u8], second: &[u8], view: View, at: usize) -> Mark
     requires { ⌜ (at < length (text-of first second view)) × Begins (text-of first second view) at others ⌝ }
-    ensures { λ r. ⌜ IsMark (text-of (first .entry) (second .entry) view) at r ⌝ }
+    ensures { λ r. ⌜ IsMark (meant edition) (text-of (first .entry) (second .entry) view) at r ⌝ }
+{
+    match edition {
+        Edition::One => in_one(first, second, view, at),
+        Edition::Two => in_two(first, second, view, at),
+    }
+}
+
+// By edition 2, which adds two marks; with a point begins no other.
+fn in_two(first: &[u8], second: &[u8], view: View, at: usize) -> Mark
+    requires { ⌜ (at < length (text-of first second view)) × Begins (text-of first second view) at others ⌝ }
+    ensures { λ r. ⌜ IsMark EDITION-2 (text-of (first .entry) (second .entry) view) at r ⌝ }
+{
+    if stands_at(first, second, view, at, b"..=") {
+        return Mark::Is(kinds::THROUGH, 3);
+    }
+    if stands_at(first, second, view, at, b"..") {
+        return Mark::Is(kinds::UPTO, 2);
+    }
+    in_one(first, second, view, at)
+}
+
+// By edition 1.
+fn in_one(first: &[u8], second: &[u8], view: View, at: usize) -> Mark
+    requires { ⌜ (at < length (text-of first second view)) × Begins (text-of first second view) at others ⌝ }
+    ensures { λ r. ⌜ IsMark EDITION-1 (text-of (first .entry) (second .entry) view) at r ⌝ }
 {
     let here = byte(first, second, view, at);
     let two = double(here, ahead(first, second, view, at, 1));

@@ -1,6 +1,7 @@
 // What stands at a place of a text.
 ghost use Prim.Native.Nat.{_<_};
 ghost use lib.ListN.{length};
+ghost use Rattle.tokens.specs.Editions.{meant};
 ghost use Rattle.tokens.specs.Found.{IsPiece};
 ghost use Rattle.tokens.specs.Shown.{text-of};
 use crate::bytes::is_blank;
@@ -11,6 +12,7 @@ use crate::bytes::name_end;
 use crate::bytes::stands_at;
 use crate::comments::Close;
 use crate::comments::comment_end;
+use crate::edition::Edition;
 use crate::marks::Mark;
 use crate::marks::mark_at;
 use crate::view::View;
@@ -29,9 +31,9 @@ pub enum Piece {
 }
 
 // The longest piece at a place. What begins there is settled by its first two bytes.
-pub fn piece_at(first: &[u8], second: &[u8], view: View, at: usize) -> Piece
+pub fn piece_at(edition: Edition, first: &[u8], second: &[u8], view: View, at: usize) -> Piece
     requires { ⌜ at < length (text-of first second view) ⌝ }
-    ensures { λ r. ⌜ IsPiece (text-of (first .entry) (second .entry) view) at r ⌝ }
+    ensures { λ r. ⌜ IsPiece (meant edition) (text-of (first .entry) (second .entry) view) at r ⌝ }
 {
     let here = byte(first, second, view, at);
     if is_blank(here) {
@@ -39,10 +41,10 @@ pub fn piece_at(first: &[u8], second: &[u8], view: View, at: usize) -> Piece
     }
     if is_letter(here) {
         let end = name_end(first, second, view, at);
-        return Piece::Token(word(first, second, view, at, end), end, 0);
+        return Piece::Token(word(edition, first, second, view, at, end), end, 0);
     }
     if is_digit(here) {
-        return number(first, second, view, at);
+        return number(edition, first, second, view, at);
     }
     if stands_at(first, second, view, at, b"//") {
         return Piece::Space(line_end(first, second, view, at + 2));
@@ -53,7 +55,7 @@ pub fn piece_at(first: &[u8], second: &[u8], view: View, at: usize) -> Piece
             Close::Never => Piece::Wrong(Flaw::OpenComment),
         };
     }
-    match mark_at(first, second, view, at) {
+    match mark_at(edition, first, second, view, at) {
         Mark::Is(kind, size) => Piece::Token(kind, at + size, 0),
         Mark::None => Piece::Wrong(Flaw::StrangeByte),
     }

@@ -6,16 +6,44 @@ ghost use lib.ListN.{length};
 ghost use lib.Seq.{slice};
 ghost use Rattle.language.proofs.Text.Spellings.{stands};
 ghost use Rattle.language.specs.Text.{word-kind};
-ghost use Rattle.language.specs.Tokens.{EDITION-1, NAME};
+ghost use Rattle.language.specs.Tokens.{EDITION-1, EDITION-2, NAME};
+ghost use Rattle.tokens.specs.Editions.{meant};
 ghost use Rattle.tokens.specs.Shown.{text-of};
 use crate::bytes::stands_at;
+use crate::edition::Edition;
+use crate::names::spells;
 use crate::view::View;
 use crate::view::byte;
 use language::kinds;
 
-// The kind of the name from p up to q: a word's own, or NAME. Its length and then its first byte leave
-// two words at most, and with no others it is compared.
-pub fn word(first: &[u8], second: &[u8], view: View, p: usize, q: usize) -> u32
+// The kind of the name from p up to q: a word's own, or NAME.
+pub fn word(edition: Edition, first: &[u8], second: &[u8], view: View, p: usize, q: usize) -> u32
+    requires { ⌜ (p ≤ q) × (q ≤ length (text-of first second view)) ⌝ }
+    ensures { λ r. ⌜ r ≡ word-kind (meant edition) (slice p q (text-of (first .entry) (second .entry) view)) ⌝ }
+{
+    match edition {
+        Edition::One => in_one(first, second, view, p, q),
+        Edition::Two => in_two(first, second, view, p, q),
+    }
+}
+
+// By edition 2, which adds two words.
+fn in_two(first: &[u8], second: &[u8], view: View, p: usize, q: usize) -> u32
+    requires { ⌜ (p ≤ q) × (q ≤ length (text-of first second view)) ⌝ }
+    ensures { λ r. ⌜ r ≡ word-kind EDITION-2 (slice p q (text-of (first .entry) (second .entry) view)) ⌝ }
+{
+    if spells(first, second, view, p, q, b"for") {
+        return kinds::FOR;
+    }
+    if spells(first, second, view, p, q, b"by") {
+        return kinds::BY;
+    }
+    in_one(first, second, view, p, q)
+}
+
+// By edition 1. Its length and then its first byte leave two words at most, and with no others it is
+// compared.
+fn in_one(first: &[u8], second: &[u8], view: View, p: usize, q: usize) -> u32
     requires { ⌜ (p ≤ q) × (q ≤ length (text-of first second view)) ⌝ }
     ensures { λ r. ⌜ r ≡ word-kind EDITION-1 (slice p q (text-of (first .entry) (second .entry) view)) ⌝ }
 {

@@ -1,5 +1,5 @@
 // Numbers: how one is written, where it ends and what it is worth.
-ghost use Prim.Native.Nat.{_<_};
+ghost use Prim.Native.Nat.{_<_, _≤_};
 ghost use mathlib.Core.Bool.{true};
 ghost use mathlib.Core.List.{[], _∷_};
 ghost use mathlib.Core.Path.{_≡_};
@@ -8,11 +8,13 @@ ghost use Rattle.language.proofs.Text.Bases as Bases;
 ghost use Rattle.language.proofs.Text.Bases.{base-told};
 ghost use Rattle.language.specs.Text as Text;
 ghost use Rattle.language.specs.Text.{is-digit};
+ghost use Rattle.tokens.specs.Editions.{meant};
 ghost use Rattle.tokens.specs.Found.{IsPiece, PointAt, has-point};
 ghost use Rattle.tokens.specs.Shown.{text-of};
 use crate::bytes::digits_end;
 use crate::bytes::is_digit_of;
 use crate::bytes::worth;
+use crate::edition::Edition;
 use crate::floats;
 use crate::pieces::Piece;
 use crate::view::View;
@@ -45,10 +47,10 @@ fn base_of(a: u8, b: u8) -> u64
 
 // How the number that begins with the digit at a place is written. Without a digit of its own a base is
 // none, and the number is the digits that stand there.
-fn digits_at(first: &[u8], second: &[u8], view: View, at: usize) -> Digits
+fn digits_at(edition: Edition, first: &[u8], second: &[u8], view: View, at: usize) -> Digits
     requires { ⌜ (at < length (text-of first second view))
         × (is-digit (Text.byte (text-of first second view) at) ≡ true) ⌝ }
-    ensures { λ r. ⌜ Bases.Digits (text-of (first .entry) (second .entry) view) at (r .from) (r .base)
+    ensures { λ r. ⌜ Bases.Digits (meant edition) (text-of (first .entry) (second .entry) view) at (r .from) (r .base)
         × (r .from ≡ at → r .base ≡ 10) ⌝ }
 {
     let base = base_of(
@@ -64,20 +66,50 @@ fn digits_at(first: &[u8], second: &[u8], view: View, at: usize) -> Digits
     Digits { from: at, base: 10 }
 }
 
-// Whether the number at a place goes on with a point where its digits end. Those behind a base take none.
-fn takes_point(first: &[u8], second: &[u8], view: View, at: usize, from: usize, end: usize) -> bool
-    ensures { λ r. ⌜ r ≡ has-point (text-of (first .entry) (second .entry) view) at from end ⌝ }
+// May a point that this byte follows belong to a number? In edition 2 the points of `..` may not.
+fn points(edition: Edition, b: u8) -> bool
+    ensures { λ r. ⌜ r ≡ meant edition .points b ⌝ }
+{
+    match edition {
+        Edition::One => true,
+        Edition::Two => b != b'.',
+    }
+}
+
+// Whether the number at a place goes on with a point of its own where its digits end. Those behind a base
+// take none.
+fn takes_point(
+    edition: Edition,
+    first: &[u8],
+    second: &[u8],
+    view: View,
+    at: usize,
+    from: usize,
+    end: usize,
+) -> bool
+    requires { ⌜ end ≤ length (text-of first second view) ⌝ }
+    ensures { λ r. ⌜ r ≡ has-point (meant edition) (text-of (first .entry) (second .entry) view) at from end ⌝ }
 {
     if from != at {
         return false;
     }
-    byte(first, second, view, end) == b'.'
+    if byte(first, second, view, end) != b'.' {
+        return false;
+    }
+    points(edition, ahead(first, second, view, end, 1))
 }
 
 // The float number at a place, with its point where the digits there end.
-fn float_number(first: &[u8], second: &[u8], view: View, at: usize, point: usize) -> Piece
-    requires { ⌜ PointAt (text-of first second view) at point ⌝ }
-    ensures { λ r. ⌜ IsPiece (text-of (first .entry) (second .entry) view) at r ⌝ }
+fn float_number(
+    edition: Edition,
+    first: &[u8],
+    second: &[u8],
+    view: View,
+    at: usize,
+    point: usize,
+) -> Piece
+    requires { ⌜ PointAt (meant edition) (text-of first second view) at point ⌝ }
+    ensures { λ r. ⌜ IsPiece (meant edition) (text-of (first .entry) (second .entry) view) at r ⌝ }
 {
     let end = digits_end(first, second, view, point + 1, 10);
     if DIGITS + 1 < end - at {
@@ -89,17 +121,17 @@ fn float_number(first: &[u8], second: &[u8], view: View, at: usize, point: usize
 
 // The number that begins with the digit at a place. No digit is read once the value is too large, and
 // so no product can wrap.
-pub fn number(first: &[u8], second: &[u8], view: View, at: usize) -> Piece
+pub fn number(edition: Edition, first: &[u8], second: &[u8], view: View, at: usize) -> Piece
     requires { ⌜ (at < length (text-of first second view))
         × (is-digit (Text.byte (text-of first second view) at) ≡ true) ⌝ }
-    ensures { λ r. ⌜ IsPiece (text-of (first .entry) (second .entry) view) at r ⌝ }
+    ensures { λ r. ⌜ IsPiece (meant edition) (text-of (first .entry) (second .entry) view) at r ⌝ }
 {
-    let digits = digits_at(first, second, view, at);
+    let digits = digits_at(edition, first, second, view, at);
     let from = digits.from;
     let base = digits.base;
     let end = digits_end(first, second, view, from, base);
-    if takes_point(first, second, view, at, from, end) {
-        return float_number(first, second, view, at, end);
+    if takes_point(edition, first, second, view, at, from, end) {
+        return float_number(edition, first, second, view, at, end);
     }
     let mut value: u64 = 0;
     let mut i = from;

@@ -6,8 +6,8 @@ use mathlib.Core.Path.{_≡_, refl, sym, ap, ap₂, subst, _∙_}
 use native.Mathlib.Omega.{arith}
 use Prim.Native.Nat.{ℕ, zero, suc, _+_, _*_, _-_, _≤_, _<_}
 use Rattle.language.specs.Sizes.{SOURCE, TOKENS}
-use Rattle.language.specs.Tokens.{Token, past, spelling-at, place-at}
-use Rattle.language.specs.Edition.{Splits}
+use Rattle.language.specs.Tokens.{Vocabulary, Token, past, spelling-at, place-at}
+use Rattle.language.specs.Text.{Splits}
 use Rattle.language.specs.Writing.{behind, written-out}
 use Rattle.language.proofs.Text.Spots.{Spot, reached-spot}
 use Rattle.layout.specs.Table.{token-place, token-end}
@@ -84,7 +84,7 @@ written-from source w (t ∷ ts) i h =
     let rest = written-from source w ts (i + 1) (λ k l. let e : i + 1 + k ≡ i + suc k = omega arith in rw e (h (suc k) (omega arith))) in
     rw (here, behind-mark ts, rest) (append-snoc (t .spelling) (behind ts) (written-out ts))
 
-module _ {source w : List ℕ} {count : ℕ} {ts : List Token} (s : Stand w count ts) (x : Splits source ts) where
+module _ {voc : Vocabulary} {source w : List ℕ} {count : ℕ} {ts : List Token} (s : Stand w count ts) (x : Splits voc source ts) where
   stands-here : (i : ℕ) → i < count → Spot source (getD ts i past)
   stands-here i h = reached-spot (x .whole) i (omega (arith, s .long))
 

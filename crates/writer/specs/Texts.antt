@@ -7,8 +7,8 @@ use Prim.Native.Nat.{ℕ, zero, suc, _+_, _-_, _≤_, _<_}
 use lib.ListN.{length, drop}
 use lib.Seq.{slice, paste}
 use Rattle.language.specs.Sizes.{SOURCE, TOKENS, TABLE}
-use Rattle.language.specs.Tokens.{Token, Spelling}
-use Rattle.language.specs.Edition.{Splits}
+use Rattle.language.specs.Tokens.{Vocabulary, Token}
+use Rattle.language.specs.Text.{Splits}
 use Rattle.language.specs.Writing as Writing
 use Rattle.language.specs.Writing.{written-out, Fits}
 use Rattle.layout.specs.Table.{token-place, token-end}
@@ -72,13 +72,14 @@ text-long w i (suc n) = size-of w i + 1 + text-long w (i + 1) n
 
 -- ---- the text of a source
 
--- the table stands for the tokens of the source
+-- the table stands for the tokens of the source, by whatever vocabulary it was split
 pub record Writable (source w : List ℕ) (count : ℕ) : Type 0 where
+  pub words : Vocabulary
   pub tokens : List Token
   pub stand : Stand w count tokens
   pub room : TABLE ≤ length w
   pub short : length source ≤ SOURCE
-  pub splits : Splits source tokens
+  pub splits : Splits words source tokens
 
 -- what is told of a text and left in the output
 abbrev pub Told : List Token → List ℕ → List ℕ → Text → Type 0
@@ -86,5 +87,5 @@ Told ts out out′ (Text.Written n) = Fits ts (length out) × (n ≡ length (wri
     × Front (written-out ts) out out′
 Told ts out out′ Text.TooLong = Writing.TooLong ts (length out) × (out′ ≡ out)
 
-pub record WritesOut (source out out′ : List ℕ) (r : Text) : Type 0 where
-  pub told : (ts : List Token) → Splits source ts → Told ts out out′ r
+pub record WritesOut (source w : List ℕ) (count : ℕ) (out out′ : List ℕ) (r : Text) : Type 0 where
+  pub told : {voc : Vocabulary} (ts : List Token) → Stand w count ts → Splits voc source ts → Told ts out out′ r

@@ -55,7 +55,8 @@ fn put(source: &[u8], table: &[u32], count: usize, i: usize, out: &mut [u8], at:
 
 // Puts the text of all tokens into `out`.
 fn put_all(source: &[u8], table: &[u32], count: usize, out: &mut [u8])
-    requires { ⌜ Spanned (length (now source)) (now table) count × (text-long (now table) 0 count ≤ length (now out)) ⌝ }
+    requires { ⌜ Spanned (length (now source)) (now table) count
+        × (text-long (now table) 0 count ≤ length (now out)) ⌝ }
     ensures { λ _.
         ⌜ Front (text-from (now (source .entry)) (now (table .entry)) 0 count) (now (out .entry)) (now (out .exit)) ⌝ }
 {
@@ -87,7 +88,8 @@ fn measure(table: &[u32], count: usize) -> usize
 // The text of the source's tokens, at the front of `out`.
 pub fn write(source: &[u8], table: &[u32], count: usize, out: &mut [u8]) -> Text
     requires { ⌜ Writable (now source) (now table) count ⌝ }
-    ensures { λ r. ⌜ WritesOut (now (source .entry)) (now (out .entry)) (now (out .exit)) r ⌝ }
+    ensures { λ r.
+        ⌜ WritesOut (now (source .entry)) (now (table .entry)) count (now (out .entry)) (now (out .exit)) r ⌝ }
 {
     let long = measure(table, count);
     if SOURCE < long {

@@ -16,7 +16,7 @@ same-length c = search needs
 returns : tie.Need-returns
 returns c =
     let at-check-text = c .before .before .before in
-    check-paired _ _ _ _ (at-check-text .check-text .result) (c .checked .result) (at-check-text .check-text .ensures) (c .checked .ensures)
+    check-paired _ _ _ _ _ (at-check-text .check-text .result) (c .checked .result) (at-check-text .check-text .ensures) (c .checked .ensures)
 
 pub check-pair-spec : {M : Type 1} → statement M
 check-pair-spec = tie.close (tie.spec check-text-requires checked-requires same-length returns)

@@ -4,7 +4,7 @@ use Rattle.grumpy.proofs.check_text.Statement.{statement}
 use Rattle.grumpy.proofs.check_text.Tie as tie
 
 returns : tie.Need-returns
-returns c = check-is-short _ _ (c .if1 .taken)
+returns c = check-is-short _ _ _ (c .if1 .taken)
 
 examine-requires : tie.Need-examine-requires
 examine-requires c κs = search needs
@@ -26,7 +26,7 @@ returns-2 c =
     let at-clear = c .before .before .before .before .before in
     let at-examine = at-clear .before .before .before .before in
     let at-if1 = at-examine .before .before in
-    check-is-passed _ _ _ _ _ (at-examine .examine .ensures) (at-if1 .if1 .left) (at-clear .clear .ensures) _ _ (c .before .seen .given .1)
+    check-is-passed _ _ _ _ _ _ (at-examine .examine .ensures) (at-if1 .if1 .left) (at-clear .clear .ensures) _ _ (c .before .seen .given .1)
 
 same-length-2 : tie.Need-same-length-2
 same-length-2 c = search needs
@@ -36,7 +36,7 @@ returns-3 c =
     let at-clear = c .before .before .before .before .before in
     let at-examine = at-clear .before .before .before .before in
     let at-if1 = at-examine .before .before in
-    check-is-refused _ _ _ _ _ (at-examine .examine .ensures) (at-if1 .if1 .left) (at-clear .clear .ensures) _ _ (c .before .seen2 .given .1)
+    check-is-refused _ _ _ _ _ _ (at-examine .examine .ensures) (at-if1 .if1 .left) (at-clear .clear .ensures) _ _ (c .before .seen2 .given .1)
 
 pub check-text-spec : {M : Type 1} → statement M
 check-text-spec =

@@ -22,7 +22,7 @@ same-length-3 c = search needs
 returns : tie.Need-returns
 returns c =
     let at-run-text = c .before .before .before .before .before .before .before in
-    run-paired _ _ _ _ _ _ _ _ _ (at-run-text .run-text .result) (c .ran .result) (at-run-text .run-text .ensures) (c .ran .ensures)
+    run-paired _ _ _ _ _ _ _ _ _ _ (at-run-text .run-text .result) (c .ran .result) (at-run-text .run-text .ensures) (c .ran .ensures)
 
 pub run-pair-spec : {M : Type 1} → statement M
 run-pair-spec =

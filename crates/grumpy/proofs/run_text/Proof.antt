@@ -5,10 +5,10 @@ use Rattle.grumpy.proofs.run_text.Statement.{statement}
 use Rattle.grumpy.proofs.run_text.Tie as tie
 
 returns : tie.Need-returns
-returns c = run-is-short _ _ _ _ _ (inl (c .if1 .taken))
+returns c = run-is-short _ _ _ _ _ _ (inl (c .if1 .taken))
 
 returns-2 : tie.Need-returns-2
-returns-2 c = run-is-short _ _ _ _ _ (inr (c .if2 .taken))
+returns-2 c = run-is-short _ _ _ _ _ _ (inr (c .if2 .taken))
 
 clear-requires : tie.Need-clear-requires
 clear-requires c κs = search needs
@@ -28,7 +28,7 @@ returns-3 c =
     let at-if3 = at-clear .before .before in
     let at-if2 = at-if3 .before in
     let at-if1 = at-if2 .before in
-    run-is-large _ _ _ _ _ _ _ (at-if1 .if1 .left) (at-if2 .if2 .left) (at-if3 .if3 .taken) (at-clear .clear .ensures)
+    run-is-large _ _ _ _ _ _ _ _ (at-if1 .if1 .left) (at-if2 .if2 .left) (at-if3 .if3 .taken) (at-clear .clear .ensures)
     (c .before .before .clear2 .ensures)
 
 examine-requires : tie.Need-examine-requires
@@ -42,7 +42,7 @@ run-or-refuse-requires c κs =
     let at-examine = c .before .before .before .before .before in
     let at-if3 = at-examine .before .before in
     let at-if2 = at-if3 .before in
-    examined-runnable _ _ _ _ _ _ (at-examine .examine .ensures) (at-if2 .if2 .left) (at-if3 .if3 .left)
+    examined-runnable _ _ _ _ _ _ _ (at-examine .examine .ensures) (at-if2 .if2 .left) (at-if3 .if3 .left)
 
 clear-requires-3 : tie.Need-clear-requires-3
 clear-requires-3 c κs = search needs
@@ -65,7 +65,7 @@ returns-4 c =
     let at-if2 = at-if3 .before in
     let at-if1 = at-if2 .before in
     let x = at-run-or-refuse .run-or-refuse .ensures in
-    run-is-answered _ _ _ _ _ _ _ _ _ _ _ (at-if1 .if1 .left) (at-if2 .if2 .left) (at-if3 .if3 .left) (at-examine .examine .ensures) x
+    run-is-answered _ _ _ _ _ _ _ _ _ _ _ _ (at-if1 .if1 .left) (at-if2 .if2 .left) (at-if3 .if3 .left) (at-examine .examine .ensures) x
     (c .before .before .clear3 .ensures)
 
 pub run-text-spec : {M : Type 1} → statement M

@@ -24,7 +24,7 @@ returns-2 : tie.Need-returns-2
 returns-2 c =
     let at-check-pair = c .before .before .before .before .before .before in
     let at-if1 = at-check-pair .before .before in
-    pair-checked-c _ _ _ _ _ _ (at-check-pair .check-pair .result) _ (at-if1 .if1 .left) (at-check-pair .check-pair .ensures)
+    pair-checked-c _ _ _ _ _ _ _ (at-check-pair .check-pair .result) _ (at-if1 .if1 .left) (at-check-pair .check-pair .ensures)
     (c .before .before .report-pair-checked .ensures)
 
 pub grumpy-check-pair-spec : {M : Type 1} → statement M

@@ -31,7 +31,7 @@ returns-2 c =
     let earlier = c .before .before .before .before .before .before .before in
     let at-run-pair = earlier .before .before .before in
     let at-if1 = at-run-pair .before .before .before .before in
-    pair-ran-c _ _ _ _ _ _ _ _ _ _ _ (at-run-pair .run-pair .result) _ (at-if1 .if1 .left) (at-run-pair .run-pair .ensures)
+    pair-ran-c _ _ _ _ _ _ _ _ _ _ _ _ (at-run-pair .run-pair .result) _ (at-if1 .if1 .left) (at-run-pair .run-pair .ensures)
     (c .before .before .report-pair-ran .ensures)
 
 pub grumpy-run-pair-spec : {M : Type 1} → statement M

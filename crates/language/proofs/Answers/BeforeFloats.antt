@@ -18,12 +18,13 @@ use Rattle.language.proofs.Types.OldTypes.{OldHasType, still-has-type}
 use Rattle.language.proofs.Grammar.BeforeFloats.{ReadBefore, bare-before}
 use Rattle.language.proofs.Meaning.OldMeaning.{old-run}
 use Rattle.language.proofs.Meaning.SameAsBefore.{Plain, Same, same-value, same-stop, same-stuck, same-run, same-outcome}
+use Rattle.language.proofs.Text.Marks.{laws-1}
 use Rattle.language.proofs.Text.PointBefore.{without}
 use Rattle.language.proofs.Answers.Origins.{Lawful, text-lawful}
 use Rattle.language.proofs.Answers.Endings.{some-ending}
 use Rattle.language.proofs.Answers.OneAnswer.{one-checked, one-ran}
 use Rattle.language.proofs.Answers.Pairs.{pair-lawful}
-use Rattle.language.proofs.Answers.OlderTexts.{GivesBy, before-points}
+use Rattle.language.proofs.Answers.OlderTexts.{before-points}
 
 -- ---- an end that is no float
 
@@ -40,12 +41,12 @@ plain-ending allowance same-stuck x = subst PlainEnd x tt
 -- ---- what passed
 
 pub record PassedBefore (source : List ℕ) (ts : List Token) (p : Program) (t : Ty) : Type 0 where
-  pub given : GivesBy (without EDITION-1) source ts
+  pub given : TextGives (without EDITION-1) source ts
   pub reads : ReadBefore ts p
   pub typed : OldHasType p t
 
 module _ {source : List ℕ} {ts : List Token} {p : Program} {t : Ty} (old : PassedBefore source ts p t) where
-  given-now : TextGives source ts
+  given-now : TextGives EDITION-1 source ts
   given-now = record {
     short = old .given .short;
     splits = before-points source .splits (old .reads .reads) (old .given .splits);
@@ -66,7 +67,7 @@ module _ {source : List ℕ} {ts : List Token} {p : Program} {t : Ty} (old : Pas
 
   -- ---- in an origin that has the text: a sheet by itself, or two that are joined
 
-  module _ {P : Type 0} {o : Origin P} (law : Lawful o) (has : TextGives source ts → o .gives ts) where
+  module _ {P : Type 0} {o : Origin P} (law : Lawful o) (has : TextGives EDITION-1 source ts → o .gives ts) where
     pub passes-now : Passes o ts p t
     passes-now = record {
       given = has given-now;
@@ -89,8 +90,8 @@ module _ {source : List ℕ} {ts : List Token} {p : Program} {t : Ty} (old : Pas
 -- ---- a sheet by itself, and two sheets
 
 module _ {ts : List Token} {p : Program} {t : Ty} where
-  pub sheet-passes : {source : List ℕ} → PassedBefore source ts p t → Passes (from-text source) ts p t
-  sheet-passes {source} old = passes-now old (text-lawful source) (λ g. g)
+  pub sheet-passes : {source : List ℕ} → PassedBefore source ts p t → Passes (from-text EDITION-1 source) ts p t
+  sheet-passes {source} old = passes-now old (text-lawful laws-1 source) (λ g. g)
 
-  pub pair-passes : {first second : List ℕ} → PassedBefore (joined first second) ts p t → Passes (from-pair first second) ts p t
-  pair-passes {first} {second} old = passes-now old (pair-lawful first second) (λ g. g)
+  pub pair-passes : {first second : List ℕ} → PassedBefore (joined first second) ts p t → Passes (from-pair EDITION-1 first second) ts p t
+  pair-passes {first} {second} old = passes-now old (pair-lawful laws-1 first second) (λ g. g)

@@ -1,4 +1,4 @@
--- Demand 1: whatever is lent with a text, what is told is a row of the table of numbers and the place is the one that the row
+-- Demand 1: whatever edition is named and whatever is lent with a text, what is told is a row of the table of numbers and the place is the one that the row
 -- sets; and where nothing is run nothing is printed. What is left in memory is in the contracts themselves, as equations.
 use mathlib.Core.List.{List, []}
 use mathlib.Core.Logic.{_⊎_, inl}
@@ -8,9 +8,8 @@ use Prim.Native.Nat.{ℕ, _<_}
 use native.Mathlib.Omega.{arith}
 use lib.ListN.{length}
 use Rattle.language.specs.Sizes.{SOURCE, ALLOWANCE, TABLE, WORK}
-use Rattle.language.specs.Tokens.{Token}
-use Rattle.language.specs.Edition.{Splits, Flawed}
-use Rattle.language.specs.Text.{Flaw}
+use Rattle.language.specs.Tokens.{Vocabulary, Token}
+use Rattle.language.specs.Text.{Flaw, Splits, Flawed}
 use Rattle.language.specs.Trees.{Ty, Program}
 use Rattle.language.specs.Grammar.{Reading}
 use Rattle.language.specs.Starts.{FirstWrong}
@@ -18,73 +17,80 @@ use Rattle.language.specs.Types.{HasType}
 use Rattle.language.specs.Faults.{Reason, HasFault}
 use Rattle.language.specs.State.{Stop, State, Outcome, value, stop, stuck}
 use Rattle.language.specs.Meaning.{run}
-use Rattle.language.specs.Numbers.{Refusal, short-memory, large-allowance, long-source, text}
+use Rattle.language.specs.Numbers.{Refusal, short-memory, large-allowance, no-edition, long-source, text}
 use Rattle.language.specs.Numbers.{no-reading, types, long-text, Told, passed, refused, stopped}
-use Rattle.language.specs.Answers.{Origin, place-in, too-long, flawed, from-text, unread, faulty, Passes, Refused}
+use Rattle.language.specs.Answers.{Origin, place-in, too-long, flawed, unread, faulty, Passes, Refused}
 use Rattle.language.specs.Answers.{by-origin, by-tokens, Ending, ending, CheckReport, Checked, check-short, check-refused}
 use Rattle.language.specs.Answers.{check-passed, Lent, RunReport, Ran, run-short, run-large, run-refused, run-ended}
+use Rattle.language.specs.Edition.{edition, unknown, known, text-in}
 use Rattle.language.specs.Writing.{TooLong, WriteReport, Wrote, write-short, write-refused, write-long, write-passed}
 use Rattle.language.proofs.Answers.Endings.{IsRun, is-run}
 
 -- ---- numbers and places
 
-module _ (source : List ℕ) (l : Lent) where
+module _ (n : ℕ) (source : List ℕ) (l : Lent) where
   -- the byte of token i, or the text's length for the end
   abbrev byte-of : List Token → ℕ → ℕ
-  byte-of ts i = from-text source .at ts i
+  byte-of ts i = text-in n source .at ts i
 
   -- the table: what is told, when, and at which place; rows that differ in their number alone stand together
   pub data Listed : Told → ℕ → Type 0 where
-    row-0 : {ts : List Token} {p : Program} {t : Ty} → Splits source ts → Reading ts p → HasType p t → Listed passed 0
     row-40 : (l .table < TABLE) ⊎ (l .work < WORK) → Listed (refused short-memory) 0
     row-41 : ALLOWANCE < l .allowance → Listed (refused large-allowance) 0
+    row-42 : edition n ≡ none → Listed (refused no-edition) 0
     row-10 : SOURCE < length source → Listed (refused long-source) 0
-    rows-11-to-14 : {f : Flaw} {p : ℕ} → Flawed source f p → Listed (refused (text f)) p
-    row-20 : {ts : List Token} {i : ℕ} → Splits source ts → FirstWrong ts i → Listed (refused no-reading) (byte-of ts i)
-    rows-30-to-37 : {ts : List Token} {p : Program} {r : Reason} {i : ℕ}
-        → Splits source ts → Reading ts p → HasFault p r i → Listed (refused (types r)) (byte-of ts i)
-    row-44 : {ts : List Token} {p : Program} {t : Ty}
-        → Splits source ts → Reading ts p → HasType p t → TooLong ts (l .output) → Listed (refused long-text) 0
-    rows-50-to-57 : {ts : List Token} {p : Program} {t : Ty} {w : Stop} {i : ℕ} {s : State}
-        → Splits source ts → Reading ts p → HasType p t → run p (l .allowance) (l .output) ≡ stop w i s → Listed (stopped w) (byte-of ts i)
+    rows-11-to-15 : {voc : Vocabulary} {f : Flaw} {p : ℕ} → edition n ≡ some voc → Flawed voc source f p → Listed (refused (text f)) p
+    row-20 : {voc : Vocabulary} {ts : List Token} {i : ℕ} → edition n ≡ some voc → Splits voc source ts → FirstWrong ts i
+        → Listed (refused no-reading) (byte-of ts i)
+    rows-30-to-37 : {voc : Vocabulary} {ts : List Token} {p : Program} {r : Reason} {i : ℕ}
+        → edition n ≡ some voc → Splits voc source ts → Reading ts p → HasFault p r i → Listed (refused (types r)) (byte-of ts i)
+    row-0 : {voc : Vocabulary} {ts : List Token} {p : Program} {t : Ty}
+        → edition n ≡ some voc → Splits voc source ts → Reading ts p → HasType p t → Listed passed 0
+    row-44 : {voc : Vocabulary} {ts : List Token} {p : Program} {t : Ty}
+        → edition n ≡ some voc → Splits voc source ts → Reading ts p → HasType p t → TooLong ts (l .output) → Listed (refused long-text) 0
+    rows-50-to-58 : {voc : Vocabulary} {ts : List Token} {p : Program} {t : Ty} {w : Stop} {i : ℕ} {s : State}
+        → edition n ≡ some voc → Splits voc source ts → Reading ts p → HasType p t → run p (l .allowance) (l .output) ≡ stop w i s
+        → Listed (stopped w) (byte-of ts i)
 
-  refused-listed : {r : Refusal} {x : ℕ} → Refused (from-text source) r x → Listed (refused r) x
-  refused-listed (by-origin (too-long h)) = row-10 h
-  refused-listed (by-origin (flawed h a)) = rows-11-to-14 a
-  refused-listed (by-tokens g (unread h)) = row-20 (g .splits) h
-  refused-listed (by-tokens g (faulty a f)) = rows-30-to-37 (g .splits) a f
+  refused-listed : {r : Refusal} {x : ℕ} → Refused (text-in n source) r x → Listed (refused r) x
+  refused-listed (by-origin (unknown e)) = row-42 e
+  refused-listed (by-origin (known e (too-long h))) = row-10 h
+  refused-listed (by-origin (known e (flawed h a))) = rows-11-to-15 e a
+  refused-listed (by-tokens g (unread h)) = row-20 (g .named) (g .given .splits) h
+  refused-listed (by-tokens g (faulty a f)) = rows-30-to-37 (g .named) (g .given .splits) a f
 
-  module _ {ts : List Token} {p : Program} {t : Ty} (a : Passes (from-text source) ts p t) where
+  module _ {ts : List Token} {p : Program} {t : Ty} (a : Passes (text-in n source) ts p t) where
     passed-listed : Listed passed 0
-    passed-listed = row-0 (a .given .splits) (a .proper .reads) (a .proper .typed)
+    passed-listed = row-0 (a .given .named) (a .given .given .splits) (a .proper .reads) (a .proper .typed)
 
     abbrev EndListed : Option Ending → Type 0
     EndListed none = Unit {0}
-    EndListed (some e) = Listed (e .told) (place-in (from-text source) ts (e .spot))
+    EndListed (some e) = Listed (e .told) (place-in (text-in n source) ts (e .spot))
 
     end-listed : (m : Outcome) → run p (l .allowance) (l .output) ≡ m → EndListed (ending (l .allowance) m)
     unfolding ending
     end-listed (value v s) x = passed-listed
-    end-listed (stop w i s) x = rows-50-to-57 (a .given .splits) (a .proper .reads) (a .proper .typed) x
+    end-listed (stop w i s) x = rows-50-to-58 (a .given .named) (a .given .given .splits) (a .proper .reads) (a .proper .typed) x
     end-listed stuck x = tt
 
-  pub ran-listed : {r : RunReport ℕ} {bs : List ℕ} → Ran (from-text source) l r bs → Listed (r .told) (r .place)
+  pub ran-listed : {r : RunReport ℕ} {bs : List ℕ} → Ran (text-in n source) l r bs → Listed (r .told) (r .place)
   ran-listed (run-short h) = row-40 h
   ran-listed (run-large e h) = row-41 h
   ran-listed (run-refused e h a) = refused-listed a
   ran-listed (run-ended {p = p} e h a x) = subst (EndListed a) x (end-listed a (run p (l .allowance) (l .output)) refl)
 
   -- and of check, which is lent table memory alone and runs nothing
-  pub checked-listed : {r : CheckReport ℕ} → Checked (from-text source) (l .table) r → Listed (r .told) (r .place)
+  pub checked-listed : {r : CheckReport ℕ} → Checked (text-in n source) (l .table) r → Listed (r .told) (r .place)
   checked-listed (check-short h) = row-40 (inl h)
   checked-listed (check-refused h a) = refused-listed a
   checked-listed (check-passed h a) = passed-listed a
 
   -- and of write, which is lent table memory and output
-  pub wrote-listed : {r : WriteReport ℕ} {bs : List ℕ} → Wrote (from-text source) (l .table) (l .output) r bs → Listed (r .told) (r .place)
+  pub wrote-listed : {r : WriteReport ℕ} {bs : List ℕ} → Wrote (text-in n source) (l .table) (l .output) r bs → Listed (r .told) (r .place)
   wrote-listed (write-short h) = row-40 (inl h)
   wrote-listed (write-refused h a) = refused-listed a
-  wrote-listed (write-long h a k) = row-44 (a .given .splits) (a .proper .reads) (a .proper .typed) k
+  wrote-listed (write-long h a k) =
+      row-44 (a .given .named) (a .given .given .splits) (a .proper .reads) (a .proper .typed) k
   wrote-listed (write-passed h a k) = passed-listed a
 
 abbrev Stops : Told → Type 0

@@ -1,4 +1,5 @@
--- The paper's fifteen examples marked P: one table, and one statement over the whole of it, by computation.
+-- Examples in either edition, by computation: a table, and one statement over the whole of it. Here the paper's fifteen marked
+-- P, in edition 1.
 use mathlib.Core.Bool.{Bool, true, _&&_}
 use mathlib.Core.List.{List, [], _∷_}
 use mathlib.Core.Option.{Option, none, some}
@@ -18,17 +19,20 @@ use Rattle.language.specs.Decimals.{digits-from, behind-point, float-of}
 use Rattle.language.specs.Trees.{Ty, refs, size, nearest, own}
 use Rattle.language.specs.State.{count, held, store, keep, then, choose, when-some, alike, only}
 use Rattle.language.specs.Meaning.{charge, begin, in-range, fit, is-zero, same-int, create, apply-unary, quotient, apply-binary, settles, emit}
-use Rattle.language.specs.Meaning.{put, literal-value, enter, arguments, invoke, passes, step, eval, functions, run, value-number, type-number}
+use Rattle.language.specs.Meaning.{put, literal-value, enter, arguments, invoke, passes, towards, with-bounds, due, turns}
+use Rattle.language.specs.Meaning.{step, eval, functions, run, value-number, type-number}
 use Rattle.language.specs.Faults.{unsuited}
 use Rattle.language.specs.Numbers.{short-memory, number}
-use Rattle.language.specs.Answers.{from-text, Ending, ending, RunReport, Lent, refusal, after-run, Ran, run-refused, run-ended}
+use Rattle.language.specs.Answers.{Ending, ending, RunReport, Lent, refusal, after-run, Ran, run-refused, run-ended}
 use Rattle.language.proofs.Executable.Parses as Parses
 use Rattle.language.proofs.Executable.Parser as Parser
 use Rattle.language.proofs.Executable.Checks as Types
 use Rattle.language.proofs.Executable.Operators.{arithmetic, unop, binop, if-yes, both}
 use Rattle.language.proofs.Executable.Checker.{check, check-from, check-def, take-params, infer, literal-type, unbound, same-types, join}
-use Rattle.language.proofs.Answers.Verdict.{verdict}
-use Rattle.language.proofs.Answers.Origins.{text-lawful, Fate, fails, Comes, fate, fate-comes}
+use Rattle.language.proofs.Executable.Checker.{bounds, bounds-two, bounds-three}
+use Rattle.language.specs.Edition.{edition, text-in}
+use Rattle.language.proofs.Answers.Editions.{text-in-lawful}
+use Rattle.language.proofs.Answers.Origins.{Fate, fails, Comes, fate, fate-comes}
 use Rattle.language.proofs.Answers.Origins as Origins
 use Rattle.language.proofs.Answers.Endings.{some-ending}
 use Rattle.language.proofs.Meaning.NeverStuck.{and-left, and-right}
@@ -39,7 +43,7 @@ record Answer : Type 0 where
   report : RunReport ℕ
   printed : List ℕ
 
-module _ (allowance output : ℕ) where
+module _ (n allowance output : ℕ) where
   abbrev lent : Lent
   lent = record { table = TABLE; work = WORK; output = output; allowance = allowance }
 
@@ -47,16 +51,16 @@ module _ (allowance output : ℕ) where
     -- where there is no end anything is said
     unfoldable at-end : List Token → Ty → Option Ending → Answer
     at-end ts t none = record { report = refusal short-memory 0; printed = [] }
-    at-end ts t (some e) = record { report = after-run (from-text s) ts t e; printed = e .printed }
+    at-end ts t (some e) = record { report = after-run (text-in n s) ts t e; printed = e .printed }
 
     unfoldable answered : Fate ℕ → Answer
     answered (fails r x) = record { report = refusal r x; printed = [] }
     answered (Origins.passes ts p t) = at-end ts t (ending allowance (run p allowance output))
 
     abbrev Right : Answer → Type 0
-    Right a = Ran (from-text s) lent (a .report) (a .printed)
+    Right a = Ran (text-in n s) lent (a .report) (a .printed)
 
-    answered-right : allowance ≤ ALLOWANCE → (f : Fate ℕ) → Comes (from-text s) f → Right (answered f)
+    answered-right : allowance ≤ ALLOWANCE → (f : Fate ℕ) → Comes (text-in n s) f → Right (answered f)
     unfolding answered at-end
     answered-right fair (fails r x) a = run-refused record { table = omega arith; work = omega arith } fair a
     answered-right fair (Origins.passes ts p t) a =
@@ -86,20 +90,25 @@ figures r = record {
 }
 
 pub record Example : Type 0 where
+  pub edition : ℕ
   pub source : String
   pub allowance : ℕ
   pub output : ℕ
   pub report : Figures
   pub printed : List ℕ
 
-abbrev pub example : String → ℕ → ℕ → ℕ → ℕ → ℤ → ℕ → List ℕ → Example
-example s allowance n i t v u bs = record {
+abbrev pub example-in : ℕ → String → ℕ → ℕ → ℕ → ℕ → ℤ → ℕ → List ℕ → Example
+example-in edition s allowance n i t v u bs = record {
+  edition = edition;
   source = s;
   allowance = allowance;
   output = 10;
   report = record { number = n; place = i; type = t; value = v; units = u; printed = length bs };
   printed = bs;
 }
+
+abbrev pub example : String → ℕ → ℕ → ℕ → ℕ → ℤ → ℕ → List ℕ → Example
+example = example-in 1
 
 -- source, allowance; number, place, type, value, units; bytes printed
 abbrev pub examples : List Example
@@ -126,7 +135,8 @@ examples =
 -- this is what run answers
 abbrev pub Answered : Example → Type 0
 Answered e =
-    (r : RunReport ℕ) × (figures r ≡ e .report) × Ran (from-text (spell (e .source))) (lent (e .allowance) (e .output)) r (e .printed)
+    (r : RunReport ℕ) × (figures r ≡ e .report)
+    × Ran (text-in (e .edition) (spell (e .source))) (lent (e .edition) (e .allowance) (e .output)) r (e .printed)
 
 abbrev pub All : List Example → Type 0
 All [] = Unit {0}
@@ -138,17 +148,18 @@ pub record Said : Type 0 where
   pub printed : List ℕ
 
 unfoldable worked : Example → Answer
-worked e = answered (e .allowance) (e .output) (spell (e .source)) (fate (text-lawful (spell (e .source))))
+worked e =
+    answered (e .edition) (e .allowance) (e .output) (spell (e .source)) (fate (text-in-lawful (e .edition) (spell (e .source))))
 
 unfoldable pub worked-out : List Example → List Said
-unfolding worked answered at-end ending fate text-lawful decLe decLt ℕ-discrete Parser.parse Parser.step
+unfolding worked answered at-end ending fate text-in-lawful edition decLe decLt ℕ-discrete Parser.parse Parser.step
     Parses.then Parses.test Parses.look Parses.need kind-at value-at spelling-at place-at entry same spelled check
-    check-from check-def take-params infer literal-type unbound same-types join unop binop if-yes both nearest size
-    refs Types.after Types.told Types.need type-number unsuited run eval begin charge functions step then choose
-    settles alike quotient arithmetic apply-binary apply-unary only
-    when-some literal-value in-range fit create held store keep count put emit
-    enter arguments invoke passes is-zero same-int own value-number float-of digits-from behind-point Ieee.add Ieee.sub Ieee.mul Ieee.div
-    Ieee.lt Ieee.ofInt Ieee.toBits
+    check-from check-def take-params infer literal-type unbound same-types join bounds bounds-two bounds-three unop
+    binop if-yes both nearest size refs Types.after Types.told Types.need type-number unsuited run eval begin charge
+    functions step then choose settles alike quotient arithmetic apply-binary apply-unary only when-some literal-value
+    in-range fit create held store keep count put emit enter arguments invoke passes towards with-bounds due turns
+    is-zero same-int own value-number float-of digits-from behind-point Ieee.add Ieee.sub Ieee.mul Ieee.div Ieee.lt
+    Ieee.ofInt Ieee.toBits
 worked-out [] = []
 worked-out (e ∷ es) = record { report = figures (worked e .report); printed = worked e .printed } ∷ worked-out es
 
@@ -167,11 +178,12 @@ first e = cc
 later : {x y : Said} {xs ys : List Said} → (x ∷ xs) ≡ (y ∷ ys) → xs ≡ ys
 later e = cc
 
-worked-right : (e : Example) → e .allowance ≤ ALLOWANCE → Right (e .allowance) (e .output) (spell (e .source)) (worked e)
+worked-right : (e : Example) → e .allowance ≤ ALLOWANCE
+    → Right (e .edition) (e .allowance) (e .output) (spell (e .source)) (worked e)
 unfolding worked
 worked-right e low =
-    let law = text-lawful (spell (e .source)) in
-    answered-right (e .allowance) (e .output) (spell (e .source)) low (fate law) (fate-comes law)
+    let law = text-in-lawful (e .edition) (spell (e .source)) in
+    answered-right (e .edition) (e .allowance) (e .output) (spell (e .source)) low (fate law) (fate-comes law)
 
 -- where the two are the same, the table is right
 pub by-computation : (es : List Example) → worked-out es ≡ written-down es → fair es ≡ true → All es
@@ -180,7 +192,7 @@ by-computation [] h f = tt
 by-computation (e ∷ es) h f =
     let low = leb-true (e .allowance) ALLOWANCE (and-left (leb (e .allowance) ALLOWANCE) (fair es) f) in
     let same-bytes = ap (λ (x : Said). x .printed) (first h) in
-    let ran : List ℕ → Type 0 = λ bs. Ran (from-text (spell (e .source))) (lent (e .allowance) (e .output)) (worked e .report) bs in (
+    let ran : List ℕ → Type 0 = λ bs. Right (e .edition) (e .allowance) (e .output) (spell (e .source)) record { report = worked e .report; printed = bs } in (
       (worked e .report, ap (λ (x : Said). x .report) (first h), subst ran same-bytes (worked-right e low)),
       by-computation es (later h) (and-right (leb (e .allowance) ALLOWANCE) (fair es) f),
     )

@@ -11,7 +11,7 @@ use Rattle.language.proofs.Answers.Examples.{Example, example, All, wor
 -- with an output of this length
 abbrev in-room : ℕ → Example → Example
 in-room n e =
-    record { source = e .source; allowance = e .allowance; output = n; report = e .report; printed = e .printed }
+    record { edition = e .edition; source = e .source; allowance = e .allowance; output = n; report = e .report; printed = e .printed }
 
 -- numbers and their operators: S015, S032 to S034, S039, S059
 abbrev pub arithmetic : List Example

@@ -34,7 +34,7 @@ pub data Ends {P : Type 0} (o : Origin P) (ts : List Token) (p : Program) (t : T
       → Ends o ts p t allowance room r
   -- or with one of the listed stops, at a token of the sheet
   with-stop : {w : Stop} {i : ℕ} {s : State} → run p allowance room ≡ stop w i s → i < length ts → r .told ≡ stopped w → r .place ≡ o .at ts i
-      → 50 ≤ stop-number w → stop-number w ≤ 57 → Ends o ts p t allowance room r
+      → 50 ≤ stop-number w → stop-number w ≤ 58 → Ends o ts p t allowance room r
 
 -- What is so of a sheet for which check gave the report c.
 pub record Sound {P : Type 0} (o : Origin P) (c : CheckReport P) : Type 0 where
@@ -65,8 +65,9 @@ stop-first Stop.cell-freed = omega arith
 stop-first Stop.cells-full = omega arith
 stop-first Stop.not-a-byte = omega arith
 stop-first Stop.output-full = omega arith
+stop-first Stop.zero-step = omega arith
 
-stop-last : (w : Stop) → stop-number w ≤ 57
+stop-last : (w : Stop) → stop-number w ≤ 58
 stop-last Stop.no-unit = omega arith
 stop-last Stop.too-deep = omega arith
 stop-last Stop.out-of-range = omega arith
@@ -75,6 +76,7 @@ stop-last Stop.cell-freed = omega arith
 stop-last Stop.cells-full = omega arith
 stop-last Stop.not-a-byte = omega arith
 stop-last Stop.output-full = omega arith
+stop-last Stop.zero-step = omega arith
 
 module _ {P : Type 0} {o : Origin P} (law : Lawful o) {ts : List Token} {p : Program} {t : Ty} (a : Passes o ts p t) where
   -- a program that passed is run to the end of its meaning

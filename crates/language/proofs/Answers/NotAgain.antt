@@ -11,7 +11,7 @@ use Rattle.language.specs.Trees.{Program, program-nodes}
 use Rattle.language.specs.Grammar.{Reading}
 use Rattle.language.specs.Faults as Faults
 use Rattle.language.specs.State as State
-use Rattle.language.specs.Numbers.{Refusal, short-memory, large-allowance, long-source, text, no-reading, types, long-text}
+use Rattle.language.specs.Numbers.{Refusal, short-memory, large-allowance, no-edition, long-source, text, no-reading, types, long-text}
 use Rattle.language.specs.Numbers.{Told, passed, refused, stopped, number, flaw-number, reason-number, stop-number}
 use Rattle.language.specs.Answers.{Origin}
 use Rattle.language.proofs.Grammar.FewNodes.{never-too-large}
@@ -41,6 +41,7 @@ reason-not Faults.Reason.wrong-operand = omega arith
 reason-not Faults.Reason.wrong-operands = omega arith
 reason-not Faults.Reason.not-unit = omega arith
 reason-not Faults.Reason.not-bool = omega arith
+reason-not Faults.Reason.not-int = omega arith
 reason-not Faults.Reason.branches-differ = omega arith
 reason-not Faults.Reason.wrong-body = omega arith
 reason-not Faults.Reason.too-many-refs = omega arith
@@ -54,12 +55,14 @@ stop-not State.Stop.cell-freed = omega arith
 stop-not State.Stop.cells-full = omega arith
 stop-not State.Stop.not-a-byte = omega arith
 stop-not State.Stop.output-full = omega arith
+stop-not State.Stop.zero-step = omega arith
 
 -- no answer tells it
 pub not-again : (a : Told) → number a ≡ GONE → ⊥
 not-again passed e = omega arith
 not-again (refused short-memory) e = omega arith
 not-again (refused large-allowance) e = omega arith
+not-again (refused no-edition) e = omega arith
 not-again (refused long-source) e = omega arith
 not-again (refused (text f)) e = omega (arith, flaw-not f)
 not-again (refused no-reading) e = omega arith

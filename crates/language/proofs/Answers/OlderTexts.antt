@@ -2,56 +2,36 @@
 -- Before numbers in hex and binary (R06.6), and before numbers with a point (R08.8).
 use mathlib.Core.List.{List}
 use mathlib.Core.Path.{_≡_, refl, subst}
-use Prim.Native.Nat.{ℕ, _≤_, _<_}
+use Prim.Native.Nat.{ℕ}
 use native.Mathlib.Omega.{arith}
 use lib.ListN.{length}
-use Rattle.language.specs.Sizes.{SOURCE}
 use Rattle.language.specs.Tokens.{Vocabulary, EDITION-1, Token}
 use Rattle.language.specs.Text as Text
 use Rattle.language.specs.Trees.{Ty, Program}
 use Rattle.language.specs.Grammar.{Reading}
 use Rattle.language.specs.Meaning.{type-number}
-use Rattle.language.specs.Numbers.{Refusal, long-source, text, passed, refused}
+use Rattle.language.specs.Numbers.{Refusal, passed, refused}
 use Rattle.language.specs.Answers.{Origin, Spot, nowhere, at, place-in, from-text, Passes, CheckReport, Checked, check-short}
 use Rattle.language.specs.Answers.{check-refused, check-passed, RunReport, Lent, Ending, Ran, run-short, run-large, run-refused, run-ended}
 use Rattle.language.proofs.Grammar.NumberThenName.{number-then-name}
 use Rattle.language.proofs.Text.Marks.{laws-1}
 use Rattle.language.proofs.Text.Tables.{every}
 use Rattle.language.proofs.Text.DecimalBefore.{DECIMAL, laws-then, splits-as-before}
-use Rattle.language.proofs.Text.PointBefore.{without, pointless, splits-with-points}
+use Rattle.language.proofs.Text.PointBefore.{without, splits-with-points}
+use Rattle.language.proofs.Text.Points.{pointless}
 
--- ---- a text by a vocabulary
-
-module _ (voc : Vocabulary) where
-  pub data DeniesBy (source : List ℕ) : Refusal → ℕ → Type 0 where
-    too-long : SOURCE < length source → DeniesBy source long-source 0
-    flawed : {f : Text.Flaw} {p : ℕ} → length source ≤ SOURCE → Text.Flawed voc source f p → DeniesBy source (text f) p
-
-  pub record GivesBy (source : List ℕ) (ts : List Token) : Type 0 where
-    pub short : length source ≤ SOURCE
-    pub splits : Text.Splits voc source ts
-
-  -- places are told as now
-  abbrev pub from-text-by : List ℕ → Origin ℕ
-  from-text-by source = record {
-    gives = GivesBy source;
-    denies = DeniesBy source;
-    nowhere = from-text source .nowhere;
-    at = from-text source .at;
-  }
+-- ---- what carries over
 
 -- a text that has a reading splits now as by the vocabulary
 pub record Carries (voc : Vocabulary) (source : List ℕ) : Type 0 where
   pub splits : {ts : List Token} {p : Program} → Reading ts p → Text.Splits voc source ts → Text.Splits EDITION-1 source ts
 
--- ---- what passed
-
 module _ {voc : Vocabulary} {source : List ℕ} (carries : Carries voc source) where
   abbrev before : Origin ℕ
-  before = from-text-by voc source
+  before = from-text voc source
 
   -- it passes, with the same tokens, the same reading and the same type
-  pub passes-as-before : {ts : List Token} {p : Program} {t : Ty} → Passes before ts p t → Passes (from-text source) ts p t
+  pub passes-as-before : {ts : List Token} {p : Program} {t : Ty} → Passes before ts p t → Passes (from-text EDITION-1 source) ts p t
   passes-as-before x = record {
     given = record { short = x .given .short; splits = carries .splits (x .proper .reads) (x .given .splits) };
     proper = x .proper;
@@ -59,12 +39,12 @@ module _ {voc : Vocabulary} {source : List ℕ} (carries : Carries voc source) w
 
   -- so what check told of it, it tells
   pub check-as-before : {table : ℕ} {r : CheckReport ℕ} → Checked before table r → r .told ≡ passed
-      → Checked (from-text source) table r
+      → Checked (from-text EDITION-1 source) table r
   check-as-before (check-short h) e = absurd (let z : _≡_ {A = ℕ} 0 1 = cc in omega arith)
   check-as-before (check-refused h x) e = absurd (let z : _≡_ {A = ℕ} 0 1 = cc in omega arith)
   check-as-before (check-passed h x) e = check-passed h (passes-as-before x)
 
-  same-place : (ts : List Token) (s : Spot) → place-in (from-text source) ts s ≡ place-in before ts s
+  same-place : (ts : List Token) (s : Spot) → place-in (from-text EDITION-1 source) ts s ≡ place-in before ts s
   same-place ts nowhere = refl
   same-place ts (at i) = refl
 
@@ -80,13 +60,13 @@ module _ {voc : Vocabulary} {source : List ℕ} (carries : Carries voc source) w
 
   -- and so for run, whether it came to a value or stopped
   pub run-as-before : {l : Lent} {r : RunReport ℕ} {printed : List ℕ} → Ran before l r printed
-      → ((q : Refusal) → r .told ≡ refused q → ⊥) → Ran (from-text source) l r printed
+      → ((q : Refusal) → r .told ≡ refused q → ⊥) → Ran (from-text EDITION-1 source) l r printed
   unfolding told-at
   run-as-before (run-short h) n = absurd (n _ refl)
   run-as-before (run-large h a) n = absurd (n _ refl)
   run-as-before (run-refused h a x) n = absurd (n _ refl)
   run-as-before {l} (run-ended {ts = ts} {t = t} {e = e} h a x z) n =
-      subst (λ y. Ran (from-text source) l (told-at y t e) (e .printed)) (same-place ts (e .spot)) (run-ended h a (passes-as-before x) z)
+      subst (λ y. Ran (from-text EDITION-1 source) l (told-at y t e) (e .printed)) (same-place ts (e .spot)) (run-ended h a (passes-as-before x) z)
 
 -- ---- the older vocabularies
 

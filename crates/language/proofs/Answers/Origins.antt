@@ -9,17 +9,17 @@ use native.Mathlib.Decide.{decLe}
 use native.Mathlib.Omega.{arith}
 use lib.ListN.{length}
 use Rattle.language.specs.Sizes.{SOURCE, TOKENS, LARGEST}
-use Rattle.language.specs.Tokens.{Token, value-at}
+use Rattle.language.specs.Tokens.{Vocabulary, Token, value-at}
 use Rattle.language.specs.Trees.{Ty, Program}
 use Rattle.language.specs.Numbers.{Refusal, text, no-reading, long-text}
 use Rattle.language.specs.Answers.{Origin, place-in, TextDenies, too-long, flawed, TextGives, from-text}
 use Rattle.language.specs.Answers.{Passes, Refused, by-origin, by-tokens, keeps, unread, faulty}
-use Rattle.language.proofs.Text.Marks.{laws-1}
+use Rattle.language.proofs.Text.Marks.{Laws}
 use Rattle.language.proofs.Text.OneSplit.{one-split, one-flaw}
 use Rattle.language.proofs.Text.OneSplit as OneSplit
 use Rattle.language.proofs.Text.SmallNumbers.{split-small}
-use Rattle.language.proofs.Text.Edition as Scanner
-use Rattle.language.proofs.Text.Edition.{scan, scanned}
+use Rattle.language.proofs.Text.Scanner as Scanner
+use Rattle.language.proofs.Text.Scanner.{scan, scanned}
 use Rattle.language.proofs.Answers.Verdict.{Verdict, denied, proper, verdict, Says, verdict-says, proper-is, denied-is}
 
 -- ---- the laws
@@ -41,46 +41,46 @@ pub record Lawful {P : Type 0} (o : Origin P) : Type 0 where
 
 -- ---- a text obeys them
 
-module _ (source : List ℕ) where
-  pub text-one-denial : (r q : Refusal) (x y : ℕ) → TextDenies source r x → TextDenies source q y → (r ≡ q) × (x ≡ y)
+module _ {voc : Vocabulary} (laws : Laws voc) (source : List ℕ) where
+  pub text-one-denial : (r q : Refusal) (x y : ℕ) → TextDenies voc source r x → TextDenies voc source q y → (r ≡ q) × (x ≡ y)
   text-one-denial r q x y (too-long h) (too-long k) = (refl, refl)
   text-one-denial r q x y (too-long h) (flawed k b) = absurd (omega arith)
   text-one-denial r q x y (flawed h a) (too-long k) = absurd (omega arith)
-  text-one-denial r q x y (flawed h a) (flawed k b) = let e = one-flaw laws-1 a b in (ap text (e .0), e .1)
+  text-one-denial r q x y (flawed h a) (flawed k b) = let e = one-flaw laws a b in (ap text (e .0), e .1)
 
-  pub text-never-both : (ts : List Token) (r : Refusal) (x : ℕ) → TextGives source ts → TextDenies source r x → ⊥
+  pub text-never-both : (ts : List Token) (r : Refusal) (x : ℕ) → TextGives voc source ts → TextDenies voc source r x → ⊥
   text-never-both ts r x g (too-long h) = omega (arith, g .short)
-  text-never-both ts r x g (flawed h a) = OneSplit.not-both laws-1 (g .splits) a
+  text-never-both ts r x g (flawed h a) = OneSplit.not-both laws (g .splits) a
 
-  unfoldable text-some : ((ts : List Token) × TextGives source ts) ⊎ ((r : Refusal) × (x : ℕ) × TextDenies source r x)
+  unfoldable text-some : ((ts : List Token) × TextGives voc source ts) ⊎ ((r : Refusal) × (x : ℕ) × TextDenies voc source r x)
   unfolding scan decLe
   text-some = by-length (decLe (length source) SOURCE)
     where
-      by-scan : length source ≤ SOURCE → (r : Scanner.Result) → Scanner.Says source r
-          → ((ts : List Token) × TextGives source ts) ⊎ ((r : Refusal) × (x : ℕ) × TextDenies source r x)
-      by-scan h (Scanner.split ts) a = inl (ts, record { short = h; splits = a })
-      by-scan h (Scanner.flawed f p) a = inr (text f, p, flawed h a)
+      by-scan : length source ≤ SOURCE → (r : Scanner.Result) → Scanner.Says voc source r
+          → ((ts : List Token) × TextGives voc source ts) ⊎ ((r : Refusal) × (x : ℕ) × TextDenies voc source r x)
+      by-scan h (Scanner.Result.split ts) a = inl (ts, record { short = h; splits = a })
+      by-scan h (Scanner.Result.flawed f p) a = inr (text f, p, flawed h a)
 
-      by-length : Dec (length source ≤ SOURCE) → ((ts : List Token) × TextGives source ts) ⊎ ((r : Refusal) × (x : ℕ) × TextDenies source r x)
-      by-length (yes h) = by-scan h (scan source) (scanned source)
+      by-length : Dec (length source ≤ SOURCE) → ((ts : List Token) × TextGives voc source ts) ⊎ ((r : Refusal) × (x : ℕ) × TextDenies voc source r x)
+      by-length (yes h) = by-scan h (scan voc source) (scanned laws source)
       by-length (no h) = inr (_, 0, too-long (omega (arith, h)))
 
-  pub text-not-memory : (r : Refusal) (x : ℕ) → TextDenies source r x → keeps r ≡ false
+  pub text-not-memory : (r : Refusal) (x : ℕ) → TextDenies voc source r x → keeps r ≡ false
   text-not-memory r x (too-long h) = refl
   text-not-memory r x (flawed h a) = refl
 
-  pub text-not-reading : (r : Refusal) (x : ℕ) → TextDenies source r x → r ≡ no-reading → ⊥
+  pub text-not-reading : (r : Refusal) (x : ℕ) → TextDenies voc source r x → r ≡ no-reading → ⊥
   text-not-reading r x (too-long h) e = let z : _≡_ {A = ℕ} 0 1 = cc in omega arith
   text-not-reading r x (flawed h a) e = let z : _≡_ {A = ℕ} 0 1 = cc in omega arith
 
-  pub text-not-written : (r : Refusal) (x : ℕ) → TextDenies source r x → r ≡ long-text → ⊥
+  pub text-not-written : (r : Refusal) (x : ℕ) → TextDenies voc source r x → r ≡ long-text → ⊥
   text-not-written r x (too-long h) e = let z : _≡_ {A = ℕ} 0 1 = cc in omega arith
   text-not-written r x (flawed h a) e = let z : _≡_ {A = ℕ} 0 1 = cc in omega arith
 
-  unfoldable pub text-lawful : Lawful (from-text source)
+  unfoldable pub text-lawful : Lawful (from-text voc source)
   unfolding text-some
   text-lawful = record {
-    one-list = λ ts us a b. one-split laws-1 (a .splits) (b .splits);
+    one-list = λ ts us a b. one-split laws (a .splits) (b .splits);
     one-denial = text-one-denial;
     never-both = text-never-both;
     some = text-some;

@@ -8,18 +8,19 @@ use mathlib.Core.Path.{_≡_, refl, sym, ap, subst}
 use Prim.Native.Nat.{ℕ}
 use native.Mathlib.Omega.{arith}
 use lib.ListN.{length}
-use Rattle.language.specs.Tokens.{Token}
+use Rattle.language.specs.Tokens.{Vocabulary, Token}
 use Rattle.language.specs.Trees.{Ty, Program}
 use Rattle.language.specs.State.{Outcome, value, stop, stuck}
 use Rattle.language.specs.Meaning.{type-number}
-use Rattle.language.specs.Numbers.{Refusal, short-memory, large-allowance, long-source, text}
+use Rattle.language.specs.Numbers.{Refusal, short-memory, large-allowance, no-edition, long-source, text}
 use Rattle.language.specs.Numbers.{no-reading, types, long-text, Told, passed, refused, stopped}
 use Rattle.language.specs.Answers as Answers
-use Rattle.language.specs.Answers.{Spot, nowhere, at, place-in, TextDenies, TextGives, from-text, unread, faulty, keeps, Refused, by-origin}
-use Rattle.language.specs.Answers.{by-tokens, Passes, Ending, ending, after-run, CheckReport, check-report, Checked, check-short}
+use Rattle.language.specs.Answers.{at, place-in, TextDenies, TextGives, unread, faulty, keeps, Refused, by-origin}
+use Rattle.language.specs.Answers.{by-tokens, Passes, Ending, ending, CheckReport, check-report, Checked, check-short}
 use Rattle.language.specs.Answers.{check-refused, check-passed, Check, RunReport, Lent, Ran, run-short, run-large, run-refused, run-ended, Run}
+use Rattle.language.specs.Edition.{unknown, known, text-in, pair-in}
 use Rattle.language.specs.Pairs.{joined, Place, place-of, front, PairDenies, too-long, flawed, from-pair}
-use Rattle.language.proofs.Text.Marks.{laws-1}
+use Rattle.language.proofs.Text.Marks.{Laws}
 use Rattle.language.proofs.Text.OneSplit.{one-flaw}
 use Rattle.language.proofs.Text.OneSplit as OneSplit
 use Rattle.language.proofs.Answers.Origins.{Lawful, text-lawful}
@@ -31,6 +32,7 @@ abbrev pub placed : Told → Bool
 placed passed = false
 placed (refused short-memory) = false
 placed (refused large-allowance) = false
+placed (refused no-edition) = false
 placed (refused long-source) = false
 placed (refused (text f)) = true
 placed (refused no-reading) = true
@@ -58,47 +60,48 @@ module _ (first second : List ℕ) where
 
 -- ---- the laws
 
-module _ (first second : List ℕ) where
-  one-denial : (r q : Refusal) (x y : Place) → PairDenies first second r x → PairDenies first second q y → (r ≡ q) × (x ≡ y)
+denied : {voc : Vocabulary} (first second : List ℕ) {r : Refusal} {p : ℕ} → TextDenies voc (joined first second) r p
+    → PairDenies voc first second r (moved first second (refused r) p)
+denied first second (Answers.too-long h) = too-long h
+denied first second (Answers.flawed h a) = flawed h a
+
+module _ {voc : Vocabulary} (laws : Laws voc) (first second : List ℕ) where
+  one-denial : (r q : Refusal) (x y : Place) → PairDenies voc first second r x → PairDenies voc first second q y → (r ≡ q) × (x ≡ y)
   one-denial r q x y (too-long h) (too-long k) = (refl, refl)
   one-denial r q x y (too-long h) (flawed k b) = absurd (omega arith)
   one-denial r q x y (flawed h a) (too-long k) = absurd (omega arith)
-  one-denial r q x y (flawed h a) (flawed k b) = let e = one-flaw laws-1 a b in (ap text (e .0), ap (place-of first second) (e .1))
+  one-denial r q x y (flawed h a) (flawed k b) = let e = one-flaw laws a b in (ap text (e .0), ap (place-of first second) (e .1))
 
-  never-both : (ts : List Token) (r : Refusal) (x : Place) → TextGives (joined first second) ts → PairDenies first second r x → ⊥
+  never-both : (ts : List Token) (r : Refusal) (x : Place) → TextGives voc (joined first second) ts → PairDenies voc first second r x → ⊥
   never-both ts r x g (too-long h) = omega (arith, g .short)
-  never-both ts r x g (flawed h a) = OneSplit.not-both laws-1 (g .splits) a
+  never-both ts r x g (flawed h a) = OneSplit.not-both laws (g .splits) a
 
-  denied : {r : Refusal} {p : ℕ} → TextDenies (joined first second) r p → PairDenies first second r (moved first second (refused r) p)
-  denied (Answers.too-long h) = too-long h
-  denied (Answers.flawed h a) = flawed h a
-
-  not-memory : (r : Refusal) (x : Place) → PairDenies first second r x → keeps r ≡ false
+  not-memory : (r : Refusal) (x : Place) → PairDenies voc first second r x → keeps r ≡ false
   not-memory r x (too-long h) = refl
   not-memory r x (flawed h a) = refl
 
-  not-reading : (r : Refusal) (x : Place) → PairDenies first second r x → r ≡ no-reading → ⊥
+  not-reading : (r : Refusal) (x : Place) → PairDenies voc first second r x → r ≡ no-reading → ⊥
   not-reading r x (too-long h) e = let z : _≡_ {A = ℕ} 0 1 = cc in omega arith
   not-reading r x (flawed h a) e = let z : _≡_ {A = ℕ} 0 1 = cc in omega arith
 
-  not-written : (r : Refusal) (x : Place) → PairDenies first second r x → r ≡ long-text → ⊥
+  not-written : (r : Refusal) (x : Place) → PairDenies voc first second r x → r ≡ long-text → ⊥
   not-written r x (too-long h) e = let z : _≡_ {A = ℕ} 0 1 = cc in omega arith
   not-written r x (flawed h a) e = let z : _≡_ {A = ℕ} 0 1 = cc in omega arith
 
-  some-of : ((ts : List Token) × TextGives (joined first second) ts) ⊎ ((r : Refusal) × (p : ℕ) × TextDenies (joined first second) r p)
-      → ((ts : List Token) × TextGives (joined first second) ts) ⊎ ((r : Refusal) × (x : Place) × PairDenies first second r x)
+  some-of : ((ts : List Token) × TextGives voc (joined first second) ts) ⊎ ((r : Refusal) × (p : ℕ) × TextDenies voc (joined first second) r p)
+      → ((ts : List Token) × TextGives voc (joined first second) ts) ⊎ ((r : Refusal) × (x : Place) × PairDenies voc first second r x)
   some-of (inl g) = inl g
-  some-of (inr (r, p, d)) = inr (r, _, denied d)
+  some-of (inr (r, p, d)) = inr (r, _, denied first second d)
 
   -- so of everything lent with two sheets there is exactly one answer (`Answers/OneAnswer`)
-  pub pair-lawful : Lawful (from-pair first second)
+  pub pair-lawful : Lawful (from-pair voc first second)
   pair-lawful = record {
-    one-list = text-lawful (joined first second) .one-list;
+    one-list = text-lawful laws (joined first second) .one-list;
     one-denial = one-denial;
     never-both = never-both;
-    some = some-of (text-lawful (joined first second) .some);
-    few = text-lawful (joined first second) .few;
-    small = text-lawful (joined first second) .small;
+    some = some-of (text-lawful laws (joined first second) .some);
+    few = text-lawful laws (joined first second) .few;
+    small = text-lawful laws (joined first second) .small;
     not-memory = not-memory;
     not-reading = λ x a. not-reading no-reading x a refl;
     not-written = λ x a. not-written long-text x a refl;
@@ -106,19 +109,28 @@ module _ (first second : List ℕ) where
 
 -- ---- as the joined text
 
-module _ (first second : List ℕ) where
-  passes-joined : {ts : List Token} {p : Program} {t : Ty} → Passes (from-text (joined first second)) ts p t → Passes (from-pair first second) ts p t
-  passes-joined x = record { given = x .given; proper = x .proper }
+-- in whatever edition
+module _ (n : ℕ) (first second : List ℕ) where
+  given-joined : {ts : List Token} → text-in n (joined first second) .gives ts → pair-in n first second .gives ts
+  given-joined g = record { words = g .words; named = g .named; given = g .given }
 
-  refused-joined : {r : Refusal} {p : ℕ} → Refused (from-text (joined first second)) r p
-      → Refused (from-pair first second) r (moved first second (refused r) p)
-  refused-joined (by-origin d) = by-origin (denied first second d)
-  refused-joined (by-tokens g (unread w)) = by-tokens g (unread w)
-  refused-joined (by-tokens g (faulty a f)) = by-tokens g (faulty a f)
+  denied-joined : {r : Refusal} {p : ℕ} → text-in n (joined first second) .denies r p
+      → pair-in n first second .denies r (moved first second (refused r) p)
+  denied-joined (unknown e) = unknown e
+  denied-joined (known e d) = known e (denied first second d)
+
+  passes-joined : {ts : List Token} {p : Program} {t : Ty} → Passes (text-in n (joined first second)) ts p t → Passes (pair-in n first second) ts p t
+  passes-joined x = record { given = given-joined (x .given); proper = x .proper }
+
+  refused-joined : {r : Refusal} {p : ℕ} → Refused (text-in n (joined first second)) r p
+      → Refused (pair-in n first second) r (moved first second (refused r) p)
+  refused-joined (by-origin d) = by-origin (denied-joined d)
+  refused-joined (by-tokens g (unread w)) = by-tokens (given-joined g) (unread w)
+  refused-joined (by-tokens g (faulty a f)) = by-tokens (given-joined g) (faulty a f)
 
   -- what check answers
-  pub check-joined : {table : ℕ} {r : CheckReport ℕ} → Checked (from-text (joined first second)) table r
-      → Checked (from-pair first second) table (check-moved first second r)
+  pub check-joined : {table : ℕ} {r : CheckReport ℕ} → Checked (text-in n (joined first second)) table r
+      → Checked (pair-in n first second) table (check-moved first second r)
   check-joined (check-short h) = check-short h
   check-joined (check-refused h x) = check-refused h (refused-joined x)
   check-joined (check-passed h x) = check-passed h (passes-joined x)
@@ -126,7 +138,7 @@ module _ (first second : List ℕ) where
   abbrev Moved : List Token → Option Ending → Type 0
   Moved ts none = Unit {0}
   Moved ts (some e) =
-      moved first second (e .told) (place-in (from-text (joined first second)) ts (e .spot)) ≡ place-in (from-pair first second) ts (e .spot)
+      moved first second (e .told) (place-in (text-in n (joined first second)) ts (e .spot)) ≡ place-in (pair-in n first second) ts (e .spot)
 
   end-moved : (ts : List Token) (allowance : ℕ) (m : Outcome) → Moved ts (ending allowance m)
   unfolding ending
@@ -145,24 +157,24 @@ module _ (first second : List ℕ) where
   }
 
   -- and what run answers
-  pub run-joined : {l : Lent} {r : RunReport ℕ} {printed : List ℕ} → Ran (from-text (joined first second)) l r printed
-      → Ran (from-pair first second) l (run-moved first second r) printed
+  pub run-joined : {l : Lent} {r : RunReport ℕ} {printed : List ℕ} → Ran (text-in n (joined first second)) l r printed
+      → Ran (pair-in n first second) l (run-moved first second r) printed
   unfolding told-at
   run-joined (run-short h) = run-short h
   run-joined (run-large h a) = run-large h a
   run-joined (run-refused h a x) = run-refused h a (refused-joined x)
   run-joined {l} (run-ended {ts = ts} {t = t} {e = e} h a x z) =
       let place = subst (Moved ts) z (end-moved ts (l .allowance) _) in
-      subst (λ y. Ran (from-pair first second) l (told-at y t e) (e .printed)) (sym place) (run-ended h a (passes-joined x) z)
+      subst (λ y. Ran (pair-in n first second) l (told-at y t e) (e .printed)) (sym place) (run-ended h a (passes-joined x) z)
 
   -- so the contracts of the two, memory and output included
-  pub pair-check : {table table′ : List ℕ} {r : CheckReport ℕ} → Check (from-text (joined first second)) table r table′
-      → Check (from-pair first second) table (check-moved first second r) table′
+  pub pair-check : {table table′ : List ℕ} {r : CheckReport ℕ} → Check (text-in n (joined first second)) table r table′
+      → Check (pair-in n first second) table (check-moved first second r) table′
   pair-check x = record { answer = check-joined (x .answer); table-left = x .table-left }
 
   pub pair-run : {table work output table′ work′ output′ : List ℕ} {allowance : ℕ} {r : RunReport ℕ}
-      → Run (from-text (joined first second)) table work output allowance r table′ work′ output′
-      → Run (from-pair first second) table work output allowance (run-moved first second r) table′ work′ output′
+      → Run (text-in n (joined first second)) table work output allowance r table′ work′ output′
+      → Run (pair-in n first second) table work output allowance (run-moved first second r) table′ work′ output′
   pair-run x = record {
     printed = x .printed;
     answer = run-joined (x .answer);

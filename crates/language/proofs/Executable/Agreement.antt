@@ -5,11 +5,11 @@ use Prim.Native.Nat.{ℕ, zero, suc, _+_, _*_, _≤_}
 use native.Mathlib.Omega.{arith}
 use lib.ListN.{length}
 use Rattle.language.specs.Tokens.{Token, NAME, NUMBER, FLOAT-NUMBER, DEF, LET, IN, WHILE, IF, THEN, ELSE}
-use Rattle.language.specs.Tokens.{REF, BECOMES, IS, SEMI, COMMA, COLON, LPAR, RPAR, LBRACE, RBRACE}
+use Rattle.language.specs.Tokens.{REF, BECOMES, IS, SEMI, COMMA, COLON, LPAR, RPAR, LBRACE, RBRACE, FOR, BY}
 use Rattle.language.specs.Decimals.{float-of}
-use Rattle.language.specs.Trees.{ref, whole, decimal, name, literal, binary, block, call, bind}
-use Rattle.language.specs.Grammar.{Tier, Level, or, and, sum, prod, cmp, un, chain, Sym, tier, program, def, formals, params, type, seq}
-use Rattle.language.specs.Grammar.{tail, bound, item, assign, atom, actuals, args, part, operators, comparisons, prefixes, constants, basics}
+use Rattle.language.specs.Trees.{ref, whole, decimal, name, literal, binary, block, call, bind, counted}
+use Rattle.language.specs.Grammar.{Tier, Level, or, and, sum, prod, cmp, un, chain, Sym, tier, program, def, formals, params, type, seq, tail, bound}
+use Rattle.language.specs.Grammar.{item, assign, atom, actuals, args, part, operators, comparisons, prefixes, constants, basics, counting, bounds, ranges}
 use Rattle.language.proofs.Executable.Parser.{Goal, read, rest, refs, clause, until, closed, result, entire, step, parse}
 use Rattle.language.proofs.Executable.ParserSound.{right, clause-seq}
 use Rattle.language.proofs.Executable.Locality.{From, same-value, same-spelling, from-down, from-failed, from-got, from-then}
@@ -48,6 +48,8 @@ sym-level seq = 10
 sym-level tail = 10
 sym-level bound = 1
 sym-level item = 10
+sym-level counting = 1
+sym-level bounds = 8
 sym-level assign = 8
 sym-level (tier t) = tier-level t
 sym-level atom = 1
@@ -148,6 +150,32 @@ module _ (ts us : List Token) where
         (ih (read seq) tt (m + 1) (omega (arith, inside ts m (p .1) (omega arith))) (omega arith)) λ x j n z.
         ap (λ (s : List ℕ). bind i s e x) (same-spelling z (i + 1) (omega arith))))))
     step-agrees (read item) u i l f = ih clause tt i l (omega arith)
+    step-agrees (read counting) u i l f =
+        from-need _ i _ _ (is-same i FOR) λ a.
+        from-down (omega arith) (from-need _ (i + 1) _ _ (is-same (i + 1) NAME) λ b.
+        from-down (omega arith) (from-need _ (i + 2) _ _ (is-same (i + 2) IN) λ c.
+        from-down {j = i + 3} (omega arith) (from-then _ _ _
+        (ih (read bounds) tt (i + 3) (omega (arith, there ts (i + 2) IN c (omega arith))) (omega arith)) λ s m d.
+        let p = right ts h (read bounds) (i + 3) d in
+        let g = grows ts p in
+        from-need _ m _ _ (is-same m LBRACE) λ e.
+        from-down (omega arith) (from-past _ _ _
+        (ih (until RBRACE) tt (m + 1) (there ts m LBRACE e (omega arith)) (omega arith)) λ x j n z.
+        ap (λ (w : List ℕ). counted i w (s .through) (s .parts) (block m x)) (same-spelling z (i + 1) (omega arith))))))
+    step-agrees (read bounds) u i l f =
+        from-then _ _ _ (ih (read (tier (chain or))) tt i l (omega arith)) λ e m d.
+        let p = right ts h (read (tier (chain or))) i d in
+        from-look _ _ _ _ _ (means-same m ranges)
+        (λ b a.
+        from-down {j = m + 1} (omega arith) (from-then _ _ _
+        (ih (read (tier (chain or))) tt (m + 1) (omega (arith, in-table ts m ranges tt a)) (omega (arith, grows ts p))) λ y k t.
+        let q = right ts h (read (tier (chain or))) (m + 1) t in
+        from-test _ _ _ _ _ (is-same k BY)
+        (λ c.
+        from-down (omega arith) (from-made _ _ _
+        (ih (read (tier (chain or))) tt (k + 1) (there ts k BY c (omega arith)) (omega (arith, grows ts p, grows ts q))) λ x j n z. refl))
+        λ _. from-got (omega arith) λ z. refl))
+        λ _. from-failed (omega arith)
     step-agrees (read assign) u i l f =
         from-then _ _ _ (ih (read (tier (chain or))) tt i l (omega arith)) λ e m d.
         let p = right ts h (read (tier (chain or))) i d in
@@ -240,7 +268,9 @@ module _ (ts us : List Token) where
         let x = grows ts (p .0) in
         from-down (omega arith) (from-past _ _ _
         (ih (until RBRACE) tt (m + 1) (omega (arith, inside ts m (p .1) (omega arith))) (omega arith)) λ x j n z. refl)))
-        λ _. ih (read assign) tt i l (omega arith)
+        λ _.
+        from-test _ _ _ _ _ (is-same i FOR) (λ a. ih (read counting) tt i l (omega arith)) λ _.
+        ih (read assign) tt i l (omega arith)
     step-agrees (until k) u i l f =
         from-then _ _ _ (ih (read seq) tt i l (omega arith)) λ e m d.
         from-need _ m _ _ (is-same m k) λ a.

@@ -6,12 +6,12 @@ use Prim.Native.Nat.{ℕ}
 use native.Mathlib.Decide.{decLt, decLe, ℕ-discrete}
 use lib.ListN.{length}
 use Rattle.language.specs.Sizes.{REFS, PARAMETERS, FUNCTIONS}
-use Rattle.language.specs.Trees.{Ty, int, bool, unit, float, refs, Ty-discrete, Literal, whole, truth, trivial}
-use Rattle.language.specs.Trees.{decimal, Exp, name, literal, unary, binary, follow, group, block, call, bind, branch}
-use Rattle.language.specs.Trees.{loop, Exps, last, more, Param, Def, Program, Scope, empty, push, nearest, size}
-use Rattle.language.specs.Types.{Sig, with-def, given}
+use Rattle.language.specs.Trees.{Ty, int, bool, unit, float, refs, Ty-discrete, Literal, whole, truth, trivial, decimal}
+use Rattle.language.specs.Trees.{Exp, name, literal, unary, binary, follow, group, block, call, bind, branch, loop}
+use Rattle.language.specs.Trees.{Exps, last, more, Param, Def, Program, Scope, empty, push, nearest, size, counted}
+use Rattle.language.specs.Types.{Sig, with-def, given, Bounds, two, three}
 use Rattle.language.specs.Faults.{Reason, no-binding, no-function, wrong-number, wrong-argument, wrong-operands, not-unit, not-bool, branches-differ}
-use Rattle.language.specs.Faults.{wrong-body, too-many-refs, too-many-functions, too-many-parameters, function-twice, parameter-twice, unsuited}
+use Rattle.language.specs.Faults.{wrong-body, too-many-refs, too-many-functions, too-many-parameters, function-twice, parameter-twice, unsuited, not-int}
 use Rattle.language.proofs.Executable.Checks.{Res, ok, bad, after, told, need}
 use Rattle.language.proofs.Executable.Operators.{unop, binop}
 
@@ -41,6 +41,36 @@ literal-type (whole n) = int
 literal-type (truth b) = bool
 literal-type trivial = unit
 literal-type (decimal x) = float
+
+-- two ints, or three
+abbrev pub IsBounds : List Ty → Type 0
+IsBounds [] = ⊥
+IsBounds (t ∷ []) = ⊥
+IsBounds (t ∷ u ∷ []) = (t ≡ int) × (u ≡ int)
+IsBounds (t ∷ u ∷ v ∷ []) = (t ≡ int) × (u ≡ int) × (v ≡ int)
+IsBounds (t ∷ u ∷ v ∷ w ∷ ts) = ⊥
+
+pub is-bounds : {ts : List Ty} → Bounds ts → IsBounds ts
+is-bounds two = (refl, refl)
+is-bounds three = (refl, refl, refl)
+
+unfoldable pub bounds-two : {t u : Ty} → Dec (t ≡ int) → Dec (u ≡ int) → Dec (Bounds (t ∷ u ∷ []))
+bounds-two (yes p) (yes q) = yes (rw (p, q) two)
+bounds-two (yes p) (no q) = no λ b. q (is-bounds b .1)
+bounds-two (no p) d = no λ b. p (is-bounds b .0)
+
+unfoldable pub bounds-three : {t u v : Ty} → Dec (t ≡ int) → Dec (u ≡ int) → Dec (v ≡ int) → Dec (Bounds (t ∷ u ∷ v ∷ []))
+bounds-three (yes p) (yes q) (yes r) = yes (rw (p, q, r) three)
+bounds-three (yes p) (yes q) (no r) = no λ b. r (is-bounds b .2)
+bounds-three (yes p) (no q) d = no λ b. q (is-bounds b .1)
+bounds-three (no p) c d = no λ b. p (is-bounds b .0)
+
+unfoldable pub bounds : (ts : List Ty) → Dec (Bounds ts)
+bounds [] = no λ b. is-bounds b
+bounds (t ∷ []) = no λ b. is-bounds b
+bounds (t ∷ u ∷ []) = bounds-two (Ty-discrete t int) (Ty-discrete u int)
+bounds (t ∷ u ∷ v ∷ []) = bounds-three (Ty-discrete t int) (Ty-discrete u int) (Ty-discrete v int)
+bounds (t ∷ u ∷ v ∷ w ∷ ts) = no λ b. is-bounds b
 
 -- what a name that must be new is bound to
 unfoldable pub unbound : {A B : Type 0} → Option A → Reason → ℕ → (Unit {0} → Res B) → Res B
@@ -75,6 +105,12 @@ module _ (Δ : Scope Sig) where
         after (infer c Γ) λ b.
         after (infer e Γ) λ t.
         need (Ty-discrete b bool) not-bool i λ _.
+        need (Ty-discrete t unit) not-unit i λ _.
+        ok unit
+    infer (counted i x b es e) Γ =
+        after (infers es Γ) λ ts.
+        after (infer e (push x int Γ)) λ t.
+        need (bounds ts) not-int i λ _.
         need (Ty-discrete t unit) not-unit i λ _.
         ok unit
 

@@ -6,13 +6,13 @@ use Prim.Native.Nat.{ℕ}
 use native.Mathlib.Omega.{arith}
 use Rattle.language.specs.Trees.{Ty, Exp, Exps, Param, Def, Program, Scope}
 use Rattle.language.specs.Types.{Sig, Typed, t-name, t-whole, t-truth, t-trivial, t-decimal, t-unary, t-binary, t-follow}
-use Rattle.language.specs.Types.{t-group, t-block, t-call, t-bind, t-branch, t-loop, TypedAll, t-last, t-more, Takes}
-use Rattle.language.specs.Types.{takes-none, takes-more, with-def, Fine, fine, TypedFrom, typed-main, typed-def, HasType}
-use Rattle.language.specs.Faults.{Reason, Fault, f-name, f-unary, f-unary-here, f-left, f-right, f-binary-here, f-first, f-second}
-use Rattle.language.specs.Faults.{f-follow-here, f-group, f-block, f-arguments, f-no-function, f-wrong-number, f-wrong-argument}
-use Rattle.language.specs.Faults.{f-bound, f-inside, f-if, f-then, f-else, f-if-here, f-branches-here, f-while, f-do, f-while-here}
-use Rattle.language.specs.Faults.{f-do-here, FaultAll, f-one, f-rest, FaultTakes, p-ninth, p-twice, p-refs, p-later, FaultDef, d-many}
-use Rattle.language.specs.Faults.{d-twice, d-params, d-refs, d-body, d-type, FaultFrom, fault-main, fault-here, fault-later, HasFault}
+use Rattle.language.specs.Types.{t-group, t-block, t-call, t-bind, t-branch, t-loop, TypedAll, t-last, t-more, Takes, takes-none}
+use Rattle.language.specs.Types.{takes-more, with-def, Fine, fine, TypedFrom, typed-main, typed-def, HasType, t-counted}
+use Rattle.language.specs.Faults.{Reason, Fault, f-name, f-unary, f-unary-here, f-left, f-right, f-binary-here, f-first, f-second, f-follow-here}
+use Rattle.language.specs.Faults.{f-group, f-block, f-arguments, f-no-function, f-wrong-number, f-wrong-argument, f-bound, f-inside, f-if}
+use Rattle.language.specs.Faults.{f-then, f-else, f-if-here, f-branches-here, f-while, f-do, f-while-here, f-do-here, FaultAll, f-one, f-rest}
+use Rattle.language.specs.Faults.{FaultTakes, p-ninth, p-twice, p-refs, p-later, FaultDef, d-many, d-twice, d-params, d-refs, d-body, d-type}
+use Rattle.language.specs.Faults.{FaultFrom, fault-main, fault-here, fault-later, HasFault, f-bounds, f-pass, f-bounds-here, f-pass-here}
 use Rattle.language.proofs.Executable.Checks.{Res, ok, bad, after-ok, after-bad, told-some, told-none, need-yes, need-no}
 use Rattle.language.proofs.Executable.Operators.{decided, undecided, unop-is, binop-is}
 use Rattle.language.proofs.Executable.Checker.{literal-type, unbound, infer, infers, take-params, check-def, check-from, check}
@@ -48,6 +48,8 @@ module _ (Δ : Scope Sig) where
         after-ok _ (infer-complete p) (after-ok _ (infer-complete q) (after-ok _ (infer-complete s) (need-yes _ _ _ _ refl (need-yes _ _ _ _ refl refl))))
     infer-complete (t-loop p q) =
         after-ok _ (infer-complete p) (after-ok _ (infer-complete q) (need-yes _ _ _ _ refl (need-yes _ _ _ _ refl refl)))
+    infer-complete (t-counted p b q) =
+        after-ok _ (infers-complete p) (after-ok _ (infer-complete q) (need-yes _ _ _ _ b (need-yes _ _ _ _ refl refl)))
 
     pub infers-complete : {Γ : Scope Ty} {es : Exps} {ts : List Ty} → TypedAll Δ Γ es ts → infers Δ es Γ ≡ ok ts
     infers-complete t-last = refl
@@ -57,6 +59,11 @@ module _ (Δ : Scope Sig) where
     unfolding infer
 
     pub fault-complete : {Γ : Scope Ty} {e : Exp} {r : Reason} {n : ℕ} → Fault Δ Γ e r n → infer Δ e Γ ≡ bad r n
+    fault-complete (f-bounds p) = after-bad _ (faults-complete p)
+    fault-complete (f-pass p q) = after-ok _ (infers-complete p) (after-bad _ (fault-complete q))
+    fault-complete (f-bounds-here p q h) = after-ok _ (infers-complete p) (after-ok _ (infer-complete q) (need-no _ _ _ _ h))
+    fault-complete (f-pass-here p q h k) =
+        after-ok _ (infers-complete p) (after-ok _ (infer-complete q) (need-yes _ _ _ _ h (need-no _ _ _ _ k)))
     fault-complete (f-name h) = told-none _ _ h
     fault-complete (f-unary p) = after-bad _ (fault-complete p)
     fault-complete (f-unary-here {i = i} {o = o} {t = t} p h k) =

@@ -4,16 +4,16 @@ use mathlib.Core.List.{List, [], _∷_}
 use mathlib.Core.Option.{Option, none, some}
 use Prim.Native.Nat.{ℕ}
 use native.Mathlib.Omega.{arith}
-use Rattle.language.specs.Trees.{Ty, Unary, Binary, Literal, whole, truth, trivial, decimal, Exp, name, literal, unary, binary, follow}
-use Rattle.language.specs.Trees.{group, block, call, bind, branch, loop, Exps, last, more, Param, Def, Program, Scope, empty, push, nearest}
+use Rattle.language.specs.Trees.{Ty, Unary, Binary, Literal, whole, truth, trivial, decimal, Exp, name, literal, unary, binary, follow, group}
+use Rattle.language.specs.Trees.{block, call, bind, branch, loop, Exps, last, more, Param, Def, Program, Scope, empty, push, nearest, counted, int}
 use Rattle.language.specs.Types.{Sig, UnopType, BinopType, Typed, t-name, t-whole, t-truth, t-trivial, t-decimal, t-unary, t-binary}
-use Rattle.language.specs.Types.{t-follow, t-group, t-block, t-call, t-bind, t-branch, t-loop, TypedAll, t-last, t-more, Takes}
-use Rattle.language.specs.Types.{takes-none, takes-more, with-def, Fine, fine, TypedFrom, typed-main, typed-def, given, HasType}
-use Rattle.language.specs.Faults.{Reason, Fault, f-name, f-unary, f-unary-here, f-left, f-right, f-binary-here, f-first, f-second}
-use Rattle.language.specs.Faults.{f-follow-here, f-group, f-block, f-arguments, f-no-function, f-wrong-number, f-wrong-argument}
-use Rattle.language.specs.Faults.{f-bound, f-inside, f-if, f-then, f-else, f-if-here, f-branches-here, f-while, f-do, f-while-here}
-use Rattle.language.specs.Faults.{f-do-here, FaultAll, f-one, f-rest, FaultTakes, p-ninth, p-twice, p-refs, p-later, FaultDef, d-many}
-use Rattle.language.specs.Faults.{d-twice, d-params, d-refs, d-body, d-type, FaultFrom, fault-main, fault-here, fault-later, HasFault}
+use Rattle.language.specs.Types.{t-follow, t-group, t-block, t-call, t-bind, t-branch, t-loop, TypedAll, t-last, t-more, Takes, takes-none}
+use Rattle.language.specs.Types.{takes-more, with-def, Fine, fine, TypedFrom, typed-main, typed-def, given, HasType, t-counted}
+use Rattle.language.specs.Faults.{Reason, Fault, f-name, f-unary, f-unary-here, f-left, f-right, f-binary-here, f-first, f-second, f-follow-here}
+use Rattle.language.specs.Faults.{f-group, f-block, f-arguments, f-no-function, f-wrong-number, f-wrong-argument, f-bound, f-inside, f-if}
+use Rattle.language.specs.Faults.{f-then, f-else, f-if-here, f-branches-here, f-while, f-do, f-while-here, f-do-here, FaultAll, f-one, f-rest}
+use Rattle.language.specs.Faults.{FaultTakes, p-ninth, p-twice, p-refs, p-later, FaultDef, d-many, d-twice, d-params, d-refs, d-body, d-type}
+use Rattle.language.specs.Faults.{FaultFrom, fault-main, fault-here, fault-later, HasFault, f-bounds, f-pass, f-bounds-here, f-pass-here}
 use Rattle.language.proofs.Executable.Checks.{Res, Says, says, faults, says-after, says-told, says-need, says-map}
 use Rattle.language.proofs.Executable.Operators.{unop, binop, Decides, decides-some, decides-none, unop-is, binop-is}
 use Rattle.language.proofs.Executable.Checker.{literal-type, unbound, infer, infers, take-params, check-def, check-from, check}
@@ -87,6 +87,12 @@ module _ (Δ : Scope Sig) where
         says-need _ _ _ _ (λ h. f-while-here p q h) λ h.
         says-need _ _ _ _ (λ k. f-do-here (subst (Typed Δ Γ c) h p) q k) λ k.
         says (t-loop (subst (Typed Δ Γ c) h p) (subst (Typed Δ Γ e) k q))
+    infer-sound (counted i x b es e) Γ =
+        says-after _ (infers-sound es Γ) (λ r n p. f-bounds p) λ ts p.
+        says-after _ (infer-sound e (push x int Γ)) (λ r n q. f-pass p q) λ t q.
+        says-need _ _ _ _ (λ h. f-bounds-here p q h) λ h.
+        says-need _ _ _ _ (λ k. f-pass-here p q h k) λ k.
+        says (t-counted p h (subst (Typed Δ (push x int Γ) e) k q))
 
     pub infers-sound : (es : Exps) (Γ : Scope Ty) → Says (TypedAll Δ Γ es) (FaultAll Δ Γ es) (infers Δ es Γ)
     infers-sound last Γ = says t-last

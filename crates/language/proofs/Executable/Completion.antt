@@ -3,12 +3,14 @@ use mathlib.Core.List.{List}
 use Prim.Native.Nat.{ℕ, zero, suc, _≤_}
 use lib.ListN.{length}
 use Rattle.language.specs.Tokens.{Token}
-use Rattle.language.specs.Grammar.{cmp, un, chain, tier, program, def, formals, params, type, seq, tail, bound, item, assign, atom, actuals, args}
+use Rattle.language.specs.Grammar.{cmp, un, chain, tier, program, def, formals, params, type, seq}
+use Rattle.language.specs.Grammar.{tail, bound, item, assign, atom, actuals, args, counting, bounds}
 use Rattle.language.proofs.Executable.Parser.{Goal, read, rest, refs, clause, until, closed, result, entire, step, parse}
 use Rattle.language.proofs.Executable.Failing.{Fails, fails, Stop, Able, anew}
 use Rattle.language.proofs.Executable.FailingPrograms.{at-program, at-def, at-formals, at-params, at-type, at-refs, at-result, at-entire}
 use Rattle.language.proofs.Executable.FailingExpressions.{at-seq, at-tail, at-bound, at-item, at-clause}
 use Rattle.language.proofs.Executable.FailingExpressions.{at-assign, at-chain, at-cmp, at-un, at-rest, at-until}
+use Rattle.language.proofs.Executable.FailingLoops.{at-counting, at-bounds}
 use Rattle.language.proofs.Executable.FailingAtoms.{at-atom, at-actuals, at-args, at-closed}
 
 module _ (ts : List Token) where
@@ -25,6 +27,8 @@ module _ (ts : List Token) where
   step-able h ih (read tail) i l = at-tail ts h ih i l
   step-able h ih (read bound) i l = at-bound ts h ih i l
   step-able h ih (read item) i l = at-item ts h ih i l
+  step-able h ih (read counting) i l = at-counting ts h ih i l
+  step-able h ih (read bounds) i l = at-bounds ts h ih i l
   step-able h ih (read assign) i l = at-assign ts h ih i l
   step-able h ih (read (tier (chain v))) i l = at-chain ts h ih v i l
   step-able h ih (read (tier cmp)) i l = at-cmp ts h ih i l

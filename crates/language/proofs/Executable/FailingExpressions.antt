@@ -6,7 +6,7 @@ use lib.ListN.{length}
 use Rattle.language.specs.Tokens.{Token, NAME, NUMBER, LET, IN, WHILE, IF, THEN, ELSE, BECOMES, IS, SEMI, LBRACE, RBRACE}
 use Rattle.language.specs.Trees.{Exp, binary}
 use Rattle.language.specs.Grammar.{Level, or, sum, cmp, un, chain, tier, seq, tail, bound, item, assign, atom, part, operators, comparisons}
-use Rattle.language.specs.Grammar.{prefixes, seq-more, assign-one, assign-to, chain-one, chain-more, cmp-one, cmp-two, un-prefix, un-atom}
+use Rattle.language.specs.Grammar.{prefixes, seq-more, assign-one, assign-to, chain-one, chain-more, cmp-one, cmp-two, un-prefix, un-atom, counting}
 use Rattle.language.proofs.Grammar.Entries.{every}
 use Rattle.language.proofs.Grammar.FirstTokens.{grows}
 use Rattle.language.proofs.Grammar.Prefixes.{inside, in-table, operator-there, within, kept-at, kept-means, kept}
@@ -14,7 +14,7 @@ use Rattle.language.proofs.Executable.Parser.{read, rest, clause, until
 use Rattle.language.proofs.Executable.ParserSound.{right, at, clause-seq, clause-item}
 use Rattle.language.proofs.Executable.Locality.{there}
 use Rattle.language.proofs.Executable.Fresh as Fresh
-use Rattle.language.proofs.Executable.Fresh.{split, ended, to-let, clause-let, clause-assign, to-if}
+use Rattle.language.proofs.Executable.Fresh.{split, ended, to-let, clause-let, clause-for, clause-assign, to-if}
 use Rattle.language.proofs.Executable.Fresh.{to-while, close, fresh-until, fresh-is, fresh-let, fresh-fits}
 use Rattle.language.proofs.Executable.Failing.{Fails, fine, fails-same, fails-made, fails-past, fails-then}
 use Rattle.language.proofs.Executable.Failing.{fails-test, fails-look, fails-need, Stop, Able, stop, anew, last, more}
@@ -123,6 +123,8 @@ module _ (ts : List Token) (h : ℕ) (ih : Able ts h) where
       let o = s .after in
       last ts clause i s (omega arith) λ us j z q.
       to-while us (kept-at z i a (omega arith)) (ended (kept z (p .0) (omega arith)) (kept-at z m (p .1) (omega arith))) q)
+      λ _.
+      fails-test _ _ _ (λ _. fails-same (ih (read counting) i l) λ k s. last ts clause i s (omega arith) λ us j z p. clause-for us p)
       λ _.
       fails-same (ih (read assign) i l) λ k s. last ts clause i s (omega arith) λ us j z p. clause-assign us p
 

@@ -1,14 +1,17 @@
 -- A part for each of the parser's goals, made of a few tokens; and how parts go together, whatever they are read as.
+use mathlib.Core.Bool.{false}
 use mathlib.Core.Path.{_≡_, subst}
 use mathlib.Core.List.{List, [], _∷_, _++_}
 use Prim.Native.Nat.{ℕ, _+_}
 use native.Mathlib.Omega.{arith}
-use Rattle.language.specs.Tokens.{Token, At, entry, NAME, NUMBER, DEF, LET, IN, WHILE, IF, THEN, ELSE, INT, IS, COLON, LPAR, RPAR, LBRACE, RBRACE}
+use Rattle.language.specs.Tokens.{Token, At, entry, NAME, NUMBER, DEF, LET, IN, WHILE, IF, THEN}
+use Rattle.language.specs.Tokens.{ELSE, INT, IS, COLON, LPAR, RPAR, LBRACE, RBRACE, FOR, UPTO}
 use Rattle.language.specs.Trees.{Exp, int}
-use Rattle.language.specs.Grammar.{Tier, cmp, un, chain, or, and, sum, prod, Sym, tier, program, def, formals, params, type, seq, tail, bound}
-use Rattle.language.specs.Grammar.{item, assign, atom, actuals, args, Reads, program-seq, def-is, formals-none, formals-some, params-one}
-use Rattle.language.specs.Grammar.{type-basic, seq-tail, seq-item, tail-let, tail-if, let-in, item-if, item-while, item-assign, assign-one}
-use Rattle.language.specs.Grammar.{chain-one, cmp-one, un-atom, atom-number, atom-group, atom-block, actuals-none, actuals-some, args-one}
+use Rattle.language.specs.Grammar.{Tier, cmp, un, chain, or, and, sum, prod, Sym, tier, program, def, formals, params, type, seq, tail}
+use Rattle.language.specs.Grammar.{bound, item, assign, atom, actuals, args, Reads, program-seq, def-is, formals-none, formals-some}
+use Rattle.language.specs.Grammar.{params-one, type-basic, seq-tail, seq-item, tail-let, tail-if, let-in, item-if, item-while}
+use Rattle.language.specs.Grammar.{item-assign, assign-one, chain-one, cmp-one, un-atom, atom-number, atom-group, atom-block}
+use Rattle.language.specs.Grammar.{actuals-none, actuals-some, args-one, item-for, for-is, bounds-two, bounds-three, counting, bounds}
 use Rattle.language.proofs.Executable.Parser.{Goal, read, rest, refs, clause, until, closed, result, entire}
 use Rattle.language.proofs.Grammar.Prefixes.{Spans}
 
@@ -63,6 +66,8 @@ module _ (us : List Token) where
   Fit (read tail) i j = Clause i j
   Fit (read bound) i j = Spans us bound i j
   Fit (read item) i j = Clause i j
+  Fit (read counting) i j = Spans us counting i j
+  Fit (read bounds) i j = Spans us bounds i j
   Fit (read assign) i j = Spans us assign i j
   Fit (read (tier t)) i j = Spans us (tier t) i j
   Fit (read atom) i j = Spans us atom i j
@@ -102,6 +107,13 @@ module _ (us : List Token) where
 
   pub to-while : {i m j : ℕ} → At us i WHILE → Ended seq LBRACE (i + 1) m → Ended seq RBRACE m j → Clause i j
   to-while a (ended p b) (ended q c) = as-item (_, item-while a (p .1) b (q .1) c)
+
+  pub clause-for : {i j : ℕ} → Spans us counting i j → Clause i j
+  clause-for p = as-item (_, item-for (p .1))
+
+  pub to-for : {i m j : ℕ} → At us i FOR → At us (i + 1) NAME → At us (i + 2) IN → Ended bounds LBRACE (i + 3) m → Ended seq RBRACE m j
+      → Spans us counting i j
+  to-for a b c (ended p d) (ended q e) = (_, for-is a b c (p .1) d (q .1) e)
 
   pub to-group : {i j : ℕ} → At us i LPAR → Ended seq RPAR (i + 1) j → Spans us atom i j
   to-group a (ended p b) = (_, atom-group a (p .1) b)
@@ -156,6 +168,8 @@ fresh-of seq = NUMBER ∷ []
 fresh-of tail = NUMBER ∷ []
 fresh-of bound = LET ∷ NAME ∷ IS ∷ NUMBER ∷ IN ∷ NUMBER ∷ []
 fresh-of item = NUMBER ∷ []
+fresh-of counting = FOR ∷ NAME ∷ IN ∷ NUMBER ∷ UPTO ∷ NUMBER ∷ LBRACE ∷ NUMBER ∷ RBRACE ∷ []
+fresh-of bounds = NUMBER ∷ UPTO ∷ NUMBER ∷ []
 fresh-of assign = NUMBER ∷ []
 fresh-of (tier t) = NUMBER ∷ []
 fresh-of atom = NUMBER ∷ []
@@ -214,6 +228,36 @@ module _ (us : List Token) where
   pub fresh-colon : (i : ℕ) {j : ℕ} → At us i NAME → Stand us (i + 1) (COLON ∷ INT ∷ []) j → Spans us params i j
   fresh-colon i a s = (_, params-one a (head s) (a-type us (second i s) .1))
 
+  an-or : {i j : ℕ} → Stand us i (NUMBER ∷ []) j → Spans us (tier (chain or)) i j
+  an-or s = (_, by-tier us (chain or) (number us s .1))
+
+  -- what stands behind the start; behind the start and its mark; Bounds
+  pub fresh-end : (i : ℕ) {m j : ℕ} → Spans us (tier (chain or)) i m → Stand us m (UPTO ∷ NUMBER ∷ []) j → Spans us bounds i j
+  unfolding entry
+  fresh-end i {m} p s = (_, bounds-two {b = false} (p .1) (rw (head s)) (an-or (others s) .1))
+
+  a-bounds : {i j : ℕ} → Stand us i (NUMBER ∷ UPTO ∷ NUMBER ∷ []) j → Spans us bounds i j
+  a-bounds {i} s = let r = split (NUMBER ∷ []) (UPTO ∷ NUMBER ∷ []) s in fresh-end i (an-or (r .1)) (r .2)
+
+  -- what stands behind `for`, a name, `in` and Bounds, and so on back to `for`
+  pub fresh-for-body : (i : ℕ) {m j : ℕ} → At us i FOR → At us (i + 1) NAME → At us (i + 2) IN → Spans us bounds (i + 3) m
+      → Stand us m (LBRACE ∷ NUMBER ∷ RBRACE ∷ []) j → Spans us counting i j
+  fresh-for-body i a b c p s =
+      let r = split (LBRACE ∷ []) (NUMBER ∷ RBRACE ∷ []) s in to-for us a b c (close us p (r .1)) (fresh-until RBRACE (r .2))
+
+  pub fresh-for-bounds : (i : ℕ) {j : ℕ} → At us i FOR → At us (i + 1) NAME → At us (i + 2) IN
+      → Stand us (i + 3) (NUMBER ∷ UPTO ∷ NUMBER ∷ LBRACE ∷ NUMBER ∷ RBRACE ∷ []) j → Spans us counting i j
+  fresh-for-bounds i a b c s =
+      let r = split (NUMBER ∷ UPTO ∷ NUMBER ∷ []) (LBRACE ∷ NUMBER ∷ RBRACE ∷ []) s in fresh-for-body i a b c (a-bounds (r .1)) (r .2)
+
+  pub fresh-for-in : (i : ℕ) {j : ℕ} → At us i FOR → At us (i + 1) NAME
+      → Stand us (i + 2) (IN ∷ NUMBER ∷ UPTO ∷ NUMBER ∷ LBRACE ∷ NUMBER ∷ RBRACE ∷ []) j → Spans us counting i j
+  fresh-for-in i a b s = fresh-for-bounds i a b (head s) (third i s)
+
+  pub fresh-for : (i : ℕ) {j : ℕ} → At us i FOR
+      → Stand us (i + 1) (NAME ∷ IN ∷ NUMBER ∷ UPTO ∷ NUMBER ∷ LBRACE ∷ NUMBER ∷ RBRACE ∷ []) j → Spans us counting i j
+  fresh-for i a s = fresh-for-in i a (head s) (second i s)
+
   a-clause : {i j : ℕ} → Stand us i (NUMBER ∷ []) j → Clause us i j
   a-clause s = as-item (_, number-item us (number us s .1))
 
@@ -227,6 +271,8 @@ module _ (us : List Token) where
   fresh-sym tail s = a-clause s
   fresh-sym bound {i} s = fresh-let i (head s) (others s)
   fresh-sym item s = a-clause s
+  fresh-sym counting {i} s = fresh-for i (head s) (others s)
+  fresh-sym bounds s = a-bounds s
   fresh-sym assign s = (_, assign-one (by-tier us (chain or) (number us s .1)))
   fresh-sym (tier t) s = (_, by-tier us t (number us s .1))
   fresh-sym atom s = number us s

@@ -7,12 +7,13 @@ use Prim.Native.Nat.{ℕ, zero, suc, _+_, _*_}
 use lib.ListN.{length}
 use lib.Dec.{eqb}
 use Rattle.language.specs.Tokens.{Token, Entry, kind-at, value-at, spelling-at, entry, NAME, NUMBER, FLOAT-NUMBER, DEF, LET, IN, WHILE, IF, THEN}
-use Rattle.language.specs.Tokens.{ELSE, REF, BECOMES, IS, SEMI, COMMA, COLON, LPAR, RPAR, LBRACE, RBRACE}
+use Rattle.language.specs.Tokens.{ELSE, REF, BECOMES, IS, SEMI, COMMA, COLON, LPAR, RPAR, LBRACE, RBRACE, FOR, BY}
 use Rattle.language.specs.Decimals.{float-of}
 use Rattle.language.specs.Trees.{Ty, ref, whole, decimal, Binary, Exp, name, literal, unary, binary, follow, group, block, call, bind, branch}
-use Rattle.language.specs.Trees.{loop, Exps, last, more, Program}
+use Rattle.language.specs.Trees.{loop, Exps, last, more, Program, counted}
 use Rattle.language.specs.Grammar.{Level, or, sum, cmp, un, chain, Sym, Of, tier, program, def, formals, params, type, seq, tail, bound, item}
 use Rattle.language.specs.Grammar.{assign, atom, actuals, args, part, operators, comparisons, prefixes, constants, basics, param, define, before}
+use Rattle.language.specs.Grammar.{counting, bounds, ranges, two-parts, three-parts}
 use Rattle.language.proofs.Executable.Parses.{Result, failed, got, made, made-past, then, test, look, need}
 
 -- what a step can ask for
@@ -89,6 +90,20 @@ module _ (ts : List Token) where
       then (r (until IN) (i + 3)) λ e m.
       made (r (read seq) (m + 1)) (bind i (spelling-at ts (i + 1)) e)
   step r (read item) i = r clause i
+  step r (read counting) i =
+      need (is i FOR) i λ _.
+      need (is (i + 1) NAME) (i + 1) λ _.
+      need (is (i + 2) IN) (i + 2) λ _.
+      then (r (read bounds) (i + 3)) λ s m.
+      need (is m LBRACE) m λ _.
+      made-past (r (until RBRACE) (m + 1)) λ e. counted i (spelling-at ts (i + 1)) (s .through) (s .parts) (block m e)
+  step r (read bounds) i =
+      then (r (read (tier (chain or))) i) λ e m.
+      look (means m ranges) (λ b.
+      then (r (read (tier (chain or))) (m + 1)) λ f k.
+      test (is k BY) (λ _. made (r (read (tier (chain or))) (k + 1)) (three-parts b e f)) λ _.
+      got (two-parts b e f) k) λ _.
+      failed m
   step r (read assign) i =
       then (r (read (tier (chain or))) i) λ e m.
       test (is m BECOMES) (λ _. made (r (read (tier (chain or))) (m + 1)) (binary m Binary.assign e)) λ _.
@@ -127,6 +142,7 @@ module _ (ts : List Token) where
       test (is i WHILE) (λ _.
       then (r (until LBRACE) (i + 1)) λ c m.
       made-past (r (until RBRACE) (m + 1)) λ e. loop i c (block m e)) λ _.
+      test (is i FOR) (λ _. r (read counting) i) λ _.
       r (read assign) i
   step r (until k) i =
       then (r (read seq) i) λ e m.

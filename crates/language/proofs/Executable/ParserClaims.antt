@@ -7,8 +7,8 @@ use native.Mathlib.Omega.{arith}
 use borrow.Author.Tests.{eq-eqb}
 use Rattle.language.specs.Tokens.{Token, At, entry, kind-at, THEN, ELSE, IF, REF, SEMI, COLON, RPAR, LBRACE}
 use Rattle.language.specs.Trees.{Ty, Exp, branch, Exps}
-use Rattle.language.specs.Grammar.{cmp, un, Of, tier, Level, or, and, sum, prod, Sym, program, def, formals, params}
-use Rattle.language.specs.Grammar.{type, seq, tail, bound, item, assign, atom, actuals, args, chain, part, Reads}
+use Rattle.language.specs.Grammar.{cmp, un, Of, tier, Level, or, and, sum, prod, Sym, program, def, formals, params, type}
+use Rattle.language.specs.Grammar.{seq, tail, bound, item, assign, atom, actuals, args, chain, part, Reads, counting, bounds}
 use Rattle.language.proofs.Executable.Parses.{Result, got, then, test, look, need}
 use Rattle.language.proofs.Executable.Parser.{Goal, Answer, read, rest, refs, clause, until, closed, result, step, parse}
 use Rattle.language.proofs.Grammar.FirstTokens.{pull, depth, ends, no-operator, apart, grows}
@@ -24,6 +24,8 @@ rank seq = 14
 rank tail = 14
 rank bound = 1
 rank item = 14
+rank counting = 1
+rank bounds = 12
 rank assign = 12
 rank (tier (chain or)) = 11
 rank (tier (chain and)) = 9
@@ -78,6 +80,8 @@ module _ (ts : List Token) where
   Claim tail = FoundClause (ends tail)
   Claim bound = Found bound
   Claim item = FoundClause (ends item)
+  Claim counting = Found counting
+  Claim bounds = Found bounds
   Claim assign = Found assign
   Claim (tier (chain l)) = Comes l
   Claim (tier cmp) = Found (tier cmp)
@@ -112,6 +116,8 @@ module _ {ts : List Token} where
   plain {s = tail} {i} d c = λ stop f e. run ts (read tail) i f _ (omega (arith, grows ts d)) λ n z. c stop n (omega arith)
   plain {s = bound} d c = c
   plain {s = item} {i} d c = λ stop f e. run ts (read item) i f _ (omega (arith, grows ts d)) λ n z. c stop n (omega arith)
+  plain {s = counting} d c = c
+  plain {s = bounds} d c = c
   plain {s = assign} d c = c
   plain {s = tier (chain l)} {i} {j} {x} d c =
       λ stop f e. c (omega arith) 1 (got x j) (stop-rest ts l x j stop) f (omega (arith, rank-part l))

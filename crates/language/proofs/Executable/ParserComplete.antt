@@ -3,16 +3,17 @@ use mathlib.Core.Path.{refl, ap}
 use mathlib.Core.List.{List}
 use Prim.Native.Nat.{ℕ, _+_, _*_, _-_, _≤_}
 use native.Mathlib.Omega.{arith}
-use Rattle.language.specs.Tokens.{Token, At, entry, kind-at, IN, DEF, LET, WHILE, IF, BECOMES, COMMA, LPAR, RPAR, LBRACE, RBRACE}
+use Rattle.language.specs.Tokens.{Token, At, entry, kind-at, IN, DEF, LET, WHILE, IF, BECOMES, COMMA, LPAR, RPAR, LBRACE, RBRACE, FOR, BY}
 use Rattle.language.specs.Trees.{Exp, Def}
-use Rattle.language.specs.Grammar.{cmp, un, Of, tier, Sym, program, def, formals, params, type, seq, bound, assign, atom, actuals, args, chain}
-use Rattle.language.specs.Grammar.{Reads, program-seq, program-def, def-is, formals-none, formals-some, params-one, params-more, type-basic}
-use Rattle.language.specs.Grammar.{type-ref, seq-tail, seq-item, seq-more, tail-let, tail-if, let-in, item-if, item-while, item-assign, assign-one}
-use Rattle.language.specs.Grammar.{assign-to, chain-one, chain-more, cmp-one, cmp-two, un-prefix, un-atom, atom-name, atom-call, atom-number}
-use Rattle.language.specs.Grammar.{atom-float, atom-constant, atom-group, atom-block, actuals-none, actuals-some, args-one, args-more}
+use Rattle.language.specs.Grammar.{cmp, un, Of, tier, Sym, program, def, formals, params, type, seq, bound, assign, atom, actuals, args}
+use Rattle.language.specs.Grammar.{chain, Reads, program-seq, program-def, def-is, formals-none, formals-some, params-one, params-more}
+use Rattle.language.specs.Grammar.{type-basic, type-ref, seq-tail, seq-item, seq-more, tail-let, tail-if, let-in, item-if, item-while}
+use Rattle.language.specs.Grammar.{item-assign, assign-one, assign-to, chain-one, chain-more, cmp-one, cmp-two, un-prefix, un-atom}
+use Rattle.language.specs.Grammar.{atom-name, atom-call, atom-number, atom-float, atom-constant, atom-group, atom-block, actuals-none}
+use Rattle.language.specs.Grammar.{actuals-some, args-one, args-more, item-for, for-is, bounds-two, bounds-three, counting, bounds}
 use Rattle.language.proofs.Executable.Parses.{then, test, look, need}
 use Rattle.language.proofs.Executable.Parser.{read, rest, refs, clause, step}
-use Rattle.language.proofs.Grammar.FirstTokens.{pull, opens, ends-part, operator-pulls, comparison-pulls}
+use Rattle.language.proofs.Grammar.FirstTokens.{pull, opens, ends-part, operator-pulls, comparison-pulls, range-pulls}
 use Rattle.language.proofs.Grammar.FirstTokens.{no-comparison, no-prefix, apart, pull-most, grows, starts}
 use Rattle.language.proofs.Executable.ParserClaims.{rank-low, Found, Claim, run, plain, finds-until, finds-result, finds-closed, finds-seq, finds-if}
 
@@ -27,6 +28,9 @@ module _ (ts : List Token) where
 
   bound-let : {i j : ℕ} {e : Exp} → Reads ts bound i j e → At ts i LET
   bound-let (let-in a b c p d q) = a
+
+  counting-for : {i j : ℕ} {e : Exp} → Reads ts counting i j e → At ts i FOR
+  counting-for (for-is a b c p d q g) = a
 
   complete : {s : Sym} {i j : ℕ} {x : Of s} → Reads ts s i j x → Claim ts s i j x
   unfolding step then test look need pull opens entry
@@ -92,12 +96,33 @@ module _ (ts : List Token) where
       let x = finds-until LBRACE p p′ b refl n (omega (arith, grows ts q)) o in
       let y = finds-until RBRACE q q′ c refl n (omega (arith, grows ts p)) o in
       rw (a, x, y)
+  complete (item-for {i} {j} p) = given (complete p) λ p′. λ stop f e.
+      run ts clause i f _ (omega (arith, grows ts p)) λ n z.
+      rw (counting-for p, p′ (pull-most (kind-at ts j)) n (omega arith))
+  complete (for-is {i} {m} a b c p d q g) = given (complete p) λ p′. given (complete q) λ q′. λ stop f e.
+      run ts (read counting) i f _ (omega (arith, grows ts p, grows ts q)) λ n z.
+      let o : 1 ≤ n = omega (arith, grows ts p, grows ts q) in
+      let x = p′ (omega (arith, ap pull d)) n (omega (arith, grows ts q)) in
+      let y = finds-until RBRACE q q′ g refl n (omega (arith, grows ts p)) o in
+      rw (a, b, c, x, d, y)
+  complete (bounds-two {i} {m} {j} p h q) = given (complete p) λ p′. given (complete q) λ q′. λ stop f e.
+      run ts (read bounds) i f _ (omega (arith, grows ts p, grows ts q)) λ n z.
+      let x = plain p p′ (omega (arith, range-pulls (kind-at ts m) h)) n (omega (arith, grows ts q)) in
+      let y = plain q q′ (omega arith) n (omega (arith, grows ts p)) in
+      rw (x, h, y, apart pull (kind-at ts j) BY (omega arith))
+  complete (bounds-three {i} {m} {k} p h q b r) = given (complete p) λ p′. given (complete q) λ q′. given (complete r) λ r′. λ stop f e.
+      run ts (read bounds) i f _ (omega (arith, grows ts p, grows ts q, grows ts r)) λ n z.
+      let x = plain p p′ (omega (arith, range-pulls (kind-at ts m) h)) n (omega (arith, grows ts q, grows ts r)) in
+      let y = plain q q′ (omega (arith, ap pull b)) n (omega (arith, grows ts p, grows ts r)) in
+      let w = plain r r′ (omega arith) n (omega (arith, grows ts p, grows ts q)) in
+      rw (x, h, y, b, w)
   complete (item-assign {i} p) = given (complete p) λ p′. λ stop f e.
       run ts clause i f _ (omega (arith, grows ts p)) λ n z.
       rw (
         apart opens (kind-at ts i) LET (omega (arith, starts ts p)),
         apart opens (kind-at ts i) IF (omega (arith, starts ts p)),
         apart opens (kind-at ts i) WHILE (omega (arith, starts ts p)),
+        apart opens (kind-at ts i) FOR (omega (arith, starts ts p)),
         p′ stop n (omega arith),
       )
   complete (assign-one {i} {j} p) = given (complete p) λ p′. λ stop f e.

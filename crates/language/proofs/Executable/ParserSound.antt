@@ -7,11 +7,12 @@ use lib.ListN.{length}
 use borrow.Author.Tests.{eqb-true, eqb-false}
 use Rattle.language.specs.Tokens.{Token, At, kind-at, IN, IF, THEN, ELSE, SEMI, COLON, RPAR, LBRACE, RBRACE}
 use Rattle.language.specs.Trees.{ref, Exp, binary, branch, Program}
-use Rattle.language.specs.Grammar.{cmp, un, tier, or, sum, program, def, formals, params, type, seq, tail, bound, item, assign, atom, actuals}
-use Rattle.language.specs.Grammar.{args, chain, part, Reads, program-seq, program-def, def-is, formals-none, formals-some, params-one, params-more}
-use Rattle.language.specs.Grammar.{type-basic, type-ref, seq-tail, seq-item, seq-more, tail-let, tail-if, let-in, item-if, item-while, item-assign}
-use Rattle.language.specs.Grammar.{assign-one, assign-to, chain-one, cmp-one, cmp-two, un-prefix, un-atom, atom-name, atom-call, atom-number}
-use Rattle.language.specs.Grammar.{atom-float, atom-constant, atom-group, atom-block, actuals-none, actuals-some, args-one, args-more, Reading}
+use Rattle.language.specs.Grammar.{cmp, un, tier, or, sum, program, def, formals, params, type, seq, tail, bound, item, assign, atom}
+use Rattle.language.specs.Grammar.{actuals, args, chain, part, Reads, program-seq, program-def, def-is, formals-none, formals-some}
+use Rattle.language.specs.Grammar.{params-one, params-more, type-basic, type-ref, seq-tail, seq-item, seq-more, tail-let, tail-if, let-in}
+use Rattle.language.specs.Grammar.{item-if, item-while, item-assign, assign-one, assign-to, chain-one, cmp-one, cmp-two, un-prefix, un-atom}
+use Rattle.language.specs.Grammar.{atom-name, atom-call, atom-number, atom-float, atom-constant, atom-group, atom-block, actuals-none}
+use Rattle.language.specs.Grammar.{actuals-some, args-one, args-more, Reading, item-for, for-is, bounds-two, bounds-three, counting, bounds}
 use Rattle.language.proofs.Grammar.Association.{on-the-left}
 use Rattle.language.proofs.Executable.Parses.{Result, got, All, nothing, this, all-got, all-same, all-made}
 use Rattle.language.proofs.Executable.Parses.{all-made-past, all-then, all-test, all-look, all-need}
@@ -51,6 +52,8 @@ module _ (ts : List Token) where
   Right (read tail) i x j = Clause i x j
   Right (read bound) i x j = Reads ts bound i j x × Full j
   Right (read item) i x j = Clause i x j
+  Right (read counting) i x j = Reads ts counting i j x
+  Right (read bounds) i x j = Reads ts bounds i j x
   Right (read assign) i x j = Reads ts assign i j x
   Right (read atom) i x j = Reads ts atom i j x
   Right (read actuals) i x j = Reads ts actuals i j x
@@ -108,6 +111,21 @@ module _ (ts : List Token) where
         all-made _ (ok (read seq) (m + 1)) λ f j q.
         (let-in (at i _ a) (at (i + 1) _ b) (at (i + 2) _ c) (p .0) (p .1) (q .0), q .1)
     step-sound (read item) i = ok clause i
+    step-sound (read counting) i =
+        all-need _ _ _ λ a.
+        all-need _ _ _ λ b.
+        all-need _ _ _ λ c.
+        all-then _ (ok (read bounds) (i + 3)) λ s m p.
+        all-need _ _ _ λ d.
+        all-made-past _ (ok (until RBRACE) (m + 1)) λ e k q.
+        for-is (at i _ a) (at (i + 1) _ b) (at (i + 2) _ c) p (at m _ d) (q .0) (q .1)
+    step-sound (read bounds) i =
+        all-then _ (ok (read (tier (chain or))) i) λ e m p.
+        all-look _ _ _ (λ b h.
+        all-then _ (ok (read (tier (chain or))) (m + 1)) λ f k q.
+        all-test _ _ _ (λ a. all-made _ (ok (read (tier (chain or))) (k + 1)) λ g j s. bounds-three p h q (at k _ a) s) λ _.
+        this (bounds-two p h q)) λ _.
+        nothing
     step-sound (read assign) i =
         all-then _ (ok (read (tier (chain or))) i) λ e m p.
         all-test _ _ _ (λ h. all-made _ (ok (read (tier (chain or))) (m + 1)) λ f j q. assign-to p (at m _ h) q) λ _.
@@ -156,6 +174,7 @@ module _ (ts : List Token) where
         all-then _ (ok (until LBRACE) (i + 1)) λ c m p.
         all-made-past _ (ok (until RBRACE) (m + 1)) λ e k q.
         as-item (item-while (at i _ a) (p .0) (p .1) (q .0) (q .1))) λ _.
+        all-test _ _ _ (λ _. all-same (λ e j p. as-item (item-for p)) (ok (read counting) i)) λ _.
         all-same (λ e j p. as-item (item-assign p)) (ok (read assign) i)
     step-sound (until k) i =
         all-then _ (ok (read seq) i) λ e m p.

@@ -7,12 +7,12 @@ use mathlib.Core.Option.{none}
 use Prim.Native.Nat.{ℕ, zero, suc, _+_, _≤_}
 use native.Mathlib.Omega.{arith}
 use borrow.Author.Tests.{eq-eqb}
-use Rattle.language.specs.Tokens.{Token, At, Means, entry, kind-at, value-at, spelling-at, NAME, NUMBER, FLOAT-NUMBER}
-use Rattle.language.specs.Tokens.{LET, IN, WHILE, IF, THEN, ELSE, BECOMES, IS, SEMI, COMMA, LPAR, RPAR, LBRACE, RBRACE}
+use Rattle.language.specs.Tokens.{Token, At, Means, entry, kind-at, value-at, spelling-at, NAME, NUMBER, FLOAT-NUMBER, LET}
+use Rattle.language.specs.Tokens.{IN, WHILE, IF, THEN, ELSE, BECOMES, IS, SEMI, COMMA, LPAR, RPAR, LBRACE, RBRACE, FOR}
 use Rattle.language.specs.Decimals.{float-of}
 use Rattle.language.specs.Trees.{Literal, whole, decimal, Unary, Binary, Exp, name, literal, unary}
 use Rattle.language.specs.Trees.{binary, follow, group, block, call, bind, branch, loop, Exps, last, more}
-use Rattle.language.specs.Grammar.{or, un, chain, tier, seq, bound, assign, atom, actuals, args, prefixes, constants}
+use Rattle.language.specs.Grammar.{or, un, chain, tier, seq, bound, assign, atom, actuals, args, prefixes, constants, counting}
 use Rattle.language.proofs.Executable.Parses.{Result, failed, got, made, made-past, then, test, look, need}
 use Rattle.language.proofs.Executable.Parser.{read, clause, until, closed, is, step, parse}
 use Rattle.language.proofs.Executable.Settles.{Settles, other, settle₀, settle₁, settle₂, settle₃}
@@ -132,11 +132,16 @@ module _ {ts : List Token} where
     unfolding step test then
     while-block x y = settle₂ x y λ f p q. rw (a, p, q)
 
+  -- a For or none
+  pub clause-for : {i : ℕ} {r : Result Exp} → At ts i FOR → Settles ts (read counting) i r → Settles ts clause i r
+  unfolding step test
+  clause-for a x = settle₁ x λ f p. rw (a, p)
+
   -- an Assign or none
-  pub clause-assign : {i : ℕ} {r : Result Exp} → (At ts i LET → ⊥) → (At ts i IF → ⊥) → (At ts i WHILE → ⊥)
+  pub clause-assign : {i : ℕ} {r : Result Exp} → (At ts i LET → ⊥) → (At ts i IF → ⊥) → (At ts i WHILE → ⊥) → (At ts i FOR → ⊥)
       → Settles ts (read assign) i r → Settles ts clause i r
   unfolding step test
-  clause-assign {i} a b c x = settle₁ x λ f p. rw (other ts i LET a, other ts i IF b, other ts i WHILE c, p)
+  clause-assign {i} a b c d x = settle₁ x λ f p. rw (other ts i LET a, other ts i IF b, other ts i WHILE c, other ts i FOR d, p)
 
   -- ---- Assign
 

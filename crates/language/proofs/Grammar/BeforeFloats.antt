@@ -1,25 +1,26 @@
--- The grammar as it was before there were floats (R08.1): today's without the two productions that read a token of a float, the number
--- and the word. A reading leaves no token unread, so it read what is read today of lists without such tokens; and their trees have no
--- float number.
+-- The grammar as it was before there were floats (R08.1): today's without the productions that read a token of a float, the number and
+-- the word, or of a counted loop, which came later still. A reading leaves no token unread, so it read what is read today of lists without such tokens; and their trees have no
+-- float number and no counted loop.
 use mathlib.Core.Bool.{Bool, true, false}
 use mathlib.Core.List.{List}
 use Prim.Native.Nat.{ℕ}
 use lib.Dec.{T}
-use Rattle.language.specs.Tokens.{Token, At, FLOAT-NUMBER, FLOAT, kind-at}
+use Rattle.language.specs.Tokens.{Token, At, FLOAT-NUMBER, FLOAT, FOR, kind-at}
 use Rattle.language.specs.Trees.{Literal, whole, truth, trivial, decimal, Program}
-use Rattle.language.specs.Grammar.{Of, Sym, program, def, formals, params, type, seq, tail, bound, item, assign, atom, actuals, args, tier}
+use Rattle.language.specs.Grammar.{Of, Sym, program, def, formals, params, type, seq, tail, bound, item, counting, bounds, assign, atom, actuals, args, tier}
 use Rattle.language.specs.Grammar.{constants, Reading, Reads, program-seq, program-def, def-is, formals-none, formals-some, params-one}
 use Rattle.language.specs.Grammar.{params-more, type-basic, type-ref, seq-tail, seq-item, seq-more, tail-let, tail-if, let-in, item-if}
-use Rattle.language.specs.Grammar.{item-while, item-assign, assign-one, assign-to, chain-one, chain-more, cmp-one, cmp-two, un-prefix, un-atom}
+use Rattle.language.specs.Grammar.{item-for, for-is, bounds-two, bounds-three, item-while, item-assign, assign-one, assign-to, chain-one, chain-more, cmp-one, cmp-two, un-prefix, un-atom}
 use Rattle.language.specs.Grammar.{atom-name, atom-call, atom-number, atom-float, atom-constant, atom-group, atom-block, actuals-none}
 use Rattle.language.specs.Grammar.{actuals-some, args-one, args-more}
 use Rattle.language.proofs.Grammar.Entries.{every, entry-passes}
 use Rattle.language.proofs.Meaning.OldMeaning.{BareLiteral, Bare, BareAll, BareDefs, BareProgram}
 
--- no token of a float
+-- no token of a float, nor of a counted loop
 pub record NoFloats (ts : List Token) : Type 0 where
   pub no-number : (k : ℕ) → At ts k FLOAT-NUMBER → ⊥
   pub no-word : (k : ℕ) → At ts k FLOAT → ⊥
+  pub no-for : (k : ℕ) → At ts k FOR → ⊥
 
 -- the tokens had this reading
 pub record ReadBefore (ts : List Token) (p : Program) : Type 0 where
@@ -50,6 +51,8 @@ BareOf seq x = Bare x
 BareOf tail x = Bare x
 BareOf bound x = Bare x
 BareOf item x = Bare x
+BareOf counting x = Bare x
+BareOf bounds x = Unit {0}
 BareOf assign x = Bare x
 BareOf atom x = Bare x
 BareOf actuals x = BareAll x
@@ -76,6 +79,10 @@ module _ {ts : List Token} (w : NoFloats ts) where
   bare (let-in a b c p d q) = (bare p, bare q)
   bare (item-if a p b q c r) = (bare p, bare q, bare r)
   bare (item-while a p b q c) = (bare p, bare q)
+  bare (item-for p) = bare p
+  bare (for-is {i} a b c p d q e) = absurd (w .no-for i a)
+  bare (bounds-two p a q) = tt
+  bare (bounds-three p a q b r) = tt
   bare (item-assign p) = bare p
   bare (assign-one p) = bare p
   bare (assign-to p a q) = (bare p, bare q)

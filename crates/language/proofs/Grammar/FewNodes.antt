@@ -7,11 +7,12 @@ use lib.ListN.{length}
 use Rattle.language.specs.Sizes.{TOKENS, NODES}
 use Rattle.language.specs.Tokens.{Token}
 use Rattle.language.specs.Trees.{Program, nodes, all-nodes, def-nodes, program-nodes}
-use Rattle.language.specs.Grammar.{Of, tier, Sym, program, def, formals, params, type, seq, tail, bound, item, assign, atom, actuals, args, Reads}
-use Rattle.language.specs.Grammar.{Reading, program-seq, program-def, def-is, formals-none, formals-some, params-one, params-more, type-basic}
-use Rattle.language.specs.Grammar.{type-ref, seq-tail, seq-item, seq-more, tail-let, tail-if, let-in, item-if, item-while, item-assign, assign-one}
-use Rattle.language.specs.Grammar.{assign-to, chain-one, chain-more, cmp-one, cmp-two, un-prefix, un-atom, atom-name, atom-call, atom-number}
-use Rattle.language.specs.Grammar.{atom-float, atom-constant, atom-group, atom-block, actuals-none, actuals-some, args-one, args-more}
+use Rattle.language.specs.Grammar.{Of, tier, Sym, program, def, formals, params, type, seq, tail, bound, item, assign, atom, actuals, args}
+use Rattle.language.specs.Grammar.{Reads, Reading, program-seq, program-def, def-is, formals-none, formals-some, params-one, params-more}
+use Rattle.language.specs.Grammar.{type-basic, type-ref, seq-tail, seq-item, seq-more, tail-let, tail-if, let-in, item-if, item-while}
+use Rattle.language.specs.Grammar.{item-assign, assign-one, assign-to, chain-one, chain-more, cmp-one, cmp-two, un-prefix, un-atom}
+use Rattle.language.specs.Grammar.{atom-name, atom-call, atom-number, atom-float, atom-constant, atom-group, atom-block, actuals-none}
+use Rattle.language.specs.Grammar.{actuals-some, args-one, args-more, item-for, for-is, bounds-two, bounds-three, counting, bounds}
 use Rattle.language.proofs.Grammar.FirstTokens.{grows}
 
 abbrev nodes-of : (s : Sym) → Of s → ℕ
@@ -24,6 +25,8 @@ nodes-of seq e = nodes e
 nodes-of tail e = nodes e
 nodes-of bound e = nodes e
 nodes-of item e = nodes e
+nodes-of counting e = nodes e
+nodes-of bounds r = all-nodes (r .parts)
 nodes-of assign e = nodes e
 nodes-of atom e = nodes e
 nodes-of actuals es = all-nodes es
@@ -51,6 +54,10 @@ module _ (ts : List Token) where
   few (let-in a b c p d q) = omega (arith, few p, few q)
   few (item-if a p b q c r) = omega (arith, few p, few q, few r)
   few (item-while a p b q c) = omega (arith, few p, few q)
+  few (item-for p) = few p
+  few (for-is a b c p d q e) = omega (arith, few p, few q)
+  few (bounds-two p a q) = omega (arith, few p, few q)
+  few (bounds-three p a q b r) = omega (arith, few p, few q, few r)
   few (item-assign p) = few p
   few (assign-one p) = few p
   few (assign-to p h q) = omega (arith, few p, few q)

@@ -1,7 +1,7 @@
 -- Which token can begin a symbol, and which cannot follow it, by numbers: `opens k` grows with the symbols that a token of
 -- kind k can begin, and `pull k` says what such a token goes on with when it follows.
 use mathlib.Core.Path.{_≡_, refl, ap, subst, sym}
-use mathlib.Core.Bool.{false}
+use mathlib.Core.Bool.{Bool, false}
 use mathlib.Core.List.{List, [], _∷_}
 use mathlib.Core.Option.{Option, none, some, Option·getD}
 use Prim.Native.Nat.{ℕ, _≤_, _<_}
@@ -9,14 +9,14 @@ use native.Mathlib.Omega.{arith}
 use lib.Dec.{T, eqb, leb, leb→le, eqb→eq}
 use borrow.Author.Tests.{ne-eqb}
 use Rattle.language.specs.Tokens.{Token, Entry, _is_, At, entry, kind-at, NAME, NUMBER, FLOAT-NUMBER, DEF, LET, WHILE, IF, REF, NOT, TRUE, FALSE}
-use Rattle.language.specs.Tokens.{TT, PLUS, MINUS, STAR, SLASH, AND, OR, LESS, EQUAL, BECOMES, BANG, SEMI, COMMA, LPAR, LBRACE}
+use Rattle.language.specs.Tokens.{TT, PLUS, MINUS, STAR, SLASH, AND, OR, LESS, EQUAL, BECOMES, BANG, SEMI, COMMA, LPAR, LBRACE, BY, FOR}
 use Rattle.language.specs.Trees.{Literal, Unary, Binary}
-use Rattle.language.specs.Grammar.{Of, tier, Level, or, and, sum, prod, Sym, program, def, formals, params, type, seq, tail, bound, item}
-use Rattle.language.specs.Grammar.{assign, cmp, un, atom, actuals, args, chain, part, operators, comparisons, prefixes, constants, Reads}
-use Rattle.language.specs.Grammar.{program-seq, program-def, def-is, formals-none, formals-some, params-one, params-more, type-basic, type-ref}
-use Rattle.language.specs.Grammar.{seq-tail, seq-item, seq-more, tail-let, tail-if, let-in, item-if, item-while, item-assign, assign-one}
-use Rattle.language.specs.Grammar.{assign-to, chain-one, chain-more, cmp-one, cmp-two, un-prefix, un-atom, atom-name, atom-call, atom-number}
-use Rattle.language.specs.Grammar.{atom-float, atom-constant, atom-group, atom-block, actuals-none, actuals-some, args-one, args-more}
+use Rattle.language.specs.Grammar.{Of, tier, Level, or, and, sum, prod, Sym, program, def, formals, params, type, seq, tail, bound, item, assign, cmp}
+use Rattle.language.specs.Grammar.{un, atom, actuals, args, chain, part, operators, comparisons, prefixes, constants, Reads, program-seq, program-def}
+use Rattle.language.specs.Grammar.{def-is, formals-none, formals-some, params-one, params-more, type-basic, type-ref, seq-tail, seq-item, seq-more}
+use Rattle.language.specs.Grammar.{tail-let, tail-if, let-in, item-if, item-while, item-assign, assign-one, assign-to, chain-one, chain-more, cmp-one}
+use Rattle.language.specs.Grammar.{cmp-two, un-prefix, un-atom, atom-name, atom-call, atom-number, atom-float, atom-constant, atom-group, atom-block}
+use Rattle.language.specs.Grammar.{actuals-none, actuals-some, args-one, args-more, item-for, for-is, bounds-two, bounds-three, counting, bounds, ranges}
 use Rattle.language.proofs.Grammar.Entries.{every, entry-passes, found-nothing}
 
 -- ---- the numbers
@@ -24,13 +24,13 @@ use Rattle.language.proofs.Grammar.Entries.{every, entry-passes, found-
 -- what a token goes on with: `,` another of a list, `;` a Seq, `:=` an Assign, an operator its level, `(` a call, `ref` a Type
 abbrev pub pulls : List (Entry ℕ ℕ)
 pulls =
-    COMMA is 1 ∷ SEMI is 2 ∷ BECOMES is 3 ∷ OR is 4 ∷ AND is 5 ∷ LESS is 6 ∷ EQUAL is 6 ∷ PLUS is 7 ∷ MINUS is 7 ∷
+    COMMA is 1 ∷ SEMI is 2 ∷ BECOMES is 3 ∷ BY is 3 ∷ OR is 4 ∷ AND is 5 ∷ LESS is 6 ∷ EQUAL is 6 ∷ PLUS is 7 ∷ MINUS is 7 ∷
     STAR is 8 ∷ SLASH is 8 ∷ LPAR is 9 ∷ REF is 9 ∷ []
 
 -- what a token begins: 1 a Program, 2 a Seq or a Tail, 3 an Item, 4 an Assign or a level of operators, 5 an Atom; each also all above it
 abbrev pub openers : List (Entry ℕ ℕ)
 openers =
-    DEF is 1 ∷ LET is 2 ∷ IF is 3 ∷ WHILE is 3 ∷ MINUS is 4 ∷ NOT is 4 ∷ BANG is 4 ∷ REF is 4 ∷ NAME is 5 ∷ NUMBER is 5 ∷ FLOAT-NUMBER is 5 ∷
+    DEF is 1 ∷ LET is 2 ∷ IF is 3 ∷ WHILE is 3 ∷ FOR is 3 ∷ MINUS is 4 ∷ NOT is 4 ∷ BANG is 4 ∷ REF is 4 ∷ NAME is 5 ∷ NUMBER is 5 ∷ FLOAT-NUMBER is 5 ∷
     TRUE is 5 ∷ FALSE is 5 ∷ TT is 5 ∷ LPAR is 5 ∷ LBRACE is 5 ∷ []
 
 -- 0 for any other token
@@ -59,6 +59,8 @@ ends seq = 2
 ends tail = 2
 ends bound = 2
 ends item = 3
+ends counting = 10
+ends bounds = 3
 ends assign = 3
 ends (tier (chain l)) = depth l
 ends (tier cmp) = 6
@@ -78,6 +80,8 @@ begins seq = 2
 begins tail = 2
 begins bound = 2
 begins item = 3
+begins counting = 3
+begins bounds = 4
 begins assign = 4
 begins (tier l) = 4
 begins atom = 5
@@ -129,6 +133,11 @@ operator-pulls prod k e = by-number pull 8 (operators prod) k tt e
 pub no-operator : (l : Level) (k : ℕ) → pull k < depth l → entry (operators l) k ≡ none
 no-operator l k h = found-nothing (entry (operators l) k) λ o e. omega (arith, operator-pulls l k e)
 
+-- the mark of Bounds pulls by nothing
+pub range-pulls : (k : ℕ) {b : Bool} → entry ranges k ≡ some b → pull k ≡ 0
+unfolding pull entry every
+range-pulls k e = by-number pull 0 ranges k tt e
+
 -- a comparison pulls by 6
 pub comparison-pulls : (k : ℕ) {o : Binary} → entry comparisons k ≡ some o → pull k ≡ 6
 unfolding pull entry every
@@ -177,6 +186,10 @@ module _ (ts : List Token) where
   grows (let-in a b c p d q) = omega (arith, grows p, grows q)
   grows (item-if a p b q c r) = omega (arith, grows p, grows q, grows r)
   grows (item-while a p b q c) = omega (arith, grows p, grows q)
+  grows (item-for p) = grows p
+  grows (for-is a b c p d q e) = omega (arith, grows p, grows q)
+  grows (bounds-two p a q) = omega (arith, grows p, grows q)
+  grows (bounds-three p a q b r) = omega (arith, grows p, grows q, grows r)
   grows (item-assign p) = grows p
   grows (assign-one p) = grows p
   grows (assign-to p h q) = omega (arith, grows p, grows q)
@@ -218,6 +231,10 @@ module _ (ts : List Token) where
   starts (let-in a b c p d q) = opens-at _ _ _ a tt
   starts (item-if a p b q c r) = opens-at _ _ _ a tt
   starts (item-while a p b q c) = opens-at _ _ _ a tt
+  starts (item-for p) = starts p
+  starts (for-is a b c p d q e) = opens-at _ _ _ a tt
+  starts (bounds-two p a q) = starts p
+  starts (bounds-three p a q b r) = starts p
   starts (item-assign p) = omega (arith, starts p)
   starts (assign-one p) = starts p
   starts (assign-to p h q) = starts p

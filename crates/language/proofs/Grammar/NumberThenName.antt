@@ -15,7 +15,8 @@ use Rattle.language.specs.Grammar.{Of, Sym, def, Level, or, and, sum, pr
 use Rattle.language.specs.Grammar.{program-def, def-is, formals-none, formals-some, params-one, params-more, type-basic, type-ref, seq-tail}
 use Rattle.language.specs.Grammar.{seq-item, seq-more, tail-let, tail-if, let-in, item-if, item-while, item-assign, assign-one, assign-to}
 use Rattle.language.specs.Grammar.{chain-one, chain-more, cmp-one, cmp-two, un-prefix, un-atom, atom-name, atom-call, atom-number, atom-float}
-use Rattle.language.specs.Grammar.{atom-constant, atom-group, atom-block, actuals-none, actuals-some, args-one, args-more}
+use Rattle.language.specs.Grammar.{atom-constant, atom-group, atom-block, actuals-none, actuals-some, args-one, args-more, item-for, for-is}
+use Rattle.language.specs.Grammar.{bounds-two, bounds-three, ranges}
 use Rattle.language.proofs.Grammar.Entries.{every, entry-passes}
 use Rattle.language.proofs.Grammar.Prefixes.{inside}
 use Rattle.language.proofs.Text.Choices.{either}
@@ -107,6 +108,12 @@ module _ {ts : List Token} where
       lead a tt refl (lead b tt (omega arith) (lead c tt (omega arith) (mid (apart p) d (tt, tt) (apart q))))
   apart (item-if a p b q c r) = lead a tt refl (mid (apart p) b (tt, tt) (mid (apart q) c (tt, tt) (apart r)))
   apart (item-while a p b q c) = lead a tt refl (mid (apart p) b (tt, tt) (tail (apart q) c (tt, tt)))
+  apart (item-for p) = apart p
+  apart (for-is a b c p d q e) =
+      lead a tt refl (lead b tt (omega arith) (lead c tt (omega arith) (mid (apart p) d (tt, tt) (tail (apart q) e (tt, tt)))))
+  apart (bounds-two {m = m} p a q) = mid (apart p) refl (of-table ranges (kind-at ts m) tt tt a) (apart q)
+  apart (bounds-three {m = m} p a q b r) =
+      mid (apart p) refl (of-table ranges (kind-at ts m) tt tt a) (mid (apart q) b (tt, tt) (apart r))
   apart (item-assign p) = apart p
   apart (assign-one p) = apart p
   apart (assign-to p a q) = mid (apart p) a (tt, tt) (apart q)

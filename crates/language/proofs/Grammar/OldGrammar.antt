@@ -1,17 +1,19 @@
 -- The grammar as the paper first has it (S022 to S035), in which no Let follows `else` (R05.1). It is kept for two theorems: what
 -- it reads is read now as the same tree (R05.4), and where no `let` stands directly behind an `else` nothing else is read now.
 -- What has no Seq in it is as it is now, and is not said again.
+use mathlib.Core.Bool.{Bool}
 use mathlib.Core.List.{List, []}
 use mathlib.Core.Logic.{_↔_}
 use Prim.Native.Nat.{ℕ, _+_}
 use lib.ListN.{length}
-use Rattle.language.specs.Tokens.{Token, At, Means, value-at, spelling-at, NAME, NUMBER, FLOAT-NUMBER, DEF, LET, IN}
-use Rattle.language.specs.Tokens.{WHILE, IF, THEN, ELSE, BECOMES, IS, SEMI, COMMA, COLON, LPAR, RPAR, LBRACE, RBRACE}
+use Rattle.language.specs.Tokens.{Token, At, Means, value-at, spelling-at, NAME, NUMBER, FLOAT-NUMBER, DEF, LET, IN, WHILE}
+use Rattle.language.specs.Tokens.{IF, THEN, ELSE, BECOMES, IS, SEMI, COMMA, COLON, LPAR, RPAR, LBRACE, RBRACE, FOR, BY}
 use Rattle.language.specs.Decimals.{float-of}
 use Rattle.language.specs.Trees.{Ty, Literal, whole, decimal, Unary, Binary, Exp, name, literal, unary, binary, follow}
-use Rattle.language.specs.Trees.{group, block, call, bind, branch, loop, Exps, last, more, Param, Def, Program}
-use Rattle.language.specs.Grammar.{Level, or, sum, cmp, un, chain, Sym, Of, tier, program, def, formals, params, type, seq, tail, bound, item}
-use Rattle.language.specs.Grammar.{assign, atom, actuals, args, part, operators, comparisons, prefixes, constants, define, before, Reads, Reading}
+use Rattle.language.specs.Trees.{group, block, call, bind, branch, loop, Exps, last, more, Param, Def, Program, counted}
+use Rattle.language.specs.Grammar.{Level, or, sum, cmp, un, chain, Sym, Of, tier, program, def, formals, params, type, seq, tail}
+use Rattle.language.specs.Grammar.{bound, item, assign, atom, actuals, args, part, operators, comparisons, prefixes, constants}
+use Rattle.language.specs.Grammar.{define, before, Reads, Reading, counting, bounds, Span, ranges, two-parts, three-parts}
 use Rattle.language.specs.Grammar as Now
 
 pub data OldReads (ts : List Token) : (s : Sym) → ℕ → ℕ → Of s → Type 0 where
@@ -35,6 +37,17 @@ pub data OldReads (ts : List Token) : (s : Sym) → ℕ → ℕ → Of s → Typ
   item-while : {i m k : ℕ} {c e : Exp}
       → At ts i WHILE → OldReads ts seq (i + 1) m c → At ts m LBRACE → OldReads ts seq (m + 1) k e → At ts k RBRACE
       → OldReads ts item i (k + 1) (loop i c (block m e))
+  item-for : {i j : ℕ} {e : Exp} → OldReads ts counting i j e → OldReads ts item i j e
+  for-is : {i m k : ℕ} {r : Span} {e : Exp}
+      → At ts i FOR → At ts (i + 1) NAME → At ts (i + 2) IN → OldReads ts bounds (i + 3) m r → At ts m LBRACE
+      → OldReads ts seq (m + 1) k e → At ts k RBRACE
+      → OldReads ts counting i (k + 1) (counted i (spelling-at ts (i + 1)) (r .through) (r .parts) (block m e))
+  bounds-two : {i m j : ℕ} {b : Bool} {e f : Exp}
+      → OldReads ts (tier (chain or)) i m e → Means ts m ranges b → OldReads ts (tier (chain or)) (m + 1) j f
+      → OldReads ts bounds i j (two-parts b e f)
+  bounds-three : {i m k j : ℕ} {b : Bool} {e f g : Exp}
+      → OldReads ts (tier (chain or)) i m e → Means ts m ranges b → OldReads ts (tier (chain or)) (m + 1) k f
+      → At ts k BY → OldReads ts (tier (chain or)) (k + 1) j g → OldReads ts bounds i j (three-parts b e f g)
   item-assign : {i j : ℕ} {e : Exp} → OldReads ts assign i j e → OldReads ts item i j e
   assign-one : {i j : ℕ} {e : Exp} → OldReads ts (tier (chain or)) i j e → OldReads ts assign i j e
   assign-to : {i m j : ℕ} {e f : Exp}
@@ -82,6 +95,10 @@ module _ {ts : List Token} where
   old-reads (let-in a b c p d q) = Now.let-in a b c (old-reads p) d (old-reads q)
   old-reads (item-if a p b q c r) = Now.item-if a (old-reads p) b (old-reads q) c (old-reads r)
   old-reads (item-while a p b q c) = Now.item-while a (old-reads p) b (old-reads q) c
+  old-reads (item-for p) = Now.item-for (old-reads p)
+  old-reads (for-is a b c p d q e) = Now.for-is a b c (old-reads p) d (old-reads q) e
+  old-reads (bounds-two p a q) = Now.bounds-two (old-reads p) a (old-reads q)
+  old-reads (bounds-three p a q b r) = Now.bounds-three (old-reads p) a (old-reads q) b (old-reads r)
   old-reads (item-assign p) = Now.item-assign (old-reads p)
   old-reads (assign-one p) = Now.assign-one (old-reads p)
   old-reads (assign-to p h q) = Now.assign-to (old-reads p) h (old-reads q)
@@ -119,6 +136,8 @@ Was ts seq = OldReads ts seq
 Was ts tail = OldReads ts bound
 Was ts bound = OldReads ts bound
 Was ts item = OldReads ts item
+Was ts counting = OldReads ts counting
+Was ts bounds = OldReads ts bounds
 Was ts assign = OldReads ts assign
 Was ts (tier t) = OldReads ts (tier t)
 Was ts atom = OldReads ts atom
@@ -148,6 +167,10 @@ module _ {ts : List Token} (none : NoElseLet ts) where
   was (Now.let-in a b c p d q) = let-in a b c (was p) d (was q)
   was (Now.item-if a p b q c r) = item-if a (was p) b (was q) c (was r)
   was (Now.item-while a p b q c) = item-while a (was p) b (was q) c
+  was (Now.item-for p) = item-for (was p)
+  was (Now.for-is a b c p d q e) = for-is a b c (was p) d (was q) e
+  was (Now.bounds-two p a q) = bounds-two (was p) a (was q)
+  was (Now.bounds-three p a q b r) = bounds-three (was p) a (was q) b (was r)
   was (Now.item-assign p) = item-assign (was p)
   was (Now.assign-one p) = assign-one (was p)
   was (Now.assign-to p h q) = assign-to (was p) h (was q)

@@ -10,10 +10,11 @@ use lib.Dec.{leb, leb→le}
 use Rattle.language.specs.Tokens.{Token, kind-at, value-at, entry}
 use Rattle.language.specs.Trees.{Literal, Program}
 use Rattle.language.specs.Grammar.{Of, tier, Sym, program, def, formals, params, type, seq, tail, bound, item, assign, atom, actuals, args}
-use Rattle.language.specs.Grammar.{constants, Reads, Reading, program-seq, program-def, def-is, formals-none, formals-some, params-one, params-more}
-use Rattle.language.specs.Grammar.{type-basic, type-ref, seq-tail, seq-item, seq-more, tail-let, tail-if, let-in, item-if, item-while, item-assign}
-use Rattle.language.specs.Grammar.{assign-one, assign-to, chain-one, chain-more, cmp-one, cmp-two, un-prefix, un-atom, atom-name, atom-call}
-use Rattle.language.specs.Grammar.{atom-number, atom-float, atom-constant, atom-group, atom-block, actuals-none, actuals-some, args-one, args-more}
+use Rattle.language.specs.Grammar.{constants, Reads, Reading, program-seq, program-def, def-is, formals-none, formals-some, params-one}
+use Rattle.language.specs.Grammar.{params-more, type-basic, type-ref, seq-tail, seq-item, seq-more, tail-let, tail-if, let-in, item-if}
+use Rattle.language.specs.Grammar.{item-while, item-assign, assign-one, assign-to, chain-one, chain-more, cmp-one, cmp-two, un-prefix, un-atom}
+use Rattle.language.specs.Grammar.{atom-name, atom-call, atom-number, atom-float, atom-constant, atom-group, atom-block, actuals-none}
+use Rattle.language.specs.Grammar.{actuals-some, args-one, args-more, item-for, for-is, bounds-two, bounds-three, counting, bounds}
 use Rattle.language.proofs.Grammar.Entries.{every, entry-passes}
 use Rattle.language.proofs.Grammar.FirstTokens.{grows}
 use Rattle.language.proofs.Grammar.OwnTokens.{Own, plain, worth-of, owns, all-owns, def-owns, program-owns, All, all-none, all-more}
@@ -28,6 +29,8 @@ owns-of seq e = owns e
 owns-of tail e = owns e
 owns-of bound e = owns e
 owns-of item e = owns e
+owns-of counting e = owns e
+owns-of bounds r = all-owns (r .parts)
 owns-of assign e = owns e
 owns-of atom e = owns e
 owns-of actuals es = all-owns es
@@ -98,6 +101,13 @@ module _ (ts : List Token) where
       next i (joined (rises p) (joined (rises q) (rises r) (omega arith)) (omega arith)) (omega arith) (omega arith)
   rises (item-while {i} {m} a p b q c) =
       next i (middle m (rises p) (until (rises q) (omega arith))) (omega arith) (omega arith)
+  rises (item-for p) = rises p
+  rises (for-is {i} {m} a b c p d q e) =
+      next i (joined (rises p) (next {i = m} m (until (rises q) (omega arith)) (omega arith) (omega arith)) (omega arith)) (omega arith) (omega arith)
+  rises (bounds-two {j = j} p a q) =
+      joined (rises p) (joined (rises q) (ended {i = j} {j = j} (omega arith)) (omega arith)) (omega arith)
+  rises (bounds-three {j = j} p a q b r) =
+      joined (rises p) (joined (rises q) (joined (rises r) (ended {i = j} {j = j} (omega arith)) (omega arith)) (omega arith)) (omega arith)
   rises (item-assign p) = rises p
   rises (assign-one p) = rises p
   rises (assign-to {m = m} p h q) = middle m (rises p) (rises q)

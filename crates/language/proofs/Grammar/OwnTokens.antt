@@ -4,8 +4,8 @@ use mathlib.Core.List.{List, [], _∷_, _++_}
 use Prim.Native.Nat.{ℕ, _+_}
 use native.Mathlib.Omega.{arith}
 use lib.ListN.{length, length-append}
-use Rattle.language.specs.Trees.{Literal, whole, truth, trivial, decimal, Exp, name, literal, unary, binary, follow, group, block, call}
-use Rattle.language.specs.Trees.{bind, branch, loop, Exps, last, more, own, Def, Program, nodes, all-nodes, def-nodes, program-nodes}
+use Rattle.language.specs.Trees.{Literal, whole, truth, trivial, decimal, Exp, name, literal, unary, binary, follow, group, block, call, bind}
+use Rattle.language.specs.Trees.{branch, loop, Exps, last, more, own, Def, Program, nodes, all-nodes, def-nodes, program-nodes, counted}
 
 -- ---- what a node takes
 
@@ -37,6 +37,7 @@ unfoldable mutual
   owns (bind i x e f) = plain i ∷ (owns e ++ owns f)
   owns (branch i c e f) = plain i ∷ (owns c ++ (owns e ++ owns f))
   owns (loop i c e) = plain i ∷ (owns c ++ owns e)
+  owns (counted i x b es e) = plain i ∷ (all-owns es ++ owns e)
 
   pub all-owns : Exps → List Own
   all-owns last = []
@@ -99,6 +100,7 @@ own-of P (call i f es) h = first h
 own-of P (bind i x e f) h = first h
 own-of P (branch i c e f) h = first h
 own-of P (loop i c e) h = first h
+own-of P (counted i x b es e) h = first h
 
 -- ---- as many as there are nodes
 
@@ -125,6 +127,7 @@ mutual
         own-each f,
       )
   own-each (loop i c e) = omega (arith, length-append (owns c) (owns e), own-each c, own-each e)
+  own-each (counted i x b es e) = omega (arith, length-append (all-owns es) (owns e), own-all es, own-each e)
 
   own-all : (es : Exps) → length (all-owns es) ≡ all-nodes es
   own-all last = refl

@@ -9,10 +9,10 @@ use lib.Dec.{T, ltb, ltb→lt}
 use Rattle.language.specs.Tokens.{Token, Entry, past, At, Means, kind-at, entry}
 use Rattle.language.specs.Trees.{Binary}
 use Rattle.language.specs.Grammar.{Of, Sym, Level, or, and, sum, prod, operators, comparisons, prefixes, constants, basics, Reads, program-seq}
-use Rattle.language.specs.Grammar.{program-def, def-is, formals-none, formals-some, params-one, params-more, type-basic, type-ref, seq-tail}
-use Rattle.language.specs.Grammar.{seq-item, seq-more, tail-let, tail-if, let-in, item-if, item-while, item-assign, assign-one, assign-to}
-use Rattle.language.specs.Grammar.{chain-one, chain-more, cmp-one, cmp-two, un-prefix, un-atom, atom-name, atom-call, atom-number, atom-float}
-use Rattle.language.specs.Grammar.{atom-constant, atom-group, atom-block, actuals-none, actuals-some, args-one, args-more}
+use Rattle.language.specs.Grammar.{program-def, def-is, formals-none, formals-some, params-one, params-more, type-basic, type-ref, seq-tail, seq-item}
+use Rattle.language.specs.Grammar.{seq-more, tail-let, tail-if, let-in, item-if, item-while, item-assign, assign-one, assign-to, chain-one, chain-more}
+use Rattle.language.specs.Grammar.{cmp-one, cmp-two, un-prefix, un-atom, atom-name, atom-call, atom-number, atom-float, atom-constant, atom-group}
+use Rattle.language.specs.Grammar.{atom-block, actuals-none, actuals-some, args-one, args-more, item-for, for-is, bounds-two, bounds-three, ranges}
 use Rattle.language.proofs.Grammar.Entries.{every, entry-passes}
 use Rattle.language.proofs.Grammar.FirstTokens.{grows}
 
@@ -58,6 +58,10 @@ module _ (ts : List Token) where
   within (let-in a b c p d q) = within q
   within (item-if a p b q c r) = within r
   within (item-while {k = k} a p b q c) = omega (arith, inside k c (omega arith))
+  within (item-for p) = within p
+  within (for-is {k = k} a b c p d q e) = omega (arith, inside k e (omega arith))
+  within (bounds-two p a q) = within q
+  within (bounds-three p a q b r) = within r
   within (item-assign p) = within p
   within (assign-one p) = within p
   within (assign-to p h q) = within q
@@ -154,6 +158,23 @@ module _ {ts us : List Token} {e : ℕ} (alike : Alike ts us e) where
         _,
         item-while (kept-at i a (omega arith)) (kept p (omega arith) .1) (kept-at m b (omega arith)) (kept q (omega arith) .1)
             (kept-at k c (omega arith)),
+      )
+  kept (item-for p) h = (_, item-for (kept p h .1))
+  kept (for-is {i} {m} {k} a b c p d q e) h =
+      let x = grows ts p in
+      let y = grows ts q in (
+        _,
+        for-is (kept-at i a (omega arith)) (kept-at (i + 1) b (omega arith)) (kept-at (i + 2) c (omega arith)) (kept p (omega arith) .1)
+            (kept-at m d (omega arith)) (kept q (omega arith) .1) (kept-at k e (omega arith)),
+      )
+  kept (bounds-two {m = m} p a q) h =
+      let x = grows ts q in (_, bounds-two (kept p (omega arith) .1) (kept-means m ranges a (omega arith)) (kept q h .1))
+  kept (bounds-three {m = m} {k = k} p a q b r) h =
+      let x = grows ts q in
+      let y = grows ts r in (
+        _,
+        bounds-three (kept p (omega arith) .1) (kept-means m ranges a (omega arith)) (kept q (omega arith) .1)
+            (kept-at k b (omega arith)) (kept r h .1),
       )
   kept (item-assign p) h = (_, item-assign (kept p h .1))
   kept (assign-one p) h = (_, assign-one (kept p h .1))

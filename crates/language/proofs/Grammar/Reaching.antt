@@ -4,10 +4,10 @@ use mathlib.Core.List.{List}
 use Prim.Native.Nat.{ℕ, zero, suc, _+_, _*_, _≤_}
 use native.Mathlib.Omega.{arith}
 use Rattle.language.specs.Tokens.{Token, At, SEMI}
-use Rattle.language.specs.Trees.{Exp, name, literal, unary, binary, follow, group, block, call, bind, branch, loop}
+use Rattle.language.specs.Trees.{Exp, name, literal, unary, binary, follow, group, block, call, bind, branch, loop, counted}
 use Rattle.language.specs.Grammar.{Of, Sym, Tier, tier, seq, tail, bound, item, assign, atom, Reads, seq-tail, seq-item, seq-more, tail-let, tail-if}
-use Rattle.language.specs.Grammar.{let-in, item-if, item-while, item-assign, assign-one, assign-to, chain-one, chain-more, cmp-one, cmp-two}
-use Rattle.language.specs.Grammar.{un-prefix, un-atom, atom-name, atom-call, atom-number, atom-float, atom-constant, atom-group, atom-block}
+use Rattle.language.specs.Grammar.{let-in, item-if, item-while, item-assign, assign-one, assign-to, chain-one, chain-more, cmp-one, cmp-two, un-prefix}
+use Rattle.language.specs.Grammar.{un-atom, atom-name, atom-call, atom-number, atom-float, atom-constant, atom-group, atom-block, item-for, for-is}
 use Rattle.language.proofs.Grammar.FirstTokens.{grows}
 
 -- what a `;` goes on with; each is read as the one below it, or by fewer tokens
@@ -49,6 +49,7 @@ EndsInLet (call i x es) = ⊥
 EndsInLet (bind i x e f) = Unit {0}
 EndsInLet (branch i c e f) = EndsInLet f
 EndsInLet (loop i c e) = ⊥
+EndsInLet (counted i x b es e) = ⊥
 
 module _ {ts : List Token} where
   -- every Tail does
@@ -81,4 +82,5 @@ module _ {ts : List Token} where
   pub item-does-not : {i j : ℕ} {x : Exp} → Reads ts item i j x → EndsInLet x → ⊥
   item-does-not (item-if a p b q c r) e = item-does-not r e
   item-does-not (item-while a p b q c) e = e
+  item-does-not (item-for (for-is a b c p d q f)) e = e
   item-does-not (item-assign p) e = assign-does-not p e

@@ -4,8 +4,8 @@ use mathlib.Core.List.{List, [], _∷_}
 use mathlib.Core.Option.{Option, none, some, Option·none-ne-some}
 use Prim.Native.Nat.{ℕ}
 use Prim.Native.String.{String}
-use Rattle.language.specs.Tokens.{Token, Entry, _is_, spell, same, spelled, entry, kind-at, value-at, spelling-at}
-use Rattle.language.specs.Edition.{Splits}
+use Rattle.language.specs.Tokens.{EDITION-1, Token, Entry, _is_, spell, same, spelled, entry, kind-at, value-at, spelling-at}
+use Rattle.language.specs.Text.{Splits}
 use Rattle.language.specs.Trees.{Program}
 use Rattle.language.specs.Starts.{FirstWrong}
 use Rattle.language.proofs.Text.Edition as Scanner
@@ -26,7 +26,7 @@ texts =
 
 -- the text splits into tokens, and these first go wrong at i
 abbrev pub Wrong : String → ℕ → Type 0
-Wrong s i = (ts : List Token) × Splits (spell s) ts × FirstWrong ts i
+Wrong s i = (ts : List Token) × Splits EDITION-1 (spell s) ts × FirstWrong ts i
 
 abbrev pub All : List (Entry String ℕ) → Type 0
 All [] = Unit {0}

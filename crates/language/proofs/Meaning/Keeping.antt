@@ -12,11 +12,11 @@ use Rattle.language.specs.Sizes.{ACTIVE, CELLS, BYTE}
 use Rattle.language.specs.Tokens.{same}
 use Rattle.language.specs.Trees.{Name, Unary, minus, not, fetch, new, Binary, add, sub, mul, div, less, equal, and, or}
 use Rattle.language.specs.Trees.{assign, Exp, name, literal, unary, binary, follow, group, block, call, bind, branch}
-use Rattle.language.specs.Trees.{loop, Exps, last, more, own, Param, Def, Program, Scope, empty, push, nearest}
+use Rattle.language.specs.Trees.{loop, Exps, last, more, own, Param, Def, Program, Scope, empty, push, nearest, counted}
 use Rattle.language.specs.State.{Stop, Value, count, store, keep, State, with-units, with-cells, with-birth}
 use Rattle.language.specs.State.{with-byte, Outcome, value, stop, stuck, then, choose, when-some, want, alike}
-use Rattle.language.specs.Meaning.{Env, charge, begin, fit, create, apply-unary, quotient, apply-binary, emit, put, Fun}
-use Rattle.language.specs.Meaning.{putchar, defined, enter, arguments, invoke, passes, step, eval, functions, start, run}
+use Rattle.language.specs.Meaning.{Env, charge, begin, fit, create, apply-unary, quotient, apply-binary, emit, put, Fun, putchar}
+use Rattle.language.specs.Meaning.{defined, enter, arguments, invoke, passes, step, eval, functions, start, run, with-bounds, turns}
 use Rattle.language.proofs.Grammar.OwnTokens.{Own, owns, all-owns, def-owns, program-owns, All, first, rest, front, back, everywhere, main-owned, own-of}
 use Rattle.language.proofs.Meaning.CellTypes.{none-some, some-one}
 
@@ -74,6 +74,14 @@ module _ (I : State → Type 0) (Q : ℕ → Type 0) where
   unfolding alike
   keeps-alike v w f g a b =
       keeps-when _ _ _ (λ x _. keeps-want _ _ λ y. a x y) (keeps-want _ _ λ x. keeps-want _ _ λ y. b x y)
+
+  keeps-bounds : (vs : List Value) (f : ℤ → ℤ → ℤ → Outcome) → ((x y z : ℤ) → Keeps I Q (f x y z)) → Keeps I Q (with-bounds vs f)
+  unfolding with-bounds
+  keeps-bounds [] f h = keeps-stuck
+  keeps-bounds (v ∷ []) f h = keeps-stuck
+  keeps-bounds (v ∷ w ∷ []) f h = keeps-want _ _ λ x. keeps-want _ _ λ y. h x y _
+  keeps-bounds (v ∷ w ∷ t ∷ []) f h = keeps-want _ _ λ x. keeps-want _ _ λ y. keeps-want _ _ λ z. h x y z
+  keeps-bounds (v ∷ w ∷ t ∷ r ∷ vs) f h = keeps-stuck
 
   keeps-enter : (ps : List Param) (vs : List Value) (env : Env) (f : Env → Outcome) → ((env : Env) → Keeps I Q (f env))
       → Keeps I Q (enter ps vs env f)
@@ -158,6 +166,16 @@ module _ (I : State → Type 0) (Q : ℕ → Type 0) where
           (λ _. keeps-then _ (ih e env s₁ k h₁) λ x s₂ h₂. keeps-want _ _ λ _. keeps-passes n d e env s₂ m k h₂)
           (keeps-value h₁)
 
+      keeps-turns : (n : ℕ) (x : Name) (through : Bool) (to by z : ℤ) (e : Exp) (env : Env) (s : State) → Owned (owns e) → I s
+          → Keeps I Q (turns fs go n x through to by z e env s)
+      unfolding turns
+      keeps-turns zero x through to by z e env s k h = keeps-choose _ _ _ (λ _. keeps-stop (own-of Q e k) h) (keeps-value h)
+      keeps-turns (suc n) x through to by z e env s k h =
+          keeps-choose _ _ _
+          (λ _. keeps-then _ (ih e _ s k h) λ v s₁ h₁.
+          keeps-want _ _ λ _. keeps-choose _ _ _ (λ _. keeps-turns n x through to by _ e env s₁ k h₁) (keeps-value h₁))
+          (keeps-value h)
+
       keeps-step : (e : Exp) (env : Env) (s : State) → Owned (owns e) → I s → Keeps I Q (step fs go e env s)
       unfolding step owns
       keeps-step (name i x) env s m h = keeps-want _ _ λ v. keeps-value h
@@ -184,6 +202,11 @@ module _ (I : State → Type 0) (Q : ℕ → Type 0) where
           keeps-choose b _ _ (λ _. ih e env s₁ (front (owns e) _ r) h₁) (ih f env s₁ (back (owns e) _ r) h₁)
       keeps-step (loop i d e) env s m h =
           keeps-passes (s .units) d e env s (front (owns d) _ (rest m)) (back (owns d) _ (rest m)) h
+      keeps-step (counted i x through es e) env s m h =
+          keeps-arguments es env s _ (front (all-owns es) _ (rest m)) h λ vs s₁ h₁.
+          keeps-bounds vs _ λ from to by.
+          keeps-choose _ _ _ (λ _. keeps-stop (first m) h₁)
+          (keeps-turns (s₁ .units) x through to by from e env s₁ (back (all-owns es) _ (rest m)) h₁)
 
     pub keeps : (fs : Scope Fun) → Bodies fs → (d : ℕ) → Held (eval fs d)
     unfolding eval begin

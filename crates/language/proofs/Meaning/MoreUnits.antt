@@ -8,11 +8,12 @@ use native.Mathlib.Omega.{arith}
 use lib.IntN.{ℤ, pos, negsuc}
 use lib.Ieee.{Float}
 use Rattle.language.specs.Sizes.{ACTIVE}
-use Rattle.language.specs.Trees.{Unary, minus, not, fetch, new, Binary, add, sub, mul, div, less, equal, and, or, assign, Exp, name, literal, unary}
-use Rattle.language.specs.Trees.{binary, follow, group, block, call, bind, branch, loop, Exps, last, more, Param, Program, Scope, empty, push}
+use Rattle.language.specs.Trees.{Unary, minus, not, fetch, new, Binary, add, sub, mul, div, less, equal, and, or}
+use Rattle.language.specs.Trees.{assign, Exp, name, literal, unary, binary, follow, group, block, call, bind}
+use Rattle.language.specs.Trees.{branch, loop, Exps, last, more, Param, Program, Scope, empty, push, Name, counted}
 use Rattle.language.specs.State.{Stop, no-unit, Value, State, Outcome, value, stop, stuck, then, choose, when-some, want, alike}
-use Rattle.language.specs.Meaning.{Env, charge, begin, fit, create, apply-unary, quotient, apply-binary, emit, put}
-use Rattle.language.specs.Meaning.{Fun, putchar, defined, enter, arguments, invoke, passes, step, eval, run, start}
+use Rattle.language.specs.Meaning.{Env, charge, begin, fit, create, apply-unary, quotient, apply-binary, emit, put, Fun, putchar}
+use Rattle.language.specs.Meaning.{defined, enter, arguments, invoke, passes, step, eval, run, start, with-bounds, turns}
 
 abbrev pub plus : ℕ → State → State
 plus k s = record { units = s .units + k; births = s .births; room = s .room; cells = s .cells; printed = s .printed }
@@ -99,6 +100,14 @@ module _ (k : ℕ) where
   more-put i (pos n) s = more-choose _ _ _ _ _ (more-emit (s .room) i n s) more-stop
   more-put i (negsuc n) s = more-stop
 
+  more-bounds : (vs : List Value) (f g : ℤ → ℤ → ℤ → Outcome) → ((x y z : ℤ) → More k (f x y z) (g x y z)) → More k (with-bounds vs f) (with-bounds vs g)
+  unfolding with-bounds
+  more-bounds [] f g h = more-stuck
+  more-bounds (v ∷ []) f g h = more-stuck
+  more-bounds (v ∷ w ∷ []) f g h = more-want _ _ _ λ x. more-want _ _ _ λ y. h x y _
+  more-bounds (v ∷ w ∷ t ∷ []) f g h = more-want _ _ _ λ x. more-want _ _ _ λ y. more-want _ _ _ λ z. h x y z
+  more-bounds (v ∷ w ∷ t ∷ r ∷ vs) f g h = more-stuck
+
   more-enter : (ps : List Param) (vs : List Value) (env : Env) (f g : Env → Outcome) → ((env : Env) → More k (f env) (g env))
       → More k (enter ps vs env f) (enter ps vs env g)
   unfolding enter
@@ -132,6 +141,18 @@ module _ (k : ℕ) where
         (more-then _ _ (ih e env s₁) λ w s₂. more-want _ _ _ (λ _. more-passes n m c e env s₂ (omega arith)))
         more-value
 
+    more-turns : (n m : ℕ) (x : Name) (through : Bool) (to by z : ℤ) (e : Exp) (env : Env) (s : State) → n ≤ m
+        → More k (turns fs go n x through to by z e env s) (turns fs go m x through to by z e env (plus k s))
+    unfolding turns
+    more-turns zero zero x through to by z e env s h = more-choose _ _ _ _ _ more-50 more-value
+    more-turns zero (suc m) x through to by z e env s h = more-choose _ _ _ _ _ more-50 more-value
+    more-turns (suc n) zero x through to by z e env s h = absurd (omega arith)
+    more-turns (suc n) (suc m) x through to by z e env s h =
+        more-choose _ _ _ _ _
+        (more-then _ _ (ih e _ s) λ v s₁.
+        more-want _ _ _ λ _. more-choose _ _ _ _ _ (more-turns n m x through to by _ e env s₁ (omega arith)) more-value)
+        more-value
+
     more-step : (e : Exp) (env : Env) (s : State) → More k (step fs go e env s) (step fs go e env (plus k s))
     unfolding step
     more-step (name i x) env s = more-want _ _ _ λ v. more-value
@@ -149,6 +170,10 @@ module _ (k : ℕ) where
     more-step (branch i c e f) env s =
         more-then _ _ (ih c env s) λ v s₁. more-want _ _ _ λ b. more-choose b _ _ _ _ (ih e env s₁) (ih f env s₁)
     more-step (loop i c e) env s = more-passes (s .units) (s .units + k) c e env s (omega arith)
+    more-step (counted i x through es e) env s =
+        more-arguments es env s _ _ λ vs s₁.
+        more-bounds vs _ _ λ from to by.
+        more-choose _ _ _ _ _ more-stop (more-turns (s₁ .units) (s₁ .units + k) x through to by from e env s₁ (omega arith))
 
   pub more-eval : (fs : Scope Fun) (d : ℕ) (e : Exp) (env : Env) (s : State) → More k (eval fs d e env s) (eval fs d e env (plus k s))
   unfolding eval

@@ -10,8 +10,9 @@ use borrow.Author.Tests.{eqb-true}
 use Rattle.language.specs.Sizes.{ACTIVE}
 use Rattle.language.specs.Tokens.{same}
 use Rattle.language.specs.Trees.{Name, Ty, Exp, Exps, Def, Program, Scope, empty, push, nearest, PUTCHAR}
-use Rattle.language.specs.Types.{Sig, Typed, t-name, t-whole, t-truth, t-trivial, t-decimal, t-unary, t-binary, t-follow, t-group, t-block, t-call}
-use Rattle.language.specs.Types.{t-bind, t-branch, t-loop, TypedAll, t-last, t-more, fine, with-def, TypedFrom, typed-main, typed-def, given, HasType}
+use Rattle.language.specs.Types.{Sig, Typed, t-name, t-whole, t-truth, t-trivial, t-decimal, t-unary, t-binary}
+use Rattle.language.specs.Types.{t-follow, t-group, t-block, t-call, t-bind, t-branch, t-loop, TypedAll, t-last}
+use Rattle.language.specs.Types.{t-more, fine, with-def, TypedFrom, typed-main, typed-def, given, HasType, t-counted}
 use Rattle.language.specs.State.{Outcome, value, stop, stuck}
 use Rattle.language.specs.Meaning.{in-range, Fun, putchar, functions, start, run}
 use Rattle.language.proofs.Grammar.OwnTokens.{Own, owns, def-owns, program-owns, front, back, everywhere, main-owned}
@@ -62,6 +63,7 @@ module _ (Δ Δ′ : Scope Sig) (k : Knows Δ Δ′) where
     weaken (t-bind p q) = t-bind (weaken p) (weaken q)
     weaken (t-branch p q r) = t-branch (weaken p) (weaken q) (weaken r)
     weaken (t-loop p q) = t-loop (weaken p) (weaken q)
+    weaken (t-counted p q r) = t-counted (weakens p) q (weaken r)
 
     weakens : {Γ : Scope Ty} {es : Exps} {ts : List Ty} → TypedAll Δ Γ es ts → TypedAll Δ′ Γ es ts
     weakens t-last = t-last

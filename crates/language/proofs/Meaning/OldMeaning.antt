@@ -1,4 +1,5 @@
--- The meaning as it was before there were floats (R08.8): an operator of arithmetic took ints alone, and no literal had a point. What
+-- The meaning as it was before there were floats (R08.8): an operator of arithmetic took ints alone, no literal had a point, and no
+-- loop counted. What
 -- is not said again here stood word for word as it stands now.
 use mathlib.Core.List.{List, [], _∷_}
 use Prim.Native.Nat.{ℕ, zero, suc}
@@ -6,7 +7,7 @@ use lib.IntN.{ℤ, pos, _+ℤ_, _-ℤ_, _*ℤ_}
 use lib.Signed.{ltZ, quotZ}
 use Rattle.language.specs.Sizes.{ACTIVE}
 use Rattle.language.specs.Trees.{Literal, whole, truth, trivial, decimal, not, Binary, add, sub, mul, div, less}
-use Rattle.language.specs.Trees.{equal, and, or, assign, Exp, name, literal, unary, binary, follow, group, block, call, bind, branch, loop}
+use Rattle.language.specs.Trees.{equal, and, or, assign, Exp, name, literal, unary, binary, follow, group, block, call, bind, branch, loop, counted}
 use Rattle.language.specs.Trees.{Exps, last, more, own, Def, Program, Scope, empty, push, PUTCHAR}
 use Rattle.language.specs.State.{Value, number, float, flag, nothing, as-int, as-bool, as-cell, held}
 use Rattle.language.specs.State.{store, State, with-cells, too-deep, zero-divisor, cell-freed, Outcome, value, stop, stuck}
@@ -30,7 +31,7 @@ old-binary i assign v w s =
     want (as-cell v) λ b.
     when-some (held b (s .cells)) (λ _. value nothing (with-cells (store b w (s .cells)) s)) λ _. stop cell-freed i s
 
--- of a literal that there was not yet, nothing was said
+-- of a literal or a loop that there was not yet, nothing was said
 unfoldable pub old-literal : Literal → State → Outcome
 old-literal (whole n) s = value (number (pos n)) s
 old-literal (truth b) s = value (flag b) s
@@ -53,6 +54,7 @@ module _ (fs : Scope Fun) (go : Exp → Env → State → Outcome) where
   old-step (bind i x e f) env s = step fs go (bind i x e f) env s
   old-step (branch i c e f) env s = step fs go (branch i c e f) env s
   old-step (loop i c e) env s = step fs go (loop i c e) env s
+  old-step (counted i x b es e) env s = stuck
 
 unfoldable pub old-eval : Scope Fun → ℕ → Exp → Env → State → Outcome
 old-eval fs zero e env s = begin (own e) s λ s. stop too-deep (own e) s
@@ -62,7 +64,7 @@ unfoldable pub old-run : Program → ℕ → ℕ → Outcome
 old-run p allowance room =
     old-eval (functions (p .defs) (push PUTCHAR putchar empty)) ACTIVE (p .main) empty (start allowance room)
 
--- ---- trees without a float number
+-- ---- trees without a float number or a counted loop
 
 abbrev pub BareLiteral : Literal → Type 0
 BareLiteral (whole n) = Unit {0}
@@ -83,6 +85,7 @@ unfoldable mutual
   Bare (bind i x e f) = Bare e × Bare f
   Bare (branch i c e f) = Bare c × Bare e × Bare f
   Bare (loop i c e) = Bare c × Bare e
+  Bare (counted i x b es e) = ⊥
 
   pub BareAll : Exps → Type 0
   BareAll last = Unit {0}

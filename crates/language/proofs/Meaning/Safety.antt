@@ -11,13 +11,14 @@ use lib.Dec.{leb}
 use borrow.Author.Tests.{leb-true, le-leb}
 use Rattle.language.specs.Sizes.{BYTE}
 use Rattle.language.specs.Trees.{Name, Ty, int, bool, unit, float, ref, Unary, Binary, Exp, Exps, Param, Scope, empty, push, nearest}
-use Rattle.language.specs.Types.{Sig, Arithmetic, of-int, of-float, UnopType, u-minus, u-not, u-fetch, u-new, BinopType, b-add, b-sub, b-mul, b-div}
-use Rattle.language.specs.Types.{b-less, b-equal, b-and, b-or, b-assign, Typed, t-name, t-whole, t-truth, t-trivial, t-decimal, t-unary, t-binary}
-use Rattle.language.specs.Types.{t-follow, t-group, t-block, t-call, t-bind, t-branch, t-loop, TypedAll, t-last, t-more, Takes, takes-none, takes-more}
+use Rattle.language.specs.Types.{Sig, Arithmetic, of-int, of-float, UnopType, u-minus, u-not, u-fetch, u-new, BinopType, b-add}
+use Rattle.language.specs.Types.{b-sub, b-mul, b-div, b-less, b-equal, b-and, b-or, b-assign, Typed, t-name, t-whole, t-truth}
+use Rattle.language.specs.Types.{t-trivial, t-decimal, t-unary, t-binary, t-follow, t-group, t-block, t-call, t-bind, t-branch}
+use Rattle.language.specs.Types.{t-loop, TypedAll, t-last, t-more, Takes, takes-none, takes-more, t-counted, Bounds, two, three}
 use Rattle.language.specs.State.{Stop, Value, flag, State, Outcome, value, stop, then, as-int}
 use Rattle.language.specs.State.{as-bool, as-unit, as-cell, choose, when-some, want, alike, only}
-use Rattle.language.specs.Meaning.{Env, charge, begin, in-range, fit, literal-value, create, apply-unary, quotient, apply-binary}
-use Rattle.language.specs.Meaning.{settles, emit, put, Fun, putchar, defined, enter, arguments, invoke, passes, step, eval}
+use Rattle.language.specs.Meaning.{Env, charge, begin, in-range, fit, literal-value, create, apply-unary, quotient, apply-binary, settles}
+use Rattle.language.specs.Meaning.{emit, put, Fun, putchar, defined, enter, arguments, invoke, passes, step, eval, with-bounds, turns}
 use Rattle.language.proofs.Grammar.OwnTokens.{Own, owns, all-owns, All, first, rest, front, back}
 use Rattle.language.proofs.Meaning.CellTypes.{none-some, some-one, Born, newest, Grows, stays, gains, grows-trans, Fits, fits-int, fits-float}
 use Rattle.language.proofs.Meaning.CellTypes.{fits-bool, fits-unit, fits-ref, FitsAll, fits-none, fits-more, holds-live, EnvFits, env-empty}
@@ -198,6 +199,12 @@ module _ {R : ℤ → Type 0} (wide : (z : ℤ) → in-range z ≡ true → R z)
   unfolding when-some only
   good-one k (fits-more {v = v} p fits-none) f = f v p
 
+  good-bounds : {Σ : List Ty} {u : Ty} {vs : List Value} {ts : List Ty} → Bounds ts → (k : ℤ → ℤ → ℤ → Outcome) → FitsAll R Σ vs ts
+      → ((x y z : ℤ) → R x → Good R Σ u (k x y z)) → Good R Σ u (with-bounds vs k)
+  unfolding with-bounds when-some
+  good-bounds two k (fits-more (fits-int {z = x} p) (fits-more (fits-int {z = y} q) fits-none)) f = f x y _ p
+  good-bounds three k (fits-more (fits-int {z = x} p) (fits-more (fits-int {z = y} q) (fits-more (fits-int {z = z} r) fits-none))) f = f x y z p
+
   good-enter : {Σ : List Ty} {Γ Γ′ : Scope Ty} {ps : List Param} {u : Ty} (vs : List Value) (env : Env) (k : Env → Outcome)
       → Takes Γ ps Γ′ → FitsAll R Σ vs (map (λ (p : Param). p .type) ps) → EnvFits R Σ env Γ
       → ((env : Env) → EnvFits R Σ env Γ′ → Good R Σ u (k env)) → Good R Σ u (enter ps vs env k)
@@ -241,6 +248,19 @@ module _ {R : ℤ → Type 0} (wide : (z : ℤ) → in-range z ≡ true → R z)
         good-unit _ q₂ (passes-good n env s₂ a m b k (env-grows (grows-trans g₁ g₂) h) p₂))
         λ _. good-value stays p₁ fits-unit
 
+    turns-good : {Σ : List Ty} {Γ : Scope Ty} {x : Name} {e : Exp} (n : ℕ) (through : Bool) (to by z : ℤ) (env : Env) (s : State)
+        → Typed Δ (push x int Γ) e unit → Fair R (owns e) → EnvFits R Σ env Γ → StateFits R Σ s → R z
+        → Good R Σ unit (turns fs go n x through to by z e env s)
+    unfolding turns
+    turns-good zero through to by z env s b k h p r = good-choose _ _ _ (λ _. good-stop) λ _. good-value stays p fits-unit
+    turns-good (suc n) through to by z env s b k h p r =
+        good-choose _ _ _
+        (λ _.
+        good-then _ (safe (push _ _ env) s b k (env-push (fits-int r) h) p) λ Σ₁ v s₁ g₁ p₁ q₁.
+        good-unit _ q₁
+        (good-choose _ _ _ (λ e. turns-good n through to by _ env s₁ b k (env-grows g₁ h) p₁ (wide _ e)) λ _. good-value stays p₁ fits-unit))
+        λ _. good-value stays p fits-unit
+
     pub step-good : {Σ : List Ty} {Γ : Scope Ty} {e : Exp} {t : Ty} (env : Env) (s : State)
         → Typed Δ Γ e t → Fair R (owns e) → EnvFits R Σ env Γ → StateFits R Σ s → Good R Σ t (step fs go e env s)
     unfolding step literal-value owns
@@ -283,6 +303,11 @@ module _ {R : ℤ → Type 0} (wide : (z : ℤ) → in-range z ≡ true → R z)
         safe env s₁ d (back (owns e) _ n) (env-grows g₁ h) p₁
     step-good env s (t-loop {c = c} a b) m h p =
         passes-good (s .units) env s a (front (owns c) _ (rest m)) b (back (owns c) _ (rest m)) h p
+    step-good env s (t-counted {es = es} a b d) m h p =
+        arguments-good env s _ a (front (all-owns es) _ (rest m)) h p λ Σ₁ vs s₁ g₁ p₁ q₁.
+        good-bounds b _ q₁ λ from to by r.
+        good-choose _ _ _ (λ _. good-stop) λ _.
+        turns-good (s₁ .units) _ to by from env s₁ d (back (all-owns es) _ (rest m)) (env-grows g₁ h) p₁ r
 
   module _ (Δ : Scope Sig) (fs : Scope Fun) (ready : Ready R Δ fs) where
     safe-at : (d : ℕ) → Safe R Δ (eval fs d)

@@ -10,7 +10,7 @@ use lib.Ieee.{Float}
 use Rattle.language.specs.Sizes.{ACTIVE}
 use Rattle.language.specs.Tokens.{same}
 use Rattle.language.specs.Trees.{Name, Literal, whole, truth, trivial, decimal, Unary, minus, not, fetch, new, Binary, add, sub, mul, div, less}
-use Rattle.language.specs.Trees.{equal, and, or, assign, Exp, name, literal, unary, binary, follow, group, block, call, bind, branch, loop}
+use Rattle.language.specs.Trees.{equal, and, or, assign, Exp, name, literal, unary, binary, follow, group, block, call, bind, branch, loop, counted}
 use Rattle.language.specs.Trees.{Exps, last, more, Param, Def, Program, Scope, empty, push, nearest}
 use Rattle.language.specs.State.{Value, number, float, flag, nothing, cell, as-int, Cells, no-cell, live, held}
 use Rattle.language.specs.State.{store, keep, State, Stop, Outcome, value, stop, stuck}
@@ -232,6 +232,7 @@ module _ (fs : Scope Fun) (bare : EachIn BareFun fs) (was go : Exp → Env → S
       same-then _ _ (ih c env s (b .0) p q) λ v s₁ r q₁.
       same-want _ _ _ λ t. same-choose t _ _ _ _ (ih e env s₁ (b .1) p q₁) (ih f env s₁ (b .2) p q₁)
   same-step (loop i c e) env s b p q = same-passes (s .units) c e env s (b .0) (b .1) p q
+  same-step (counted i x m es e) env s b p q = absurd b
 
 same-eval : (fs : Scope Fun) → EachIn BareFun fs → (d : ℕ) (e : Exp) (env : Env) (s : State) → Bare e → PlainEnv env → PlainCells (s .cells)
     → Same (old-eval fs d e env s) (eval fs d e env s)

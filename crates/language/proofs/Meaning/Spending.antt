@@ -8,12 +8,13 @@ use native.Mathlib.Omega.{arith}
 use lib.IntN.{ℤ, pos, negsuc}
 use lib.Ieee.{Float}
 use Rattle.language.specs.Sizes.{ACTIVE}
-use Rattle.language.specs.Trees.{Unary, minus, not, fetch, new, Binary, add, sub, mul, div, less, equal, and, or, assign, Exp, name, literal, unary}
-use Rattle.language.specs.Trees.{binary, follow, group, block, call, bind, branch, loop, Exps, last, more, own, Param, Program, Scope, empty, push}
+use Rattle.language.specs.Trees.{Unary, minus, not, fetch, new, Binary, add, sub, mul, div, less, equal, and, or}
+use Rattle.language.specs.Trees.{assign, Exp, name, literal, unary, binary, follow, group, block, call, bind, branch}
+use Rattle.language.specs.Trees.{loop, Exps, last, more, own, Param, Program, Scope, empty, push, Name, counted}
 use Rattle.language.specs.State.{Stop, no-unit, Value, nothing, State, Outcome, value, stop}
 use Rattle.language.specs.State.{stuck, then, as-bool, as-unit, choose, when-some, want, alike}
-use Rattle.language.specs.Meaning.{Env, charge, begin, fit, create, apply-unary, quotient, apply-binary, emit, put}
-use Rattle.language.specs.Meaning.{Fun, putchar, defined, enter, arguments, invoke, passes, step, eval, run, start}
+use Rattle.language.specs.Meaning.{Env, charge, begin, fit, create, apply-unary, quotient, apply-binary, emit, put, Fun, putchar}
+use Rattle.language.specs.Meaning.{defined, enter, arguments, invoke, passes, step, eval, run, start, with-bounds, turns}
 
 -- at most u units are left, and with the births they make at most w
 pub record Within (u w : ℕ) (s : State) : Type 0 where
@@ -88,6 +89,14 @@ module _ {u w : ℕ} where
   spent-put i (pos n) s h = spent-choose _ _ _ (spent-emit (s .room) i n s h) (spent-stop h)
   spent-put i (negsuc n) s h = spent-stop h
 
+  spent-bounds : (vs : List Value) (f : ℤ → ℤ → ℤ → Outcome) → ((x y z : ℤ) → Spent u w (f x y z)) → Spent u w (with-bounds vs f)
+  unfolding with-bounds
+  spent-bounds [] f h = spent-stuck
+  spent-bounds (v ∷ []) f h = spent-stuck
+  spent-bounds (v ∷ w ∷ []) f h = spent-want _ _ λ x. spent-want _ _ λ y. h x y _
+  spent-bounds (v ∷ w ∷ t ∷ []) f h = spent-want _ _ λ x. spent-want _ _ λ y. spent-want _ _ λ z. h x y z
+  spent-bounds (v ∷ w ∷ t ∷ r ∷ vs) f h = spent-stuck
+
   spent-enter : (ps : List Param) (vs : List Value) (env : Env) (f : Env → Outcome) → ((env : Env) → Spent u w (f env)) → Spent u w (enter ps vs env f)
   unfolding enter
   spent-enter [] [] env f h = h env
@@ -143,6 +152,15 @@ module _ (fs : Scope Fun) (go : Node) (ih : Spends go) where
         spent-then _ (part c env s h) λ v s₁ h₁. spent-want _ _ λ b.
         spent-choose b _ _ (spent-then _ (part e env s₁ h₁) λ x s₂ h₂. spent-want _ _ (λ _. spent-passes n c e env s₂ h₂)) (spent-value h₁)
 
+    spent-turns : (n : ℕ) (x : Name) (through : Bool) (to by z : ℤ) (e : Exp) (env : Env) (s : State) → Within u w s
+        → Spent u w (turns fs go n x through to by z e env s)
+    unfolding turns
+    spent-turns zero x through to by z e env s h = spent-choose _ _ _ (spent-stop h) (spent-value h)
+    spent-turns (suc n) x through to by z e env s h =
+        spent-choose _ _ _
+        (spent-then _ (part e _ s h) λ v s₁ h₁. spent-want _ _ λ _. spent-choose _ _ _ (spent-turns n x through to by _ e env s₁ h₁) (spent-value h₁))
+        (spent-value h)
+
     spent-step : (e : Exp) (env : Env) (s : State) → Within u w s → Spent u (w + 1) (step fs go e env s)
     unfolding step
     spent-step (name i x) env s h = spent-want _ _ λ v. spent-value (wider (omega arith) (omega arith) h)
@@ -164,6 +182,9 @@ module _ (fs : Scope Fun) (go : Node) (ih : Spends go) where
         weaker (omega arith) (omega arith)
         (spent-then _ (part c env s h) λ v s₁ h₁. spent-want _ _ λ b. spent-choose b _ _ (part e env s₁ h₁) (part f env s₁ h₁))
     spent-step (loop i c e) env s h = weaker (omega arith) (omega arith) (spent-passes (s .units) c e env s h)
+    spent-step (counted i x through es e) env s h =
+        weaker (omega arith) (omega arith) (spent-arguments es env s _ h λ vs s₁ h₁.
+        spent-bounds vs _ λ from to by. spent-choose _ _ _ (spent-stop h₁) (spent-turns (s₁ .units) x through to by from e env s₁ h₁))
 
 spent-charge : {u w : ℕ} (n i : ℕ) (s : State) (f : State → Outcome) → n ≡ s .units → u ≡ n - 1 → w ≡ s .births + n
     → ((s : State) (w : ℕ) → Within u w s → Spent u (w + 1) (f s)) → Spent u w (charge n i s f)
@@ -185,24 +206,24 @@ unfolding eval begin charge
 at-end fs zero e env s h = rw h
 at-end fs (suc d) e env s h = rw h
 
-then-same : {u w : ℕ} {o : Outcome} (f g : Value → State → Outcome) → Spent u w o
+pub then-same : {u w : ℕ} {o : Outcome} (f g : Value → State → Outcome) → Spent u w o
     → ((v : Value) (s : State) → Within u w s → f v s ≡ g v s) → then o f ≡ then o g
 unfolding then
 then-same f g (spent-value {v} {s} h) k = k v s h
 then-same f g (spent-stop h) k = refl
 then-same f g spent-stuck k = refl
 
-want-same : {A : Type 0} (o : Option A) (f g : A → Outcome) → ((a : A) → f a ≡ g a) → want o f ≡ want o g
+pub want-same : {A : Type 0} (o : Option A) (f g : A → Outcome) → ((a : A) → f a ≡ g a) → want o f ≡ want o g
 unfolding when-some
 want-same none f g h = refl
 want-same (some a) f g h = h a
 
-choose-same : (b : Bool) (x y x′ : Unit {0} → Outcome) → x tt ≡ x′ tt → choose b x y ≡ choose b x′ y
+pub choose-same : (b : Bool) (x y x′ : Unit {0} → Outcome) → x tt ≡ x′ tt → choose b x y ≡ choose b x′ y
 unfolding choose
 choose-same true x y x′ h = h
 choose-same false x y x′ h = refl
 
-then-stop : (o : Outcome) (n : Stop) (i : ℕ) (s : State) (f : Value → State → Outcome) → o ≡ stop n i s → then o f ≡ stop n i s
+pub then-stop : (o : Outcome) (n : Stop) (i : ℕ) (s : State) (f : Value → State → Outcome) → o ≡ stop n i s → then o f ≡ stop n i s
 unfolding then
 then-stop o n i s f e = rw e
 

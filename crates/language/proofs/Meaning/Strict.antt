@@ -9,14 +9,14 @@ use mathlib.Core.Option.{Option, none, some}
 use Prim.Native.Nat.{ℕ, zero, suc}
 use lib.IntN.{ℤ}
 use Rattle.language.specs.Sizes.{ACTIVE}
-use Rattle.language.specs.Trees.{Ty, Binary, add, sub, mul, div, less, equal, and, or, assign, Exp, name, literal, unary, binary, follow}
-use Rattle.language.specs.Trees.{group, block, call, bind, branch, loop, Exps, last, more, own, Param, Program, Scope, empty, push, PUTCHAR}
+use Rattle.language.specs.Trees.{Ty, Binary, add, sub, mul, div, less, equal, and, or, assign, Exp, name, literal, unary, binary, follow, group}
+use Rattle.language.specs.Trees.{block, call, bind, branch, loop, Exps, last, more, own, Param, Program, Scope, empty, push, PUTCHAR, Name, counted}
 use Rattle.language.specs.Types.{Sig, of-int, of-float, BinopType, b-add, b-sub, b-mul, b-div, b-less, b-equal, b-and}
-use Rattle.language.specs.Types.{b-or, b-assign, Typed, t-name, t-whole, t-truth, t-trivial, t-decimal, t-unary}
-use Rattle.language.specs.Types.{t-binary, t-follow, t-group, t-block, t-call, t-bind, t-branch, t-loop, given, HasType}
+use Rattle.language.specs.Types.{b-or, b-assign, Typed, t-name, t-whole, t-truth, t-trivial, t-decimal, t-unary, t-binary}
+use Rattle.language.specs.Types.{t-follow, t-group, t-block, t-call, t-bind, t-branch, t-loop, given, HasType, t-counted}
 use Rattle.language.specs.State.{Value, State, Outcome, value, stop, stuck, then, as-int, as-float, as-bool, as-cell, choose, when-some, want, too-deep}
-use Rattle.language.specs.Meaning.{Env, charge, begin, in-range, apply-binary, settles, Fun, putchar, defined}
-use Rattle.language.specs.Meaning.{enter, arguments, invoke, passes, step, eval, functions, start, run}
+use Rattle.language.specs.Meaning.{Env, charge, begin, in-range, apply-binary, settles, Fun, putchar, defined, enter}
+use Rattle.language.specs.Meaning.{arguments, invoke, passes, step, eval, functions, start, run, with-bounds, turns}
 use Rattle.language.proofs.Grammar.OwnTokens.{owns, program-owns, rest, front, back, everywhere, main-owned}
 use Rattle.language.proofs.Meaning.CellTypes.{stays, Fits, fits-int, fits-float, fits-bool, fits-ref, EnvFits}
 use Rattle.language.proofs.Meaning.CellTypes.{env-empty, env-grows, fits-grows, StateFits, holds-none}
@@ -58,6 +58,7 @@ module _ (fs : Scope Fun) (go : Exp → Env → State → Outcome) where
   strict-step (bind i x e f) env s = step fs go (bind i x e f) env s
   strict-step (branch i c e f) env s = step fs go (branch i c e f) env s
   strict-step (loop i c e) env s = step fs go (loop i c e) env s
+  strict-step (counted i x b es e) env s = step fs go (counted i x b es e) env s
 
 unfoldable pub strict-eval : Scope Fun → ℕ → Exp → Env → State → Outcome
 strict-eval fs zero e env s = begin (own e) s λ s. stop too-deep (own e) s
@@ -126,6 +127,7 @@ module _ (Δ : Scope Sig) (fs : Scope Fun) (ready : Ready Any Δ fs) where
     strict-good env s (t-bind a b) m h p = step-good wide Δ fs ready go all env s (t-bind a b) m h p
     strict-good env s (t-branch a b d) m h p = step-good wide Δ fs ready go all env s (t-branch a b d) m h p
     strict-good env s (t-loop a b) m h p = step-good wide Δ fs ready go all env s (t-loop a b) m h p
+    strict-good env s (t-counted a b d) m h p = step-good wide Δ fs ready go all env s (t-counted a b d) m h p
 
   strict-safe : (d : ℕ) → Safe Any Δ (strict-eval fs d)
   unfolding strict-eval
@@ -212,6 +214,24 @@ module _ (fs : Scope Fun) (go on : Exp → Env → State → Outcome) (ih : (e :
       closer-want _ _ _ λ b.
       closer-choose b _ _ _ _ (closer-then _ _ (ih e env s₁) λ w s₂. closer-want _ _ _ λ _. closer-passes n c e env s₂) same
 
+  closer-turns : (n : ℕ) (x : Name) (through : Bool) (to by z : ℤ) (e : Exp) (env : Env) (s : State)
+      → Closer (turns fs go n x through to by z e env s) (turns fs on n x through to by z e env s)
+  unfolding turns
+  closer-turns zero x through to by z e env s = same
+  closer-turns (suc n) x through to by z e env s =
+      closer-choose _ _ _ _ _
+      (closer-then _ _ (ih e _ s) λ v s₁.
+      closer-want _ _ _ λ _. closer-choose _ _ _ _ _ (closer-turns n x through to by _ e env s₁) same)
+      same
+
+  closer-bounds : (vs : List Value) (f g : ℤ → ℤ → ℤ → Outcome) → ((x y z : ℤ) → Closer (f x y z) (g x y z)) → Closer (with-bounds vs f) (with-bounds vs g)
+  unfolding with-bounds
+  closer-bounds [] f g h = same
+  closer-bounds (v ∷ []) f g h = same
+  closer-bounds (v ∷ w ∷ []) f g h = closer-want _ _ _ λ x. closer-want _ _ _ λ y. h x y _
+  closer-bounds (v ∷ w ∷ t ∷ []) f g h = closer-want _ _ _ λ x. closer-want _ _ _ λ y. closer-want _ _ _ λ z. h x y z
+  closer-bounds (v ∷ w ∷ t ∷ r ∷ vs) f g h = same
+
   closer-step : (e : Exp) (env : Env) (s : State) → Closer (strict-step fs go e env s) (step fs on e env s)
   unfolding strict-step step
   closer-step (name i x) env s = same
@@ -228,6 +248,10 @@ module _ (fs : Scope Fun) (go on : Exp → Env → State → Outcome) (ih : (e :
   closer-step (branch i c e f) env s =
       closer-then _ _ (ih c env s) λ v s₁. closer-want _ _ _ λ b. closer-choose b _ _ _ _ (ih e env s₁) (ih f env s₁)
   closer-step (loop i c e) env s = closer-passes (s .units) c e env s
+  closer-step (counted i x through es e) env s =
+      closer-arguments es env s _ _ λ vs s₁.
+      closer-bounds vs _ _ λ from to by.
+      closer-choose _ _ _ _ _ same (closer-turns (s₁ .units) x through to by from e env s₁)
 
 closer-eval : (fs : Scope Fun) (d : ℕ) (e : Exp) (env : Env) (s : State) → Closer (strict-eval fs d e env s) (eval fs d e env s)
 unfolding strict-eval eval

@@ -1,4 +1,4 @@
--- Whatever check or run tell of two sheets, the part that is shown lies in the sheet that is named: it is a part of that sheet.
+-- Whatever check or run tell of two sheets, in whatever edition, the part that is shown lies in the sheet that is named: it is a part of that sheet.
 use mathlib.Core.Bool.{Bool, true, false, cond}
 use mathlib.Core.List.{List, [], _∷_, _++_}
 use native.Mathlib.Omega.{arith}
@@ -9,9 +9,10 @@ use Rattle.language.specs.Tokens.{Vocabulary, Token, past, place-at}
 use Rattle.language.specs.Text.{Reaches, start, skip, next, token-of}
 use Rattle.language.specs.Text.Content.{token}
 use Rattle.language.specs.Numbers.{Refusal}
-use Rattle.language.specs.Answers.{Spot, nowhere, at, place-in, from-text, unread, faulty, Refused, by-origin, by-tokens, CheckReport, Checked}
+use Rattle.language.specs.Answers.{Spot, nowhere, at, place-in, unread, faulty, Refused, by-origin, by-tokens, CheckReport, Checked}
 use Rattle.language.specs.Answers.{check-short, check-refused, check-passed, RunReport, Lent, Ran, run-short, run-large, run-refused, run-ended}
-use Rattle.language.specs.Pairs.{joined, Place, place-of, front, too-long, flawed, from-pair}
+use Rattle.language.specs.Edition.{unknown, known, pair-in}
+use Rattle.language.specs.Pairs.{joined, Place, place-of, too-long, flawed}
 use Rattle.language.proofs.Text.OnePiece.{form-bounds}
 use Rattle.language.proofs.Text.OneSplit.{reached-inside}
 use Rattle.language.proofs.Pairs.Places.{Inside, place-inside, front-inside}
@@ -39,36 +40,35 @@ either-way : (P : ℕ → Type 0) (b : Bool) {x y : ℕ} → P x → P y → P (
 either-way P true p q = p
 either-way P false p q = q
 
-module _ (first second : List ℕ) where
-  at-inside : {p : ℕ} {ts : List Token} {voc : Vocabulary} → Reaches voc (joined first second) p ts → (i : ℕ)
-      → Inside first second (from-pair first second .at ts i)
+module _ (n : ℕ) (first second : List ℕ) where
+  at-inside : {ts : List Token} → pair-in n first second .gives ts → (i : ℕ) → Inside first second (pair-in n first second .at ts i)
   unfolding place-at
-  at-inside {ts = ts} r i =
+  at-inside {ts} g i =
       either-way (λ (p : ℕ). Inside first second (place-of first second p)) (ltb i (length ts))
-      (place-inside first second (getD ts i past .place) (reached-places r i))
+      (place-inside first second (getD ts i past .place) (reached-places (g .given .splits .whole) i))
       (place-inside first second (length (joined first second)) (omega arith))
 
-  refused-inside : {r : Refusal} {x : Place} → Refused (from-pair first second) r x → Inside first second x
-  refused-inside (by-origin (too-long h)) = front-inside first second
-  refused-inside (by-origin (flawed {p = p} h a)) = place-inside first second p (reached-inside (a .before))
-  refused-inside (by-tokens g (unread {i} w)) = at-inside (g .splits .whole) i
-  refused-inside (by-tokens g (faulty {i = i} a f)) = at-inside (g .splits .whole) i
+  refused-inside : {r : Refusal} {x : Place} → Refused (pair-in n first second) r x → Inside first second x
+  refused-inside (by-origin (unknown e)) = front-inside first second
+  refused-inside (by-origin (known e (too-long h))) = front-inside first second
+  refused-inside (by-origin (known e (flawed {p = p} h a))) = place-inside first second p (reached-inside (a .before))
+  refused-inside (by-tokens g (unread {i} w)) = at-inside g i
+  refused-inside (by-tokens g (faulty {i = i} a f)) = at-inside g i
 
   -- by check
-  pub checked-inside : {table : ℕ} {r : CheckReport Place} → Checked (from-pair first second) table r → Inside first second (r .place)
+  pub checked-inside : {table : ℕ} {r : CheckReport Place} → Checked (pair-in n first second) table r → Inside first second (r .place)
   checked-inside (check-short h) = front-inside first second
   checked-inside (check-refused h x) = refused-inside x
   checked-inside (check-passed h x) = front-inside first second
 
-  spot-inside : {ts : List Token} {p : ℕ} {voc : Vocabulary} → Reaches voc (joined first second) p ts → (s : Spot)
-      → Inside first second (place-in (from-pair first second) ts s)
-  spot-inside r nowhere = front-inside first second
-  spot-inside r (at i) = at-inside r i
+  spot-inside : {ts : List Token} → pair-in n first second .gives ts → (s : Spot) → Inside first second (place-in (pair-in n first second) ts s)
+  spot-inside g nowhere = front-inside first second
+  spot-inside g (at i) = at-inside g i
 
   -- and by run
-  pub ran-inside : {l : Lent} {r : RunReport Place} {printed : List ℕ} → Ran (from-pair first second) l r printed
+  pub ran-inside : {l : Lent} {r : RunReport Place} {printed : List ℕ} → Ran (pair-in n first second) l r printed
       → Inside first second (r .place)
   ran-inside (run-short h) = front-inside first second
   ran-inside (run-large h a) = front-inside first second
   ran-inside (run-refused h a x) = refused-inside x
-  ran-inside (run-ended {e = e} h a x z) = spot-inside (x .given .splits .whole) (e .spot)
+  ran-inside (run-ended {e = e} h a x z) = spot-inside (x .given) (e .spot)

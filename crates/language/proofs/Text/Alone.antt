@@ -27,6 +27,12 @@ use Rattle.language.specs.Text.Content.{space, unclosed, overlong, token
 use Rattle.language.specs.Text.Form.{blank, line, comment, unended, name, number, based, float, mark}
 use Rattle.language.specs.Tokens.{Spelling, spell, Vocabulary, NUMBER, FLOAT-NUMBER, spelled}
 
+-- past the end there is no byte
+past-end : (u : List ℕ) (n : ℕ) → length u ≤ n → byte u n ≡ 0
+past-end [] n h = refl
+past-end (b ∷ u) zero h = absurd (omega arith)
+past-end (b ∷ u) (suc n) h = past-end u n (omega arith)
+
 -- ---- bytes of a slice
 
 -- a byte between p and q, as one of the slice
@@ -129,36 +135,68 @@ module _ {voc : Vocabulary} (laws : Laws voc) where
   mark-whole [] k e = absurd (mark-some laws k e)
   mark-whole (a ∷ s) k e = mark-shape laws a s k e .whole
 
-  -- the same bytes elsewhere have it too
-  pub form-copied : {t : List ℕ} {p q : ℕ} {u : List ℕ} {m n : ℕ} (c : Content) → IsToken c → Copied t p q u m n → Form voc t p q c → Form voc u m n c
-  form-copied c i w (blank h b e) = absurd i
-  form-copied c i w (line s a b e) = absurd i
-  form-copied c i w (comment d) = absurd i
-  form-copied c i w (unended s n e) = absurd i
-  form-copied {t} {p} {q} {u} {m} {n} c i w (name a l e) =
+  -- a blank or the end stands at n
+  abbrev pub Over : List ℕ → ℕ → Type 0
+  Over u n = n < length u → is-blank (byte u n) ≡ true
+
+  -- what stands there may follow a point
+  over-point : (u : List ℕ) (n b : ℕ) → Over u n → voc .points b ≡ true → voc .points (byte u n) ≡ true
+  over-point u n b over h =
+      ⊎-elim (λ l. laws .loose b (byte u n) h (over l)) (λ l. rw (past-end u n l) (laws .last b h)) (either n (length u))
+
+  -- the same bytes elsewhere, with a blank or the end behind them, have it too
+  pub form-copied : {t : List ℕ} {p q : ℕ} {u : List ℕ} {m n : ℕ} (c : Content) → IsToken c → Copied t p q u m n → Over u n
+      → Form voc t p q c → Form voc u m n c
+  form-copied c i w o (blank h b e) = absurd i
+  form-copied c i w o (line s a b e) = absurd i
+  form-copied c i w o (comment d) = absurd i
+  form-copied c i w o (unended s n e) = absurd i
+  form-copied {t} {p} {q} {u} {m} {n} c i w o (name a l e) =
       subst (λ (s : Spelling). Form voc u m n (token (word-kind voc s) 0)) (w .same)
       (name (w .there) (rw (copied-first w) l) (copied-each w is-name-byte e))
-  form-copied {t} {p} {q} {u} {m} {n} c i w (number a e) =
+  form-copied {t} {p} {q} {u} {m} {n} c i w o (number a e) =
       subst (λ (s : Spelling). Form voc u m n (token NUMBER (number-from 10 0 s))) (w .same)
       (number (w .there) (copied-each w is-digit e))
-  form-copied {t} {p} {q} {u} {m} {n} c i w (based {base = base} s a e) =
+  form-copied {t} {p} {q} {u} {m} {n} c i w o (based {base = base} s a e) =
       let r = copied-rest w (a .some) in
       subst (λ (s : Spelling). Form voc u m n (token NUMBER (number-from base 0 s))) (r .same)
       (based {base = base} (rw (copied-two w (a .some)) s) (r .there) (copied-each r (is-digit-of base) e))
-  form-copied {t} {p} {q} {u} {m} {n} c i w (float {m = k} a b e d l h g) =
-      let long = copied-long w in
-      let x = w .within .some in
-      let y = w .there .some in
-      let s = b .some in
-      let at : ℕ = m + (k - p) in
-      let end = w .there .inside in
-      let z : p + (at - m) ≡ k = omega arith in
+  form-copied {t} {p} {q} {u} {m} {n} c i w o (float {m = k} a b e d l h g) =
       subst (λ (j : ℕ). Form voc u m n (float-content j)) long
-      (float {m = at} a (record { some = omega arith; inside = omega arith })
-      (λ j o f. rw (copied-byte w j f (omega arith)) (e (p + (j - m)) (omega arith) (omega arith)))
-      (copied-byte w at (omega arith) (omega arith) ∙ ap (byte t) z ∙ d) (omega arith) end
-      λ j o f. rw (copied-byte w j (omega arith) o) (g (p + (j - m)) (omega arith) (omega arith)))
-  form-copied {t} {p} {q} {u} {m} {n} c i w (mark {k = k} a e) = mark {k = k} (w .there) (rw (w .same) e)
+      (float {m = at} point (record { some = omega (arith, s); inside = omega (arith, long, x, y, s, end) })
+      (λ j v f. rw (copied-byte w j f (omega (arith, long, x, y, s))) (e (p + (j - m)) (omega (arith, s)) (omega arith)))
+      (copied-byte w at (omega arith) (omega (arith, long, x, y, s)) ∙ ap (byte t) z ∙ d) (omega (arith, long, x, y, s)) end
+      λ j v f. rw (copied-byte w j (omega arith) v) (g (p + (j - m)) (omega (arith, long, x, y)) (omega (arith, s))))
+    where
+      long : n - m ≡ q - p
+      long = copied-long w
+
+      x : p < q
+      x = w .within .some
+
+      y : m < n
+      y = w .there .some
+
+      s : p < k
+      s = b .some
+
+      end : n ≤ length u
+      end = w .there .inside
+
+      at : ℕ
+      at = m + (k - p)
+
+      z : p + (at - m) ≡ k
+      z = omega (arith, s)
+
+      point : voc .points (byte u (at + 1)) ≡ true
+      point =
+          ⊎-elim
+          (λ v. let f : p + (at + 1 - m) ≡ k + 1 = omega (arith, s) in
+          rw (copied-byte w (at + 1) (omega arith) (omega (arith, long, x, y, s)), f) a)
+          (λ v. let f : at + 1 ≡ n = omega (arith, long, x, y, s) in rw f (over-point u n (byte t (k + 1)) o a))
+          (either (k + 1) q)
+  form-copied {t} {p} {q} {u} {m} {n} c i w o (mark {k = k} a e) = mark {k = k} (w .there) (rw (w .same) e)
 
   -- none of its bytes is a blank
   pub form-solid : {t : List ℕ} {p q : ℕ} (c : Content) → IsToken c → Form voc t p q c → (i : ℕ) → p ≤ i → i < q → is-blank (byte t i) ≡ false
@@ -183,10 +221,6 @@ module _ {voc : Vocabulary} (laws : Laws voc) where
       (solid (slice p q t) (mark-whole (slice p q t) k e) (i - p) (omega (arith, length-slice p q t (a .inside))))
 
   -- ---- and nothing longer
-
-  -- a blank or the end stands at n
-  abbrev pub Over : List ℕ → ℕ → Type 0
-  Over u n = n < length u → is-blank (byte u n) ≡ true
 
   module _ {u : List ℕ} {m n : ℕ} (c : Content) (i : IsToken c) (f : Form voc u m n c) (over : Over u n) where
     -- a token's form is one byte where two bytes begin a comment, so the second of them is the blank
@@ -233,5 +267,5 @@ module _ {voc : Vocabulary} (laws : Laws voc) where
   pub alone : {t : List ℕ} {p q : ℕ} {u : List ℕ} {m n : ℕ} (k v : ℕ) → Form voc t p q (token k v) → Copied t p q u m n → Over u n
       → Piece voc u m n (token k v)
   alone k v f w over =
-      let g = form-copied (token k v) tt w f in
+      let g = form-copied (token k v) tt w over f in
       record { form = g; longest = longest (token k v) tt g over }

@@ -9,16 +9,17 @@ use mathlib.Core.Option.{Option, none, some}
 use mathlib.Core.Path.{_≡_, refl, sym, _∙_, ap, subst}
 use native.Mathlib.Omega.{arith}
 use Prim.Native.Nat.{ℕ, zero, suc, _+_, _≤_, _<_}
+use Prim.Native.String.{String}
 use Rattle.language.proofs.Text.Choices.{clash}
 use Rattle.language.proofs.Text.Classes.{digit-of-some, digit-of-ten}
-use Rattle.language.proofs.Text.Marks.{laws-1, slice-two}
+use Rattle.language.proofs.Text.Marks.{Laws, slice-two}
 use Rattle.language.proofs.Text.Pieces.{Tells, number-piece, based-piece}
 use Rattle.language.proofs.Text.Runs.{Run}
 use Rattle.language.proofs.Text.Spellings.{byte-inside}
 use Rattle.language.proofs.Text.Tables.{kind-of, row, every, every-row, found, no-kind}
 use Rattle.language.specs.Text.{byte, is-digit, is-digit-of, is-hex-digit, worth, Piece, number-from}
 use Rattle.language.specs.Text.Content.{token}
-use Rattle.language.specs.Tokens.{Spelling, same, EDITION-1, bases, spelled, NUMBER}
+use Rattle.language.specs.Tokens.{Spelling, same, Entry, Vocabulary, bases, spelled, NUMBER}
 
 -- ---- the base that is told
 
@@ -80,27 +81,34 @@ told s base b e d = go (spelled bases s) e
 
 -- ---- the digits of a number
 
--- from `from` on the digits of the number at p stand, over this base
-pub record Digits (t : List ℕ) (p from base : ℕ) : Type 0 where
+-- by a vocabulary, from `from` on the digits of the number at p stand, over this base
+pub record Digits (voc : Vocabulary) (t : List ℕ) (p from base : ℕ) : Type 0 where
   pub within : from ≤ length t
   pub low : 0 < base
   pub high : base ≤ 16
-  -- a decimal one if no point follows
-  pub piece : (q : ℕ) → Run (is-digit-of base) t from q → (from ≡ p → byte t q ≡ 46 → ⊥)
-      → Piece EDITION-1 t p q (token NUMBER (number-from base 0 (slice from q t)))
+  -- a decimal one if no point of its own follows
+  pub piece : (q : ℕ) → Run (is-digit-of base) t from q → (from ≡ p → voc .points (byte t (q + 1)) ≡ true → byte t q ≡ 46 → ⊥)
+      → Piece voc t p q (token NUMBER (number-from base 0 (slice from q t)))
 
-module _ (t : List ℕ) (p base : ℕ) (e : base ≡ base-told (byte t p ∷ byte t (p + 1) ∷ [])) where
+-- the bases are the same in every edition
+module _ {voc : Vocabulary} (laws : Laws voc) (shared : voc .bases ≡ bases) (t : List ℕ) (p base : ℕ)
+    (e : base ≡ base-told (byte t p ∷ byte t (p + 1) ∷ [])) where
+  -- the two bytes at p tell this base
+  abbrev Told : List (Entry String ℕ) → ℕ → Type 0
+  Told rows n = spelled rows (slice p (p + 2) t) ≡ some n
+
   there : (n : ℕ) → is-digit-of n (byte t (p + 2)) ≡ true → p + 2 < length t
   there n d = byte-inside t (p + 2) (byte t (p + 2)) refl (digit-of-some n (byte t (p + 2)) d)
 
   -- where a digit of the base that is told stands behind the two bytes
-  pub told-digits : is-digit-of base (byte t (p + 2)) ≡ true → Digits t p (p + 2) base
+  pub told-digits : is-digit-of base (byte t (p + 2)) ≡ true → Digits voc t p (p + 2) base
   told-digits d =
       let l = there base d in
       let s = told (byte t p ∷ byte t (p + 1) ∷ []) base (byte t (p + 2)) e d in
-      let tells : Tells laws-1 t p base = (rw (slice-two t p (omega arith)) s, d) in
+      let tells : Tells laws t p base =
+      (subst (λ (rows : List (Entry String ℕ)). Told rows base) (sym shared) (rw (slice-two t p (omega arith)) s), d) in
       let high = small (byte t p ∷ byte t (p + 1) ∷ []) base s in
-      record { within = omega arith; low = positive d; high = high; piece = λ q r n. based-piece laws-1 t p base q tells r }
+      record { within = omega arith; low = positive d; high = high; piece = λ q r n. based-piece laws t p base q tells r }
     where
       positive : is-digit-of base (byte t (p + 2)) ≡ true → 0 < base
       positive d = go base d
@@ -110,20 +118,21 @@ module _ (t : List ℕ) (p base : ℕ) (e : base ≡ base-told (byte t p ∷ byt
           go (suc n) x = omega arith
 
   -- where none does, the number is decimal
-  pub untold-digits : p < length t → is-digit (byte t p) ≡ true → is-digit-of base (byte t (p + 2)) ≡ false → Digits t p p 10
+  pub untold-digits : p < length t → is-digit (byte t p) ≡ true → is-digit-of base (byte t (p + 2)) ≡ false → Digits voc t p p 10
   unfolding base-told
   untold-digits h b d =
       record {
         within = omega arith;
         low = omega arith;
         high = omega arith;
-        piece = λ q r n. number-piece laws-1 t p q h b none-told (λ x. n refl (x .1)) (decimal r);
+        piece = λ q r n. number-piece laws t p q h b none-told (λ x. n refl (x .0) (x .1)) (decimal r);
       }
     where
-      none-told : (n : ℕ) → Tells laws-1 t p n → ⊥
+      none-told : (n : ℕ) → Tells laws t p n → ⊥
       none-told n x =
           let l = there n (x .1) in
-          let s : spelled bases (byte t p ∷ byte t (p + 1) ∷ []) ≡ some n = rw (slice-two t p (omega arith)) at (x .0) in
+          let y : Told bases n = subst (λ (rows : List (Entry String ℕ)). Told rows n) shared (x .0) in
+          let s : spelled bases (byte t p ∷ byte t (p + 1) ∷ []) ≡ some n = rw (slice-two t p (omega arith)) at y in
           let z : base ≡ n = e ∙ ap or-none s in
           clash (x .1) (subst (λ m. is-digit-of m (byte t (p + 2)) ≡ false) z d)
 

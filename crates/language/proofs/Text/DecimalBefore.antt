@@ -34,11 +34,11 @@ use Rattle.language.specs.Tokens.{Spelling, spell, same, Vocabulary, EDI
 
 -- the vocabulary of that time
 abbrev pub DECIMAL : Vocabulary
-DECIMAL = record { words = words; marks = marks; bases = []; points = true }
+DECIMAL = record { words = words; marks = marks; bases = []; points = λ _. true }
 
 pub laws-then : Laws DECIMAL
 unfolding every
-laws-then = record { shapes = laws-1 .shapes; leads = refl }
+laws-then = record { shapes = laws-1 .shapes; leads = refl; loose = λ a b p q. refl; last = λ a p. refl }
 
 -- ---- what begins like a number in a base is no word
 

@@ -1,4 +1,4 @@
--- The executable twin at the one vocabulary there is, for those who do not name it.
+-- The executable twin in edition 1, for those who do not name one.
 use mathlib.Core.List.{List}
 use mathlib.Core.Path.{_≡_}
 use Prim.Native.Nat.{ℕ}
@@ -6,8 +6,7 @@ use Rattle.language.proofs.Text.Marks.{laws-1}
 use Rattle.language.proofs.Text.Scanner as Scanner
 pub use Rattle.language.proofs.Text.Scanner.{Result}
 pub use Rattle.language.proofs.Text.Scanner.Result.{split, flawed}
-use Rattle.language.specs.Edition.{Splits, Flawed}
-use Rattle.language.specs.Text.{Flaw}
+use Rattle.language.specs.Text.{Flaw, Splits, Flawed}
 use Rattle.language.specs.Tokens.{EDITION-1, Token}
 
 -- the answer for a text
@@ -30,11 +29,11 @@ unfolding scan
 computed t r e = Scanner.computed laws-1 t r e
 
 -- a split of the text is the answer
-pub split-scanned : {t : List ℕ} {ts : List Token} → Splits t ts → scan t ≡ split ts
+pub split-scanned : {t : List ℕ} {ts : List Token} → Splits EDITION-1 t ts → scan t ≡ split ts
 unfolding scan
 split-scanned s = Scanner.split-scanned laws-1 s
 
 -- a flaw of the text is the answer
-pub flaw-scanned : {t : List ℕ} {f : Flaw} {p : ℕ} → Flawed t f p → scan t ≡ flawed f p
+pub flaw-scanned : {t : List ℕ} {f : Flaw} {p : ℕ} → Flawed EDITION-1 t f p → scan t ≡ flawed f p
 unfolding scan
 flaw-scanned s = Scanner.flaw-scanned laws-1 s

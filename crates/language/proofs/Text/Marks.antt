@@ -1,5 +1,5 @@
 -- What the theorems on texts ask of a vocabulary, which is little and of its marks and bases alone; and that today's has it.
-use borrow.Author.Tests.{ltb-true, not-true, eq-eqb}
+use borrow.Author.Tests.{ltb-true, not-true, eq-eqb, eqb-true}
 use lib.Dec.{eqb, ltb}
 use lib.ListN.{length}
 use lib.Seq.{slice, slice-cons, slice-empty}
@@ -14,7 +14,7 @@ use Rattle.language.proofs.Text.Choices.{clash, and-both}
 use Rattle.language.proofs.Text.Spellings.{byte-inside}
 use Rattle.language.proofs.Text.Tables.{spelling-of, every, passes}
 use Rattle.language.specs.Text.{byte, Stands, between, is-blank, is-letter, is-digit}
-use Rattle.language.specs.Tokens.{Spelling, Vocabulary, EDITION-1, spelled}
+use Rattle.language.specs.Tokens.{Spelling, Vocabulary, EDITION-1, EDITION-2, spelled}
 
 -- ---- the shape of a mark
 
@@ -92,11 +92,28 @@ led (a ∷ b ∷ s) = is-digit a && is-letter b
 pub record Laws (voc : Vocabulary) : Type 0 where
   pub shapes : every (λ r. shaped (spelling-of r)) (voc .marks) ≡ true
   pub leads : every (λ r. led (spelling-of r)) (voc .bases) ≡ true
+  -- where a number may have a point at all, a blank or the end may follow it
+  pub loose : (a b : ℕ) → voc .points a ≡ true → is-blank b ≡ true → voc .points b ≡ true
+  pub last : (a : ℕ) → voc .points a ≡ true → voc .points 0 ≡ true
 
 -- those of today
 pub laws-1 : Laws EDITION-1
 unfolding shaped led every is-plain unbroken is-blank is-letter is-digit between
-laws-1 = record { shapes = refl; leads = refl }
+laws-1 = record { shapes = refl; leads = refl; loose = λ a b p q. refl; last = λ a p. refl }
+
+-- a blank is no point
+blank-loose : (b : ℕ) → is-blank b ≡ true → not (eqb b 46) ≡ true
+unfolding is-blank
+blank-loose b h = by (eqb b 46) refl
+  where
+    by : (x : Bool) → eqb b 46 ≡ x → not x ≡ true
+    by false e = refl
+    by true e = let z : b ≡ 46 = eqb-true b 46 e in absurd (false≢true (rw z at h))
+
+-- those of edition 2
+pub laws-2 : Laws EDITION-2
+unfolding shaped led every is-plain is-blank is-letter is-digit between
+laws-2 = record { shapes = refl; leads = refl; loose = λ a b p q. blank-loose b q; last = λ a p. refl }
 
 -- two bytes of a text
 pub slice-two : (t : List ℕ) (p : ℕ) → p + 2 ≤ length t → slice p (p + 2) t ≡ byte t p ∷ byte t (p + 1) ∷ []

@@ -114,7 +114,7 @@ module _ {voc : Vocabulary} (laws : Laws voc) {t : List ℕ} where
       subst₂ (λ a b. Later voc t q us a b) (z .0) (z .1) l
 
   -- of two places that are reached the later one is reached from the other
-  onward : {p q : ℕ} {ts us : List Token} → Reaches voc t p ts → Reaches voc t q us → p ≤ q → Later voc t q us p ts
+  pub onward : {p q : ℕ} {ts us : List Token} → Reaches voc t p ts → Reaches voc t q us → p ≤ q → Later voc t q us p ts
   onward start b h = from-start b here
   onward {p = e} (skip {p = p} {ts = ts} a x) b h =
       let s : Step voc t p ts e ts = over x refl in

@@ -82,7 +82,7 @@ module _ {voc : Vocabulary} (laws : Laws voc) (t : List ℕ) (p : ℕ) where
 
   -- a point stands at q, where points are allowed
   abbrev pub Points : ℕ → Type 0
-  Points q = (voc .points ≡ true) × (byte t q ≡ 46)
+  Points q = (voc .points (byte t (q + 1)) ≡ true) × (byte t q ≡ 46)
 
   -- from a digit on, where no base is told, the longest run of digits is a number if no point follows
   pub number-piece : (q : ℕ) → p < length t → is-digit (byte t p) ≡ true → ((base : ℕ) → Tells base → ⊥) → (Points q → ⊥) → Run is-digit t p q
@@ -96,7 +96,7 @@ module _ {voc : Vocabulary} (laws : Laws voc) (t : List ℕ) (p : ℕ) where
       ends : (e : ℕ) (d : Content) → View voc t p e d digits → e ≤ q
       ends e d (inl x) = run-longest r (x .0)
       ends e d (inr (inl x)) = absurd (n (x .base) (based-tells x))
-      ends e d (inr (inr x)) = absurd (m (x .has, subst (λ k. byte t k ≡ 46) (pointed-end r x) (x .dot)))
+      ends e d (inr (inr x)) = absurd (m (subst Points (pointed-end r x) (x .has, x .dot)))
 
   -- and a float number if one follows, with the digits behind it
   pub float-piece : (m q : ℕ) → p < length t → is-digit (byte t p) ≡ true → Run is-digit t p m → Points m → Run is-digit t (m + 1) q

@@ -123,7 +123,7 @@ pub record Based (voc : Vocabulary) (t : List ℕ) (p q : ℕ) (c : Content) : T
 -- digits with a point among them
 pub record Pointed (voc : Vocabulary) (t : List ℕ) (p q : ℕ) (c : Content) : Type 0 where
   pub point : ℕ
-  pub has : voc .points ≡ true
+  pub has : voc .points (byte t (point + 1)) ≡ true
   pub some : p < point
   pub first : Each is-digit t p point
   pub dot : byte t point ≡ 46

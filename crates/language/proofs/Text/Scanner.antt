@@ -119,15 +119,15 @@ number-seen : ℕ → List ℕ → ℕ → ℕ → Seen
 number-seen base t p q = seen q (token NUMBER (number-from base 0 (slice p q t)))
 
 -- digits up to m, and maybe a point
-decimal-seen : Bool → List ℕ → ℕ → ℕ → Seen
+decimal-seen : (ℕ → Bool) → List ℕ → ℕ → ℕ → Seen
 decimal-seen points t p m =
-    elim (points && eqb (byte t m) 46) [
+    elim (points (byte t (m + 1)) && eqb (byte t m) 46) [
       | true ↦ (let q = run-from is-digit t (m + 1) in seen q (float-content (q - p)))
       | false ↦ number-seen 10 t p m
     ]
 
 -- the number at p, whose first two bytes tell a base or none
-digits-seen : Bool → List ℕ → ℕ → Option ℕ → Seen
+digits-seen : (ℕ → Bool) → List ℕ → ℕ → Option ℕ → Seen
 digits-seen points t p none = decimal-seen points t p (run-from is-digit t p)
 digits-seen points t p (some base) =
     elim (is-digit-of base (byte t (p + 2))) [
@@ -167,8 +167,8 @@ module _ {voc : Vocabulary} (laws : Laws voc) (t : List ℕ) (p : ℕ) (h : p < 
   decimal-is b n =
       let m = run-from is-digit t p in
       let r = run is-digit t p (omega arith) in
-      choose (Seen-is voc t p) (voc .points && eqb (byte t m) 46) _ _
-      (λ x. let y = and-both (voc .points) (eqb (byte t m) 46) x in
+      choose (Seen-is voc t p) (voc .points (byte t (m + 1)) && eqb (byte t m) 46) _ _
+      (λ x. let y = and-both (voc .points (byte t (m + 1))) (eqb (byte t m) 46) x in
       let dot = eqb-true (byte t m) 46 (y .1) in
       let l = byte-inside t m 46 dot (omega arith) in
       float-piece laws t p m (run-from is-digit t (m + 1)) h b r (y .0, dot) (run is-digit t (m + 1) (omega arith)))

@@ -8,11 +8,11 @@ use Rattle.language.specs.Trees.{Ty, Exp, Exps, Param, Def, Program, Sco
 use Rattle.language.specs.Grammar.{program, formals, params, Reads, Reading, program-seq, program-def}
 use Rattle.language.specs.Grammar.{def-is, formals-none, formals-some, params-one, params-more}
 use Rattle.language.specs.Types.{Sig}
-use Rattle.language.specs.Faults.{Reason, Fault, f-name, f-unary, f-unary-here, f-left, f-right, f-binary-here, f-first, f-second}
-use Rattle.language.specs.Faults.{f-follow-here, f-group, f-block, f-arguments, f-no-function, f-wrong-number, f-wrong-argument}
-use Rattle.language.specs.Faults.{f-bound, f-inside, f-if, f-then, f-else, f-if-here, f-branches-here, f-while, f-do, f-while-here}
-use Rattle.language.specs.Faults.{f-do-here, FaultAll, f-one, f-rest, FaultTakes, p-ninth, p-twice, p-refs, p-later, FaultDef, d-many}
-use Rattle.language.specs.Faults.{d-twice, d-params, d-refs, d-body, d-type, FaultFrom, fault-main, fault-here, fault-later, HasFault}
+use Rattle.language.specs.Faults.{Reason, Fault, f-name, f-unary, f-unary-here, f-left, f-right, f-binary-here, f-first, f-second, f-follow-here}
+use Rattle.language.specs.Faults.{f-group, f-block, f-arguments, f-no-function, f-wrong-number, f-wrong-argument, f-bound, f-inside, f-if}
+use Rattle.language.specs.Faults.{f-then, f-else, f-if-here, f-branches-here, f-while, f-do, f-while-here, f-do-here, FaultAll, f-one, f-rest}
+use Rattle.language.specs.Faults.{FaultTakes, p-ninth, p-twice, p-refs, p-later, FaultDef, d-many, d-twice, d-params, d-refs, d-body, d-type}
+use Rattle.language.specs.Faults.{FaultFrom, fault-main, fault-here, fault-later, HasFault, f-bounds, f-pass, f-bounds-here, f-pass-here}
 use Rattle.language.proofs.Grammar.FirstTokens.{grows}
 use Rattle.language.proofs.Grammar.OwnTokens.{Own, owns, all-owns, def-owns, program-owns, All, first, rest, front, back, all-same}
 use Rattle.language.proofs.Grammar.OwnOnce.{own-inside}
@@ -89,6 +89,10 @@ module _ (P : ℕ → Type 0) where
       fault-own (f-do {c = c} a p) m = fault-own p (back (owns c) _ (rest m))
       fault-own (f-while-here a b c) m = first m
       fault-own (f-do-here a b c) m = first m
+      fault-own (f-bounds {es = es} p) m = fault-owns p (front (all-owns es) _ (rest m))
+      fault-own (f-pass {es = es} a p) m = fault-own p (back (all-owns es) _ (rest m))
+      fault-own (f-bounds-here a b c) m = first m
+      fault-own (f-pass-here a b c d) m = first m
 
       fault-owns : {Γ : Scope Ty} {es : Exps} {r : Reason} {n : ℕ} → FaultAll Δ Γ es r n → Owned (all-owns es) → P n
       fault-owns (f-one {e = e} p) m = fault-own p (front (owns e) _ m)

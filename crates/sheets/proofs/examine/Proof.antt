@@ -1,33 +1,18 @@
+-- `examine` goes by what the number names.
 use borrow.Author.Needs.{needs}
-use Rattle.sheets.proofs.Layers.{whole-standing, whole-read, examined-tokens, examined-flaw, examined-long}
+use Rattle.tokens.specs.Shown.{shown}
+use Rattle.sheets.proofs.Layers.{examined-known, examined-unknown}
 use Rattle.sheets.proofs.examine.Statement.{statement}
 use Rattle.sheets.proofs.examine.Tie as tie
 
-split-requires : tie.Need-split-requires
-split-requires c κs = search needs
+named-requires : tie.Need-named-requires
+named-requires c κs = search needs
 
-enum-known-count : tie.Need-enum-known-count
-enum-known-count c = search needs
+enum-known-known : tie.Need-enum-known-known
+enum-known-known c = search needs
 
-read-requires : tie.Need-read-requires
-read-requires c κs =
-    let at-split = c .before .before .before .before .before .before in
-    let start = at-split .before .before .before .before .before in
-    whole-standing _ _ _ (start .pre) _ _ (at-split .split .ensures) (c .before .before .count .given .1)
-
-len-requires : tie.Need-len-requires
-len-requires c κs = search needs
-
-placed-requires : tie.Need-placed-requires
-placed-requires c κs =
-    let at-read = c .before .before .before .before in
-    let at-count = at-read .before .before .before in
-    let at-split = at-count .before .before .before .before in
-    let start = at-split .before .before .before .before .before in
-    whole-read _ _ _ (start .pre) _ _ _ _ (at-split .split .ensures) (at-count .count .given .1) (at-read .read .ensures)
-
-enum-known-flaw : tie.Need-enum-known-flaw
-enum-known-flaw c = search needs
+examine-in-requires : tie.Need-examine-in-requires
+examine-in-requires c κs = search needs
 
 enum-told : tie.Need-enum-told
 enum-told c = search needs
@@ -37,45 +22,29 @@ same-length c = search needs
 
 returns : tie.Need-returns
 returns c =
-    let at-read = c .before .before .before .before .before in
-    let at-count = at-read .before .before .before in
-    let at-split = at-count .before .before .before .before in
-    let start = at-split .before .before .before .before .before in
-    examined-tokens _ _ _ (start .pre) _ _ _ _ _ _ (at-split .split .ensures) (at-count .count .given .1) (at-read .read .ensures)
-    (c .before .before .len .ensures) (c .placed .ensures)
-
-same-length-2 : tie.Need-same-length-2
-same-length-2 c = search needs
+    let at-in = c .before .before in
+    let at-known = at-in .before .before .before in
+    let at-named = at-known .before .before in
+    let a = at-named .before .before .before .before .args in
+    let source = shown (a .first .now) (a .second .now) (a .view) in
+    examined-known (a .edition) source _ _ (at-named .named .result) _ _ (at-named .named .ensures) (at-known .known .given .1)
+    (at-in .examine-in .ensures)
 
 returns-2 : tie.Need-returns-2
 returns-2 c =
-    let at-split = c .before .before .before .before .before in
-    let start = at-split .before .before .before .before .before in
-    examined-flaw _ _ _ (start .pre) _ _ _ (at-split .split .ensures) (c .before .flaw .given .1)
-
-same-length-3 : tie.Need-same-length-3
-same-length-3 c = search needs
-
-returns-3 : tie.Need-returns-3
-returns-3 c =
-    let at-split = c .before .before .before .before in
-    let start = at-split .before .before .before .before .before in
-    examined-long _ _ _ (start .pre) _ (at-split .split .ensures) (c .enum-told .given .1)
+    let at-named = c .before .before in
+    let a = at-named .before .before .before .before .args in
+    let source = shown (a .first .now) (a .second .now) (a .view) in
+    examined-unknown (a .edition) source _ (at-named .named .result) (at-named .named .ensures) (c .enum-told .given .1)
 
 pub examine-spec : {M : Type 1} → statement M
 examine-spec =
     tie.close
     (tie.spec
-    split-requires
-    enum-known-count
-    read-requires
-    len-requires
-    placed-requires
-    enum-known-flaw
+    named-requires
+    enum-known-known
+    examine-in-requires
     enum-told
     same-length
     returns
-    same-length-2
-    returns-2
-    same-length-3
-    returns-3)
+    returns-2)

@@ -10,22 +10,28 @@ use Rattle.language.proofs.Text.OneSplit.{reached-inside}
 use Rattle.language.specs.Sizes.{SOURCE, TABLE}
 use Rattle.language.specs.Text.Flaw.{many-tokens}
 use Rattle.language.specs.Text.Wrong.{many}
+use Rattle.language.specs.Tokens.{Vocabulary}
 use Rattle.tokens.proofs.split.Statement.{statement}
 use Rattle.tokens.proofs.split.Tie as tie
 use Rattle.tokens.proofs.Splitting.{Reached, reached-none, reached-length, reached-skip}
 use Rattle.tokens.proofs.Splitting.{reached-broken, reached-whole, reached-spans, reached-next}
+use Rattle.tokens.specs.Editions.{meant}
 use Rattle.tokens.specs.Found.{IsPiece, IsToken}
 use Rattle.tokens.specs.Shown.{shown}
 
 abbrev Inv-loop : tie.InvT-loop
-Inv-loop first second view table₀ size at₀ count₀ table at count = Reached (shown first second view) table₀ table at count
+Inv-loop edition first second view table₀ size at₀ count₀ table at count = Reached (meant edition) (shown first second view) table₀ table at count
 
 abbrev μ-loop : tie.MeasureT-loop
-μ-loop first second view table₀ size at₀ count₀ table at count = size - at
+μ-loop edition first second view table₀ size at₀ count₀ table at count = size - at
 
 -- the text, from the loop's head
 abbrev text : tie.At-loop Inv-loop μ-loop → List ℕ
 text h = let a = h .before .before .before .before .before .before .args in shown (a .first .now) (a .second .now) (a .view)
+
+-- the words and marks
+abbrev voc : tie.At-loop Inv-loop μ-loop → Vocabulary
+voc h = meant (h .before .before .before .before .before .before .args .edition)
 
 -- it is not too long
 short : (h : tie.At-loop Inv-loop μ-loop) → length (text h) ≤ SOURCE
@@ -36,12 +42,12 @@ abbrev Held : tie.After-kind Inv-loop μ-loop → Type 0
 Held c =
     let h = c .before .before .before .before in
     let v = c .kind .given .0 in
-    IsToken (text h) (h .loop .at) (v .0) (v .1 .0) (v .1 .1 .0)
+    IsToken (voc h) (text h) (h .loop .at) (v .0) (v .1 .0) (v .1 .1 .0)
 
 held : (c : tie.After-kind Inv-loop μ-loop) → Held c
 held c =
     let h = c .before .before .before .before in
-    subst (IsPiece (text h) (h .loop .at)) (c .kind .given .1) (c .before .before .piece-at .ensures)
+    subst (IsPiece (voc h) (text h) (h .loop .at)) (c .kind .given .1) (c .before .before .piece-at .ensures)
 
 -- it has bytes, and lies in the text
 bounds : (c : tie.After-kind Inv-loop μ-loop)
@@ -69,7 +75,7 @@ loop-less c =
     let t = text h in
     let l = h .loop in
     let piece = c .before .before .before .piece-at .ensures in
-    let x = subst (IsPiece t (l .at)) (c .before .end .given .1) piece in
+    let x = subst (IsPiece (voc h) t (l .at)) (c .before .end .given .1) piece in
     omega (arith, form-bounds t (l .at) _ _ (x .form) .0, c .before .before .before .before .loop-test .taken)
 
 loop-again : tie.Need-loop-again Inv-loop μ-loop
@@ -78,7 +84,7 @@ loop-again c =
     let t = text h in
     let l = h .loop in
     let piece = c .before .before .before .piece-at .ensures in
-    let x = subst (IsPiece t (l .at)) (c .before .end .given .1) piece in
+    let x = subst (IsPiece (voc h) t (l .at)) (c .before .end .given .1) piece in
     reached-skip (l .inv) x
 
 enum-known-kind : tie.Need-enum-known-kind Inv-loop μ-loop
@@ -160,7 +166,7 @@ returns-3 : tie.Need-returns-3 Inv-loop μ-loop
 returns-3 c =
     let h = c .before .before .before .before .before in
     let l = h .loop in
-    let wrong = subst (IsPiece (text h) (l .at)) (c .before .flaw .given .1) (c .before .before .before .piece-at .ensures) in
+    let wrong = subst (IsPiece (voc h) (text h) (l .at)) (c .before .flaw .given .1) (c .before .before .before .piece-at .ensures) in
     reached-broken (l .inv) _ (short h) (λ ts e. wrong ts)
 
 same-length-3 : tie.Need-same-length-3 Inv-loop μ-loop

@@ -82,26 +82,36 @@ same-requires-8 c κs = search needs
 returns-8 : tie.Need-returns-8
 returns-8 c = c .before .same8 .ensures .0 (c .if8 .taken)
 
+slice-aggregate-same-9 : tie.Need-slice-aggregate-same-9
+slice-aggregate-same-9 c = search needs
+
+same-requires-9 : tie.Need-same-requires-9
+same-requires-9 c κs = search needs
+
+returns-9 : tie.Need-returns-9
+returns-9 c = c .before .same9 .ensures .0 (c .if9 .taken)
+
 is-option-requires : tie.Need-is-option-requires
 is-option-requires c κs = search needs
 
-returns-9 : tie.Need-returns-9
-returns-9 c = sym (c .before .is-option .ensures) ∙ (c .if9 .taken)
-
 returns-10 : tie.Need-returns-10
-returns-10 c =
-    let at-option = c .before .before in
-    let at-rest = at-option .before .before .before in
+returns-10 c = sym (c .before .is-option .ensures) ∙ (c .if10 .taken)
+
+returns-11 : tie.Need-returns-11
+returns-11 c =
+    let at-rest = c .before .before in
     let at-version = at-rest .before .before .before in
     let at-help = at-version .before .before .before in
-    let at-report = at-help .before .before .before in
-    let at-write = at-report .before .before .before in
+    let at-edition = at-help .before .before .before in
+    let at-report = at-edition .before .before .before in
+    let at-whole = at-report .before .before .before in
+    let at-write = at-whole .before .before .before in
     let at-run = at-write .before .before .before in
     let at-check = at-run .before .before .before in (
       apart (at-check .before .same .ensures .1) (at-check .if1 .left),
       apart (at-run .before .same2 .ensures .1) (at-run .if2 .left),
       apart (at-write .before .same3 .ensures .1) (at-write .if3 .left),
-      sym (c .before .is-option .ensures) ∙ (c .if9 .left),
+      sym (c .before .is-option .ensures) ∙ (c .if10 .left),
     )
 
 pub meaning-spec : {M : Type 1} → statement M
@@ -132,6 +142,9 @@ meaning-spec =
     slice-aggregate-same-8
     same-requires-8
     returns-8
-    is-option-requires
+    slice-aggregate-same-9
+    same-requires-9
     returns-9
-    returns-10)
+    is-option-requires
+    returns-10
+    returns-11)

@@ -36,11 +36,17 @@ turned-requires-2 c κs = search needs
 enum-told-4 : tie.Need-enum-told-4
 enum-told-4 c = search needs
 
-unknown-requires : tie.Need-unknown-requires
-unknown-requires c κs = search needs
+turned-requires-3 : tie.Need-turned-requires-3
+turned-requires-3 c κs = search needs
 
 enum-told-5 : tie.Need-enum-told-5
 enum-told-5 c = search needs
+
+unknown-requires : tie.Need-unknown-requires
+unknown-requires c κs = search needs
+
+enum-told-6 : tie.Need-enum-told-6
+enum-told-6 c = search needs
 
 plain-requires : tie.Need-plain-requires
 plain-requires c κs = search needs
@@ -61,10 +67,13 @@ returns-5 : tie.Need-returns-5
 returns-5 c = rw (c .before .enum-told3 .given .1) (c .turned2 .ensures)
 
 returns-6 : tie.Need-returns-6
-returns-6 c = rw (c .before .enum-told4 .given .1) (c .unknown .ensures)
+returns-6 c = rw (c .before .enum-told4 .given .1) (c .turned3 .ensures)
 
 returns-7 : tie.Need-returns-7
-returns-7 c = rw (c .before .enum-told5 .given .1) (c .plain .ensures)
+returns-7 c = rw (c .before .enum-told5 .given .1) (c .unknown .ensures)
+
+returns-8 : tie.Need-returns-8
+returns-8 c = rw (c .before .enum-told6 .given .1) (c .plain .ensures)
 
 pub meant-spec : {M : Type 1} → statement M
 meant-spec =
@@ -81,8 +90,10 @@ meant-spec =
     enum-told-3
     turned-requires-2
     enum-told-4
-    unknown-requires
+    turned-requires-3
     enum-told-5
+    unknown-requires
+    enum-told-6
     plain-requires
     returns
     returns-2
@@ -90,4 +101,5 @@ meant-spec =
     returns-4
     returns-5
     returns-6
-    returns-7)
+    returns-7
+    returns-8)

@@ -21,6 +21,12 @@ named-requires c κs = search needs
 enum-told-3 : tie.Need-enum-told-3
 enum-told-3 c = search needs
 
+in-edition-requires : tie.Need-in-edition-requires
+in-edition-requires c κs = search needs
+
+enum-told-4 : tie.Need-enum-told-4
+enum-told-4 c = search needs
+
 plain-requires : tie.Need-plain-requires
 plain-requires c κs = search needs
 
@@ -37,7 +43,12 @@ returns-2 c =
 returns-3 : tie.Need-returns-3
 returns-3 c =
     let a = c .before .before .before .args in
-    c .plain .ensures ∙ ap (λ (x : Turn). in-turn x (a .asked) (a .word) (a .i)) (sym (c .before .enum-told3 .given .1))
+    c .in-edition .ensures ∙ ap (λ (x : Turn). in-turn x (a .asked) (a .word) (a .i)) (sym (c .before .enum-told3 .given .1))
+
+returns-4 : tie.Need-returns-4
+returns-4 c =
+    let a = c .before .before .before .args in
+    c .plain .ensures ∙ ap (λ (x : Turn). in-turn x (a .asked) (a .word) (a .i)) (sym (c .before .enum-told4 .given .1))
 
 pub take-spec : {M : Type 1} → statement M
 take-spec =
@@ -48,7 +59,10 @@ take-spec =
     enum-told-2
     named-requires
     enum-told-3
+    in-edition-requires
+    enum-told-4
     plain-requires
     returns
     returns-2
-    returns-3)
+    returns-3
+    returns-4)

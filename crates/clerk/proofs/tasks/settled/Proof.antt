@@ -21,6 +21,9 @@ enum-told-2 c = search needs
 enum-told-3 : tie.Need-enum-told-3
 enum-told-3 c = search needs
 
+enum-told-4 : tie.Need-enum-told-4
+enum-told-4 c = search needs
+
 fits-requires-2 : tie.Need-fits-requires-2
 fits-requires-2 c κs = search needs
 
@@ -37,10 +40,13 @@ returns-2 : tie.Need-returns-2
 returns-2 c = search needs
 
 returns-3 : tie.Need-returns-3
-returns-3 c =
+returns-3 c = search needs
+
+returns-4 : tie.Need-returns-4
+returns-4 c =
     let fits = c .before in
     let told = fits .before in
-    rw (told .enum-told3 .given .1) (c .wanted2 .ensures ∙ ap (λ (b : Bool). wanted-if b (told .before .before .args .asked .task)) (fits .fits3 .ensures))
+    rw (told .enum-told4 .given .1) (c .wanted2 .ensures ∙ ap (λ (b : Bool). wanted-if b (told .before .before .args .asked .task)) (fits .fits3 .ensures))
 
 pub settled-spec : {M : Type 1} → statement M
 settled-spec =
@@ -51,8 +57,10 @@ settled-spec =
     wanted-requires
     enum-told-2
     enum-told-3
+    enum-told-4
     fits-requires-2
     wanted-requires-2
     returns
     returns-2
-    returns-3)
+    returns-3
+    returns-4)

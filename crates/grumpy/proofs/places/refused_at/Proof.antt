@@ -22,14 +22,20 @@ enum-told-3 c = search needs
 front-requires-3 : tie.Need-front-requires-3
 front-requires-3 c κs = search needs
 
+enum-told-4 : tie.Need-enum-told-4
+enum-told-4 c = search needs
+
+front-requires-4 : tie.Need-front-requires-4
+front-requires-4 c κs = search needs
+
 enum-known-why : tie.Need-enum-known-why
 enum-known-why c = search needs
 
 spot-at-requires : tie.Need-spot-at-requires
 spot-at-requires c κs = search needs
 
-enum-told-4 : tie.Need-enum-told-4
-enum-told-4 c = search needs
+enum-told-5 : tie.Need-enum-told-5
+enum-told-5 c = search needs
 
 spot-at-requires-2 : tie.Need-spot-at-requires-2
 spot-at-requires-2 c κs = search needs
@@ -40,11 +46,11 @@ enum-known-why-2 c = search needs
 spot-at-requires-3 : tie.Need-spot-at-requires-3
 spot-at-requires-3 c κs = search needs
 
-enum-told-5 : tie.Need-enum-told-5
-enum-told-5 c = search needs
+enum-told-6 : tie.Need-enum-told-6
+enum-told-6 c = search needs
 
-front-requires-4 : tie.Need-front-requires-4
-front-requires-4 c κs = search needs
+front-requires-5 : tie.Need-front-requires-5
+front-requires-5 c κs = search needs
 
 returns : tie.Need-returns
 returns c =
@@ -63,23 +69,28 @@ returns-3 c =
 
 returns-4 : tie.Need-returns-4
 returns-4 c =
-    let a = c .before .before .before .before .before .before .args in
-    told-moved (a .first .now) (a .second .now) (a .why) _ (a .place) _ (c .before .before .why .given .1) (c .spot-at .ensures)
+    let a = c .before .before .before .before .before .args in
+    told-moved (a .first .now) (a .second .now) (a .why) _ (a .place) _ (c .before .enum-told4 .given .1) (c .front4 .ensures)
 
 returns-5 : tie.Need-returns-5
 returns-5 c =
-    let a = c .before .before .before .before .before .args in
-    told-moved (a .first .now) (a .second .now) (a .why) _ (a .place) _ (c .before .enum-told4 .given .1) (c .spot-at2 .ensures)
+    let a = c .before .before .before .before .before .before .args in
+    told-moved (a .first .now) (a .second .now) (a .why) _ (a .place) _ (c .before .before .why .given .1) (c .spot-at .ensures)
 
 returns-6 : tie.Need-returns-6
 returns-6 c =
-    let a = c .before .before .before .before .before .before .args in
-    told-moved (a .first .now) (a .second .now) (a .why) _ (a .place) _ (c .before .before .why2 .given .1) (c .spot-at3 .ensures)
+    let a = c .before .before .before .before .before .args in
+    told-moved (a .first .now) (a .second .now) (a .why) _ (a .place) _ (c .before .enum-told5 .given .1) (c .spot-at2 .ensures)
 
 returns-7 : tie.Need-returns-7
 returns-7 c =
+    let a = c .before .before .before .before .before .before .args in
+    told-moved (a .first .now) (a .second .now) (a .why) _ (a .place) _ (c .before .before .why2 .given .1) (c .spot-at3 .ensures)
+
+returns-8 : tie.Need-returns-8
+returns-8 c =
     let a = c .before .before .before .before .before .args in
-    told-moved (a .first .now) (a .second .now) (a .why) _ (a .place) _ (c .before .enum-told5 .given .1) (c .front4 .ensures)
+    told-moved (a .first .now) (a .second .now) (a .why) _ (a .place) _ (c .before .enum-told6 .given .1) (c .front5 .ensures)
 
 pub refused-at-spec : {M : Type 1} → statement M
 refused-at-spec =
@@ -91,18 +102,21 @@ refused-at-spec =
     front-requires-2
     enum-told-3
     front-requires-3
+    enum-told-4
+    front-requires-4
     enum-known-why
     spot-at-requires
-    enum-told-4
+    enum-told-5
     spot-at-requires-2
     enum-known-why-2
     spot-at-requires-3
-    enum-told-5
-    front-requires-4
+    enum-told-6
+    front-requires-5
     returns
     returns-2
     returns-3
     returns-4
     returns-5
     returns-6
-    returns-7)
+    returns-7
+    returns-8)

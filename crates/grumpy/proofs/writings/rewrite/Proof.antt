@@ -18,7 +18,7 @@ same-length c = search needs
 returns : tie.Need-returns
 returns c =
     let write = c .before .before .before .before .before in
-    rewrote-written _ _ _ _ (write .write .ensures) _ (c .before .long .given .1)
+    rewrote-written _ _ _ _ _ _ (write .write .ensures) _ (c .before .long .given .1)
 
 same-length-2 : tie.Need-same-length-2
 same-length-2 c = search needs
@@ -26,7 +26,7 @@ same-length-2 c = search needs
 returns-2 : tie.Need-returns-2
 returns-2 c =
     let write = c .before .before .before .before in
-    rewrote-long _ _ _ _ (write .write .ensures) (c .enum-told .given .1)
+    rewrote-long _ _ _ _ _ _ (write .write .ensures) (c .enum-told .given .1)
 
 pub rewrite-spec : {M : Type 1} → statement M
 rewrite-spec =

@@ -1,69 +1,35 @@
--- `mark_at` looks for a mark of two bytes, and where there is none for one of one.
+-- `mark_at` goes by the edition.
 use borrow.Author.Needs.{needs}
-use mathlib.Core.List.{List, [], _∷_}
-use mathlib.Core.Path.{_≡_, _∙_, ap, ap₂}
-use native.Mathlib.Omega.{arith}
-use Prim.Native.Nat.{ℕ}
-use Rattle.tokens.proofs.MarkBytes.{ahead, two-most, marked, unmarked, markless}
+use Rattle.tokens.proofs.Editions.{by-edition}
 use Rattle.tokens.proofs.marks.mark_at.Statement.{statement}
 use Rattle.tokens.proofs.marks.mark_at.Tie as tie
-use Rattle.tokens.specs.Found.{mark-kind}
+use Rattle.tokens.specs.Found.{IsMark}
 use Rattle.tokens.specs.Shown.{shown}
 
--- the text
-abbrev text : tie.Start → List ℕ
-text s = shown (s .args .first .now) (s .args .second .now) (s .args .view)
+enum-told : tie.Need-enum-told
+enum-told c = search needs
 
--- where it began
-abbrev start : tie.After-double → tie.Start
-start c = c .before .before .before .before .before
+in-one-requires : tie.Need-in-one-requires
+in-one-requires c κs = search needs
 
-two : (c : tie.After-double) → c .double .result ≡ mark-kind (ahead (text (start c)) (start c .args .at) 2)
-two c = c .double .ensures ∙ ap₂ (λ a b. mark-kind (a ∷ b ∷ [])) (c .before .before .byte .ensures) (c .before .ahead .ensures)
+enum-told-2 : tie.Need-enum-told-2
+enum-told-2 c = search needs
 
-one : (c : tie.After-single)
-    → c .single .result ≡ mark-kind (ahead (text (start (c .before .before))) (start (c .before .before) .args .at) 1)
-one c = c .single .ensures ∙ ap (λ a. mark-kind (a ∷ [])) (c .before .before .before .before .byte .ensures)
-
-byte-requires : tie.Need-byte-requires
-byte-requires c κs = search needs
-
-ahead-requires : tie.Need-ahead-requires
-ahead-requires c κs = omega (arith, c .before .before .before .pre .0)
-
-double-requires : tie.Need-double-requires
-double-requires c κs = search needs
+in-two-requires : tie.Need-in-two-requires
+in-two-requires c κs = search needs
 
 returns : tie.Need-returns
 returns c =
-    let s = start (c .before) in
-    marked (s .pre .0) (s .pre .1) 2 (two-most _ _) (two (c .before)) (c .if1 .taken)
-
-single-requires : tie.Need-single-requires
-single-requires c κs = search needs
+    let a = c .before .before .before .before .before .args in
+    by-edition (λ voc. IsMark voc (shown (a .first .now) (a .second .now) (a .view)) (a .at) (c .in-one .result)) (c .before .enum-told .given .1)
+    (c .in-one .ensures)
 
 returns-2 : tie.Need-returns-2
 returns-2 c =
-    let d = c .before .before in
-    let s = start (d .before) in
-    let shorter = unmarked (s .pre .0) (s .pre .1) 1 (two-most _ _) (two (d .before)) (d .if1 .left) in
-    marked (s .pre .0) (s .pre .1) 1 shorter (one (c .before)) (c .if2 .taken)
-
-returns-3 : tie.Need-returns-3
-returns-3 c =
-    let d = c .before .before in
-    let s = start (d .before) in
-    let shorter = unmarked (s .pre .0) (s .pre .1) 1 (two-most _ _) (two (d .before)) (d .if1 .left) in
-    markless (s .pre .1) (unmarked (s .pre .0) (s .pre .1) 0 shorter (one (c .before)) (c .if2 .left))
+    let a = c .before .before .before .before .before .args in
+    by-edition (λ voc. IsMark voc (shown (a .first .now) (a .second .now) (a .view)) (a .at) (c .in-two .result)) (c .before .enum-told2 .given .1)
+    (c .in-two .ensures)
 
 pub mark-at-spec : {M : Type 1} → statement M
 mark-at-spec =
-    tie.close
-    (tie.spec
-    byte-requires
-    ahead-requires
-    double-requires
-    returns
-    single-requires
-    returns-2
-    returns-3)
+    tie.close (tie.spec enum-told in-one-requires enum-told-2 in-two-requires returns returns-2)

@@ -6,7 +6,7 @@ use mathlib.Core.Path.{_≡_, sym, _∙_, ap, subst}
 use native.Mathlib.Omega.{arith}
 use Prim.Native.Nat.{ℕ}
 use Rattle.language.proofs.Text.Classes.{letter-not-digit}
-use Rattle.language.proofs.Text.Marks.{laws-1}
+use Rattle.language.proofs.Text.Marks.{Laws}
 use Rattle.language.proofs.Text.OnePiece.{form-bounds}
 use Rattle.language.proofs.Text.Pieces.{blank-piece, name-piece, line-piece, comment-piece, open-piece}
 use Rattle.language.proofs.Text.Places.Sort.{others}
@@ -15,10 +15,12 @@ use Rattle.language.proofs.Text.Spellings.{stands-yes, stands-no, two-inside}
 use Rattle.language.specs.Text.Content.{token}
 use Rattle.language.specs.Text.{byte, is-blank, is-letter, is-digit, Piece, Opens, Stands}
 use Rattle.language.specs.Text.Wrong.{strange, opened}
-use Rattle.language.specs.Tokens.{EDITION-1, spell}
+use Rattle.language.specs.Tokens.{Vocabulary, spell}
+use Rattle.tokens.proofs.Editions.{laws-of}
 use Rattle.tokens.proofs.FoundTokens.{plain-token}
 use Rattle.tokens.proofs.pieces.piece_at.Statement.{statement}
 use Rattle.tokens.proofs.pieces.piece_at.Tie as tie
+use Rattle.tokens.specs.Editions.{meant}
 use Rattle.tokens.specs.Found.{IsClose, IsMark}
 use Rattle.tokens.proofs.Views.{shown-long}
 use Rattle.tokens.specs.Shown.{shown}
@@ -32,6 +34,13 @@ place s = s .args .at
 
 abbrev first-byte : tie.Start → ℕ
 first-byte s = byte (text s) (place s)
+
+-- the words and marks, and their laws
+abbrev voc : tie.Start → Vocabulary
+voc s = meant (s .args .edition)
+
+laws : (s : tie.Start) → Laws (voc s)
+laws s = laws-of (s .args .edition)
 
 -- where it began, behind each test that failed
 abbrev start1 : tie.Else1 → tie.Start
@@ -97,8 +106,8 @@ byte-requires c κs = search needs
 is-blank-requires : tie.Need-is-blank-requires
 is-blank-requires c κs = search needs
 
-add-t13 : tie.Need-add-t13
-add-t13 c =
+add-t14 : tie.Need-add-t14
+add-t14 c =
     let s = c .before .before .before .before .before in
     let a = s .args in
     let long = shown-long (a .first .now) (a .second .now) (a .view) in
@@ -107,7 +116,7 @@ add-t13 c =
 returns : tie.Need-returns
 returns c =
     let s = c .before .before .before .before .before in
-    blank-piece laws-1 (text s) (place s) (s .pre)
+    blank-piece (laws s) (text s) (place s) (s .pre)
     (known is-blank (c .before .before .byte .ensures) (c .before .is-blank .ensures) (c .if1 .taken))
 
 is-letter-requires : tie.Need-is-letter-requires
@@ -128,8 +137,8 @@ returns-2 c =
     let letter =
     known is-letter (c .before .before .before .before .before .before .byte .ensures) (c .before .before .before .is-letter .ensures)
     (c .before .before .if2 .taken) in
-    let piece = name-piece laws-1 t p q (s .pre) letter (c .before .name-end .ensures) in
-    plain-token (letter-not-digit _ letter) (subst (λ k. Piece EDITION-1 t p q (token k 0)) (sym (c .word .ensures)) piece)
+    let piece = name-piece (laws s) t p q (s .pre) letter (c .before .name-end .ensures) in
+    plain-token (s .args .edition) (letter-not-digit _ letter) (subst (λ k. Piece (voc s) t p q (token k 0)) (sym (c .word .ensures)) piece)
 
 is-digit-requires : tie.Need-is-digit-requires
 is-digit-requires c κs = search needs
@@ -168,7 +177,7 @@ returns-4 c =
     let s = start3 (c .before .before .before .before) in
     let t = text s in
     let p = place s in
-    line-piece laws-1 t p (c .line-end .result) (line (c .before)) (c .line-end .ensures)
+    line-piece (laws s) t p (c .line-end .result) (line (c .before)) (c .line-end .ensures)
 
 slice-aggregate-stands-at-2 : tie.Need-slice-aggregate-stands-at-2
 slice-aggregate-stands-at-2 c = search needs
@@ -190,7 +199,7 @@ returns-5 c =
     let s = start4 (c .before .before .before .before .before .before .before) in
     let t = text s in
     let p = place s in
-    comment-piece laws-1 t p _ (subst (IsClose t p) (c .before .end .given .1) (c .before .before .before .comment-end .ensures))
+    comment-piece (laws s) t p _ (subst (IsClose t p) (c .before .end .given .1) (c .before .before .before .comment-end .ensures))
 
 returns-6 : tie.Need-returns-6
 returns-6 c =
@@ -198,7 +207,7 @@ returns-6 c =
     let t = text s in
     let p = place s in
     let never = subst (IsClose t p) (c .enum-told .given .1) (c .before .before .comment-end .ensures) in
-    λ ts. opened (open-piece laws-1 t p (opens (c .before .before .before)) never)
+    λ ts. opened (open-piece (laws s) t p (opens (c .before .before .before)) never)
 
 mark-at-requires : tie.Need-mark-at-requires
 mark-at-requires c κs = (start5 c .pre, other c)
@@ -206,12 +215,12 @@ mark-at-requires c κs = (start5 c .pre, other c)
 enum-known-kind : tie.Need-enum-known-kind
 enum-known-kind c = search needs
 
-add-t30 : tie.Need-add-t30
-add-t30 c =
+add-t31 : tie.Need-add-t31
+add-t31 c =
     let s = start5 (c .before .before .before .before) in
     let t = text s in
     let p = place s in
-    let m = subst (IsMark t p) (c .before .kind .given .1) (c .before .before .before .mark-at .ensures) in
+    let m = subst (IsMark (voc s) t p) (c .before .kind .given .1) (c .before .before .before .mark-at .ensures) in
     let a = s .args in
     omega (arith, form-bounds t p _ _ (m .form), shown-long (a .first .now) (a .second .now) (a .view), s .good)
 
@@ -223,15 +232,15 @@ returns-7 c =
     let s = start5 (c .before .before .before .before) in
     let t = text s in
     let p = place s in
-    let piece = subst (IsMark t p) (c .before .kind .given .1) (c .before .before .before .mark-at .ensures) in
-    plain-token (no-digit (c .before .before .before .before .before .before .before .before .before .before)) piece
+    let piece = subst (IsMark (voc s) t p) (c .before .kind .given .1) (c .before .before .before .mark-at .ensures) in
+    plain-token (s .args .edition) (no-digit (c .before .before .before .before .before .before .before .before .before .before)) piece
 
 returns-8 : tie.Need-returns-8
 returns-8 c =
     let s = start5 (c .before .before .before) in
     let t = text s in
     let p = place s in
-    let formless = subst (IsMark t p) (c .enum-told2 .given .1) (c .before .before .mark-at .ensures) in
+    let formless = subst (IsMark (voc s) t p) (c .enum-told2 .given .1) (c .before .before .mark-at .ensures) in
     λ ts. strange (s .pre) formless
 
 pub piece-at-spec : {M : Type 1} → statement M
@@ -240,7 +249,7 @@ piece-at-spec =
     (tie.spec
     byte-requires
     is-blank-requires
-    add-t13
+    add-t14
     returns
     is-letter-requires
     name-end-requires
@@ -263,7 +272,7 @@ piece-at-spec =
     returns-6
     mark-at-requires
     enum-known-kind
-    add-t30
+    add-t31
     enum-told-2
     returns-7
     returns-8)

@@ -6,6 +6,8 @@ use native.Mathlib.Omega.{arith}
 use Prim.Native.Nat.{ℕ, _+_}
 use Rattle.language.proofs.Text.Bases.{base-told, Digits, told-digits, untold-digits}
 use Rattle.language.specs.Text.{byte, is-digit-of}
+use Rattle.tokens.proofs.Editions.{laws-of, shared-bases}
+use Rattle.tokens.specs.Editions.{meant}
 use Rattle.tokens.proofs.worth.digits_at.Statement.{statement}
 use Rattle.tokens.proofs.worth.digits_at.Tie as tie
 use Rattle.tokens.proofs.Views.{shown-long}
@@ -51,14 +53,15 @@ is-digit-of-requires c κs = search needs
 
 -- a base is told
 found : (c : tie.Then1)
-    → Digits (text (start (c .before .before .before))) (place (start (c .before .before .before)))
+    → Digits (meant (start (c .before .before .before) .args .edition)) (text (start (c .before .before .before))) (place (start (c .before .before .before)))
     (place (start (c .before .before .before)) + 2) (c .before .before .before .base-of .result)
 found c =
     let d = c .before .before .before in
-    told-digits (text (start d)) (place (start d)) (d .base-of .result) (base d) (sym (digit (c .before)) ∙ c .if1 .taken)
+    let e = start d .args .edition in
+    told-digits (laws-of e) (shared-bases e) (text (start d)) (place (start d)) (d .base-of .result) (base d) (sym (digit (c .before)) ∙ c .if1 .taken)
 
-add-t9 : tie.Need-add-t9
-add-t9 c =
+add-t10 : tie.Need-add-t10
+add-t10 c =
     let s = c .before .before .before .before .before .before .before .before in
     let a = s .args in
     let long = shown-long (a .first .now) (a .second .now) (a .view) in
@@ -72,7 +75,8 @@ returns-2 c =
     let d = c .before .before .before in
     let s = start d in
     let none = sym (digit (c .before)) ∙ c .if1 .left in
-    (untold-digits (text s) (place s) (d .base-of .result) (base d) (s .pre .0) (s .pre .1) none, λ e. refl)
+    let e = s .args .edition in
+    (untold-digits (laws-of e) (shared-bases e) (text s) (place s) (d .base-of .result) (base d) (s .pre .0) (s .pre .1) none, λ e. refl)
 
 pub digits-at-spec : {M : Type 1} → statement M
 digits-at-spec =
@@ -83,6 +87,6 @@ digits-at-spec =
     base-of-requires
     ahead-requires-2
     is-digit-of-requires
-    add-t9
+    add-t10
     returns
     returns-2)

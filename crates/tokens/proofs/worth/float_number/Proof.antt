@@ -1,6 +1,7 @@
 -- `float_number` goes on behind the point, and counts the bytes.
 use borrow.Author.Needs.{needs}
 use native.Mathlib.Omega.{arith}
+use Rattle.tokens.proofs.Editions.{laws-of}
 use Rattle.tokens.proofs.FoundTokens.{point-inside, float-long, float-decimal, float-token}
 use Rattle.tokens.proofs.worth.float_number.Statement.{statement}
 use Rattle.tokens.proofs.worth.float_number.Tie as tie
@@ -21,13 +22,19 @@ sub-if1 : tie.Need-sub-if1
 sub-if1 c = search needs
 
 returns : tie.Need-returns
-returns c = float-long (c .before .before .before .before .pre) (c .before .digits-end .ensures) (c .if1 .taken)
+returns c =
+    let s = c .before .before .before .before in
+    float-long (laws-of (s .args .edition)) (s .pre) (c .before .digits-end .ensures) (c .if1 .taken)
 
 bits-requires : tie.Need-bits-requires
-bits-requires c κs = float-decimal (c .before .before .before .before .pre) (c .before .digits-end .ensures) (c .if1 .left)
+bits-requires c κs =
+    let s = c .before .before .before .before in
+    float-decimal (laws-of (s .args .edition)) (s .pre) (c .before .digits-end .ensures) (c .if1 .left)
 
 returns-2 : tie.Need-returns-2
-returns-2 c = float-token (c .before .before .before .before .before .pre) (c .before .before .digits-end .ensures) (c .before .if1 .left) (c .bits .ensures)
+returns-2 c =
+    let s = c .before .before .before .before .before in
+    float-token (laws-of (s .args .edition)) (s .pre) (c .before .before .digits-end .ensures) (c .before .if1 .left) (c .bits .ensures)
 
 pub float-number-spec : {M : Type 1} → statement M
 float-number-spec =

@@ -5,12 +5,13 @@ use native.Mathlib.Omega.{arith}
 use Prim.Native.Nat.{_-_}
 use Rattle.language.specs.Text.Content.{token}
 use Rattle.language.specs.Text.{Piece, Wrong}
-use Rattle.language.specs.Tokens.{EDITION-1, NUMBER}
+use Rattle.language.specs.Tokens.{NUMBER}
 use Rattle.tokens.proofs.Digits.{Read, product, read-none, read-hex, read-worth, read-more, read-large, read-all}
 use Rattle.tokens.proofs.FoundTokens.{number-token, point-no, pointed}
 use Rattle.tokens.proofs.worth.number.Statement.{statement}
 use Rattle.tokens.proofs.worth.number.Tie as tie
 use Rattle.tokens.proofs.Views.{shown-long}
+use Rattle.tokens.specs.Editions.{meant}
 use Rattle.tokens.specs.Shown.{shown}
 
 abbrev Inv-loop : tie.InvT-loop
@@ -26,7 +27,7 @@ digits-end-requires : tie.Need-digits-end-requires Inv-loop μ-loop
 digits-end-requires c κs = c .digits-at .ensures .0 .within
 
 takes-point-requires : tie.Need-takes-point-requires Inv-loop μ-loop
-takes-point-requires c κs = search needs
+takes-point-requires c κs = c .digits-end .ensures .within
 
 float-number-requires : tie.Need-float-number-requires Inv-loop μ-loop
 float-number-requires c κs =
@@ -71,7 +72,7 @@ returns-2 c =
     let run = h .before .before .before .digits-end .ensures in
     let test = c .before .before .before .loop-test .taken in
     let large = read-large run (h .loop .inv) test (c .before .before .byte .ensures) (c .before .worth .ensures) (d .ensures .0 .low) (c .if2 .taken) in
-    let none = point-no t (a .at) (d .result .from) q (sym (h .before .before .takes-point .ensures) ∙ h .before .if1 .left) in
+    let none = point-no (meant (a .edition)) t (a .at) (d .result .from) q (sym (h .before .before .takes-point .ensures) ∙ h .before .if1 .left) in
     λ ts. Wrong.large (d .ensures .0 .piece q run none) large
 
 add-i : tie.Need-add-i Inv-loop μ-loop
@@ -99,10 +100,10 @@ returns-3 c =
     let t = shown (a .first .now) (a .second .now) (a .view) in
     let q = c .before .before .before .before .digits-end .result in
     let d = c .before .before .before .before .before .digits-at in
-    let none = point-no t p (d .result .from) q (sym (c .before .before .before .takes-point .ensures) ∙ c .before .before .if1 .left) in
+    let none = point-no (meant (a .edition)) t p (d .result .from) q (sym (c .before .before .before .takes-point .ensures) ∙ c .before .before .if1 .left) in
     let piece = d .ensures .0 .piece q (c .before .before .before .before .digits-end .ensures) none in
     let value = read-all (c .before .before .before .before .digits-end .ensures) (c .before .loop .inv) (c .loop-test .left) in
-    number-token (subst (λ v. Piece EDITION-1 t p q (token NUMBER v)) (sym value) piece) (c .before .loop .inv .small)
+    number-token (subst (λ v. Piece (meant (a .edition)) t p q (token NUMBER v)) (sym value) piece) (c .before .loop .inv .small)
 
 pub number-spec : {M : Type 1} → statement M
 number-spec =

@@ -1,17 +1,30 @@
--- `takes_point` asks where the digits began, and then for the point.
+-- `takes_point` asks where the digits began, then for the point, and then whether it is the number's own.
 use borrow.Author.Needs.{needs}
-use Rattle.tokens.proofs.FoundTokens.{point-none, point-some}
+use Rattle.tokens.proofs.FoundTokens.{point-none, point-other, point-some}
 use Rattle.tokens.proofs.worth.takes_point.Statement.{statement}
 use Rattle.tokens.proofs.worth.takes_point.Tie as tie
 
 returns : tie.Need-returns
-returns c = point-none _ _ _ _ (c .if1 .taken)
+returns c = point-none _ _ _ _ _ (c .if1 .taken)
 
 byte-requires : tie.Need-byte-requires
 byte-requires c κs = search needs
 
 returns-2 : tie.Need-returns-2
-returns-2 c = point-some _ _ _ _ (c .before .if1 .left) (c .byte .ensures)
+returns-2 c = point-other _ _ _ _ _ (c .before .before .if1 .left) (c .before .byte .ensures) (c .if2 .taken)
+
+ahead-requires : tie.Need-ahead-requires
+ahead-requires c κs = search needs
+
+points-requires : tie.Need-points-requires
+points-requires c κs = search needs
+
+returns-3 : tie.Need-returns-3
+returns-3 c =
+    let dot = c .before .before in
+    point-some _ _ _ _ _ (dot .before .before .if1 .left) (dot .before .byte .ensures) (dot .if2 .left) (c .before .ahead .ensures)
+    (c .points .ensures)
 
 pub takes-point-spec : {M : Type 1} → statement M
-takes-point-spec = tie.close (tie.spec returns byte-requires returns-2)
+takes-point-spec =
+    tie.close (tie.spec returns byte-requires returns-2 ahead-requires points-requires returns-3)

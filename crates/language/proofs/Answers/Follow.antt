@@ -1,0 +1,120 @@
+-- An origin follows another where it comes to the tokens that the other comes to, denies what that denies, and tells places
+-- alike. Then every answer of the other is an answer of it; and of two lawful ones each follows the other.
+use mathlib.Core.List.{List}
+use mathlib.Core.Logic.{_⊎_, inl, inr}
+use mathlib.Core.Path.{_≡_, sym, subst, _∙_}
+use Prim.Native.Nat.{ℕ}
+use Rattle.language.specs.Tokens.{Token}
+use Rattle.language.specs.Trees.{Ty, Program}
+use Rattle.language.specs.Numbers.{Refusal}
+use Rattle.language.specs.Answers.{Origin, Spot, at, nowhere, place-in, Passes, Refused, by-origin, by-tokens}
+use Rattle.language.specs.Answers.{CheckReport, check-report, Checked, check-short, check-refused, check-passed, Check}
+use Rattle.language.specs.Answers.{RunReport, Lent, Ran, run-short, run-large, run-refused, run-ended, Run}
+use Rattle.language.specs.Writing.{WriteReport, write-report, Wrote, write-short, write-refused, write-long, write-passed, Write}
+use Rattle.language.proofs.Answers.Origins.{Lawful}
+
+pub record Follows {P : Type 0} (o q : Origin P) : Type 0 where
+  pub gives : {ts : List Token} → o .gives ts → q .gives ts
+  pub denies : {r : Refusal} {x : P} → o .denies r x → q .denies r x
+  pub nowhere : o .nowhere ≡ q .nowhere
+  pub at : (ts : List Token) (i : ℕ) → o .at ts i ≡ q .at ts i
+
+module _ {P : Type 0} {o q : Origin P} (f : Follows o q) where
+  same-spot : (ts : List Token) (s : Spot) → place-in q ts s ≡ place-in o ts s
+  same-spot ts nowhere = sym (f .nowhere)
+  same-spot ts (at i) = sym (f .at ts i)
+
+  pub passes-follow : {ts : List Token} {p : Program} {t : Ty} → Passes o ts p t → Passes q ts p t
+  passes-follow x = record { given = f .gives (x .given); proper = x .proper }
+
+  pub refused-follow : {r : Refusal} {x : P} → Refused o r x → Refused q r x
+  refused-follow (by-origin d) = by-origin (f .denies d)
+  refused-follow (by-tokens {ts} {r} {s} g d) = subst (Refused q r) (same-spot ts s) (by-tokens (f .gives g) d)
+
+  -- ---- check
+
+  check-at : {table : ℕ} (r : CheckReport P) {x y : P} → x ≡ y → Checked q table (check-report (r .told) x (r .type))
+      → Checked q table (check-report (r .told) y (r .type))
+  check-at {table} r e a = subst (λ (x : P). Checked q table (check-report (r .told) x (r .type))) e a
+
+  pub checked-follow : {table : ℕ} {r : CheckReport P} → Checked o table r → Checked q table r
+  checked-follow {r = r} (check-short h) = check-at r (sym (f .nowhere)) (check-short h)
+  checked-follow (check-refused h x) = check-refused h (refused-follow x)
+  checked-follow {r = r} (check-passed h x) = check-at r (sym (f .nowhere)) (check-passed h (passes-follow x))
+
+  -- its contract, the table left included
+  pub check-follow : {table table′ : List ℕ} {r : CheckReport P} → Check o table r table′ → Check q table r table′
+  check-follow x = record { answer = checked-follow (x .answer); table-left = x .table-left }
+
+  -- ---- run
+
+  abbrev at-place : P → RunReport P → RunReport P
+  at-place x r = record { told = r .told; place = x; type = r .type; value = r .value; units = r .units; printed = r .printed }
+
+  run-at : {l : Lent} (r : RunReport P) {bs : List ℕ} {x y : P} → x ≡ y → Ran q l (at-place x r) bs → Ran q l (at-place y r) bs
+  run-at {l} r {bs} e a = subst (λ (x : P). Ran q l (at-place x r) bs) e a
+
+  pub ran-follow : {l : Lent} {r : RunReport P} {bs : List ℕ} → Ran o l r bs → Ran q l r bs
+  ran-follow {r = r} (run-short h) = run-at r (sym (f .nowhere)) (run-short h)
+  ran-follow {r = r} (run-large h a) = run-at r (sym (f .nowhere)) (run-large h a)
+  ran-follow (run-refused h a x) = run-refused h a (refused-follow x)
+  ran-follow {r = r} (run-ended {ts = ts} {e = e} h a x z) =
+      run-at r (same-spot ts (e .spot)) (run-ended h a (passes-follow x) z)
+
+  -- its contract, memories and output included
+  pub run-follow : {table work output table′ work′ output′ : List ℕ} {allowance : ℕ} {r : RunReport P}
+      → Run o table work output allowance r table′ work′ output′ → Run q table work output allowance r table′ work′ output′
+  run-follow x = record {
+    printed = x .printed;
+    answer = ran-follow (x .answer);
+    table-left = x .table-left;
+    work-left = x .work-left;
+    output-left = x .output-left;
+  }
+
+  -- ---- write
+
+  write-at : {table output : ℕ} (r : WriteReport P) {bs : List ℕ} {x y : P} → x ≡ y
+      → Wrote q table output (write-report (r .told) x (r .written)) bs → Wrote q table output (write-report (r .told) y (r .written)) bs
+  write-at {table} {output} r {bs} e a = subst (λ (x : P). Wrote q table output (write-report (r .told) x (r .written)) bs) e a
+
+  pub wrote-follow : {table output : ℕ} {r : WriteReport P} {bs : List ℕ} → Wrote o table output r bs → Wrote q table output r bs
+  wrote-follow {r = r} (write-short h) = write-at r (sym (f .nowhere)) (write-short h)
+  wrote-follow (write-refused h x) = write-refused h (refused-follow x)
+  wrote-follow {r = r} (write-long h x k) = write-at r (sym (f .nowhere)) (write-long h (passes-follow x) k)
+  wrote-follow {r = r} (write-passed h x k) = write-at r (sym (f .nowhere)) (write-passed h (passes-follow x) k)
+
+  -- its contract, table and output included
+  pub write-follow : {table output table′ output′ : List ℕ} {r : WriteReport P} → Write o table output r table′ output′
+      → Write q table output r table′ output′
+  write-follow x = record { text = x .text; answer = wrote-follow (x .answer); table-left = x .table-left; output-left = x .output-left }
+
+-- ---- further, and the other way
+
+pub follows-on : {P : Type 0} {o q s : Origin P} → Follows o q → Follows q s → Follows o s
+follows-on f g = record {
+  gives = λ x. g .gives (f .gives x);
+  denies = λ x. g .denies (f .denies x);
+  nowhere = f .nowhere ∙ g .nowhere;
+  at = λ ts i. f .at ts i ∙ g .at ts i;
+}
+
+module _ {P : Type 0} {o q : Origin P} (law : Lawful o) (law′ : Lawful q) (f : Follows o q) where
+  gives-back : {ts : List Token} → q .gives ts → ((us : List Token) × o .gives us) ⊎ ((r : Refusal) × (x : P) × o .denies r x) → o .gives ts
+  gives-back {ts} g (inl (us, h)) = subst (o .gives) (law′ .one-list us ts (f .gives h) g) h
+  gives-back {ts} g (inr (r, x, d)) = absurd (law′ .never-both ts r x g (f .denies d))
+
+  denies-back : {r : Refusal} {x : P} → q .denies r x → ((us : List Token) × o .gives us) ⊎ ((r : Refusal) × (x : P) × o .denies r x)
+      → o .denies r x
+  denies-back {r} {x} d (inl (us, h)) = absurd (law′ .never-both us r x (f .gives h) d)
+  denies-back {r} {x} d (inr (s, y, e)) =
+      let z = law′ .one-denial s r y x (f .denies e) d in
+      subst (λ (x : P). o .denies r x) (z .1) (subst (λ (r : Refusal). o .denies r y) (z .0) e)
+
+  pub follows-back : Follows q o
+  follows-back = record {
+    gives = λ g. gives-back g (law .some);
+    denies = λ d. denies-back d (law .some);
+    nowhere = sym (f .nowhere);
+    at = λ ts i. sym (f .at ts i);
+  }
