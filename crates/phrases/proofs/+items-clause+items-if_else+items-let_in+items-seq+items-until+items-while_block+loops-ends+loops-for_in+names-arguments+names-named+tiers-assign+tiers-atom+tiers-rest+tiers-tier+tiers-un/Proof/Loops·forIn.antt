@@ -6,7 +6,7 @@ use borrow.Author.Needs.{needs}
 use borrow.Author.Tests.{not-true, not-false}
 use Rattle.language.specs.Grammar.{ranges}
 use Rattle.phrases.proofs.loops.for_in.Reads as loops·for-in
-use Rattle.phrases.proofs.+items-clause+items-if_else+items-let_in+items-seq+items-until+items-while_block+loops-ends+loops-for_in+names-arguments+names-name_or_call+operands-assign+operands-atom+operands-rest+operands-tier+operands-un as readers
+use Rattle.phrases.proofs.+items-clause+items-if_else+items-let_in+items-seq+items-until+items-while_block+loops-ends+loops-for_in+names-arguments+names-named+tiers-assign+tiers-atom+tiers-rest+tiers-tier+tiers-un as readers
 use readers.Lts-loops-for_in as lts
 use readers.Proof.Setup.{loops·for-in-at}
 use readers.Proof.Claims.{loops·for-in-claims}

@@ -3,7 +3,7 @@ ghost use mathlib.Core.Path.{_≡_};
 ghost use Prim.Native.Nat.{_+_, _≤_};
 ghost use Rattle.phrases.specs.Parts.{Room, Yields, Continues, Assign, Tier, Un, Atom};
 use crate::items::until;
-use crate::names::name_or_call;
+use crate::names::named;
 use crate::operators::LEVEL_OR;
 use crate::operators::OPERAND;
 use crate::operators::after;
@@ -138,7 +138,7 @@ fn atom(table: &mut [u32], count: usize, at: usize, free: usize) -> Part
     match k {
         kinds::NUMBER => node(table, free, at + 1, kinds::NUMBER, at, 0, 0, 0),
         kinds::FLOAT_NUMBER => node(table, free, at + 1, kinds::FLOAT_NUMBER, at, 0, 0, 0),
-        kinds::NAME => name_or_call(table, count, at, free),
+        kinds::NAME => named(table, count, at, free),
         kinds::LPAR => {
             let inside = until(table, count, at + 1, free, kinds::RPAR);
             around(table, kinds::LPAR, at, inside)

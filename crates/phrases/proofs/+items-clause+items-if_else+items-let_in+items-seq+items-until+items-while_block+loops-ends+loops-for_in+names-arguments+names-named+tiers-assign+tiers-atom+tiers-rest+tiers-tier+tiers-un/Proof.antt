@@ -11,14 +11,14 @@ mod Items·whileBlock
 mod Loops·ends
 mod Loops·forIn
 mod Names·arguments
-mod Names·nameOrCall
-mod Operands·assign
-mod Operands·atom
-mod Operands·rest
-mod Operands·tier
-mod Operands·un
+mod Names·named
+mod Tiers·assign
+mod Tiers·atom
+mod Tiers·rest
+mod Tiers·tier
+mod Tiers·un
 use Rattle.phrases.proofs.items.clause.Reads as items·clause
-use Rattle.phrases.proofs.+items-clause+items-if_else+items-let_in+items-seq+items-until+items-while_block+loops-ends+loops-for_in+names-arguments+names-name_or_call+operands-assign+operands-atom+operands-rest+operands-tier+operands-un as readers
+use Rattle.phrases.proofs.+items-clause+items-if_else+items-let_in+items-seq+items-until+items-while_block+loops-ends+loops-for_in+names-arguments+names-named+tiers-assign+tiers-atom+tiers-rest+tiers-tier+tiers-un as readers
 use Rattle.phrases.proofs.items.if_else.Reads as items·if-else
 use Rattle.phrases.proofs.items.let_in.Reads as items·let-in
 use Rattle.phrases.proofs.items.seq.Reads as items·seq
@@ -27,29 +27,29 @@ use Rattle.phrases.proofs.items.while_block.Reads as items·while-block
 use Rattle.phrases.proofs.loops.ends.Reads as loops·ends
 use Rattle.phrases.proofs.loops.for_in.Reads as loops·for-in
 use Rattle.phrases.proofs.names.arguments.Reads as names·arguments
-use Rattle.phrases.proofs.names.name_or_call.Reads as names·name-or-call
-use Rattle.phrases.proofs.operands.assign.Reads as operands·assign
-use Rattle.phrases.proofs.operands.atom.Reads as operands·atom
-use Rattle.phrases.proofs.operands.rest.Reads as operands·rest
-use Rattle.phrases.proofs.operands.tier.Reads as operands·tier
-use Rattle.phrases.proofs.operands.un.Reads as operands·un
+use Rattle.phrases.proofs.names.named.Reads as names·named
+use Rattle.phrases.proofs.tiers.assign.Reads as tiers·assign
+use Rattle.phrases.proofs.tiers.atom.Reads as tiers·atom
+use Rattle.phrases.proofs.tiers.rest.Reads as tiers·rest
+use Rattle.phrases.proofs.tiers.tier.Reads as tiers·tier
+use Rattle.phrases.proofs.tiers.un.Reads as tiers·un
 use readers.{statement}
 use readers.Tie.{close}
 use Setup.{μ-items·clause, items·clause-at, μ-items·if-else, items·if-else-at, μ-items·let-in, items·let-in-at, μ-items·seq}
 use Setup.{items·seq-at, μ-items·until, items·until-at, μ-items·while-block, items·while-block-at, μ-loops·ends, loops·ends-at}
-use Setup.{μ-loops·for-in, loops·for-in-at, μ-names·arguments, names·arguments-at, μ-names·name-or-call, names·name-or-call-at}
-use Setup.{μ-operands·assign, operands·assign-at, μ-operands·atom, operands·atom-at, μ-operands·rest, operands·rest-at, μ-operands·tier}
-use Setup.{operands·tier-at, μ-operands·un, operands·un-at}
+use Setup.{μ-loops·for-in, loops·for-in-at, μ-names·arguments, names·arguments-at, μ-names·named, names·named-at}
+use Setup.{μ-tiers·assign, tiers·assign-at, μ-tiers·atom, tiers·atom-at, μ-tiers·rest, tiers·rest-at, μ-tiers·tier}
+use Setup.{tiers·tier-at, μ-tiers·un, tiers·un-at}
 use Claims.{items·clause-claims, items·if-else-claims, items·let-in-claims, items·seq-claims, items·until-claims}
-use Claims.{items·while-block-claims, loops·ends-claims, loops·for-in-claims, names·arguments-claims, names·name-or-call-claims}
-use Claims.{operands·assign-claims, operands·atom-claims, operands·rest-claims, operands·tier-claims, operands·un-claims}
+use Claims.{items·while-block-claims, loops·ends-claims, loops·for-in-claims, names·arguments-claims, names·named-claims}
+use Claims.{tiers·assign-claims, tiers·atom-claims, tiers·rest-claims, tiers·tier-claims, tiers·un-claims}
 
 pub
-    +items·clause+items·if-else+items·let-in+items·seq+items·until+items·while-block+loops·ends+loops·for-in+names·arguments+names·name-or-call+operands·assign+operands·atom+operands·rest+operands·tier+operands·un-spec :
+    +items·clause+items·if-else+items·let-in+items·seq+items·until+items·while-block+loops·ends+loops·for-in+names·arguments+names·named+tiers·assign+tiers·atom+tiers·rest+tiers·tier+tiers·un-spec :
     {M : Type 1} → statement M
-+items·clause+items·if-else+items·let-in+items·seq+items·until+items·while-block+loops·ends+loops·for-in+names·arguments+names·name-or-call+operands·assign+operands·atom+operands·rest+operands·tier+operands·un-spec =
++items·clause+items·if-else+items·let-in+items·seq+items·until+items·while-block+loops·ends+loops·for-in+names·arguments+names·named+tiers·assign+tiers·atom+tiers·rest+tiers·tier+tiers·un-spec =
     close μ-items·clause μ-items·if-else μ-items·let-in μ-items·seq μ-items·until μ-items·while-block μ-loops·ends μ-loops·for-in
-    μ-names·arguments μ-names·name-or-call μ-operands·assign μ-operands·atom μ-operands·rest μ-operands·tier μ-operands·un
+    μ-names·arguments μ-names·named μ-tiers·assign μ-tiers·atom μ-tiers·rest μ-tiers·tier μ-tiers·un
     (λ t. readers.Lts-items-clause.spec (items·clause-claims t) (items·clause-at t) items·clause.Post (Items·clause.kind-requires t)
     (Items·clause.let-in-requires t) (Items·clause.same-length t) (Items·clause.returns t) (Items·clause.if-else-requires t)
     (Items·clause.same-length-2 t) (Items·clause.returns-2 t) (Items·clause.while-block-requires t) (Items·clause.same-length-3 t)
@@ -99,35 +99,35 @@ pub
     (Names·arguments.add-arguments t) (Names·arguments.arguments-requires t) (Names·arguments.pair-requires t)
     (Names·arguments.enum-known-first-2 t) (Names·arguments.same-length-3 t) (Names·arguments.returns-3 t)
     (Names·arguments.same-length-4 t) (Names·arguments.returns-4 t))
-    (λ t. readers.Lts-names-name_or_call.spec (names·name-or-call-claims t) (names·name-or-call-at t) names·name-or-call.Post
-    (Names·nameOrCall.add-kind t) (Names·nameOrCall.kind-requires t) (Names·nameOrCall.add-node t) (Names·nameOrCall.node-requires t)
-    (Names·nameOrCall.same-length t) (Names·nameOrCall.returns t) (Names·nameOrCall.add-kind-2 t) (Names·nameOrCall.kind-requires-2 t)
-    (Names·nameOrCall.add-node-2 t) (Names·nameOrCall.node-requires-2 t) (Names·nameOrCall.same-length-2 t) (Names·nameOrCall.returns-2 t)
-    (Names·nameOrCall.add-arguments t) (Names·nameOrCall.arguments-requires t) (Names·nameOrCall.over-requires t)
-    (Names·nameOrCall.same-length-3 t) (Names·nameOrCall.returns-3 t))
-    (λ t. readers.Lts-operands-assign.spec (operands·assign-claims t) (operands·assign-at t) operands·assign.Post
-    (Operands·assign.tier-requires t) (Operands·assign.enum-known-target t) (Operands·assign.kind-requires t) (Operands·assign.add-tier t)
-    (Operands·assign.tier-requires-2 t) (Operands·assign.pair-requires t) (Operands·assign.enum-known-target-2 t)
-    (Operands·assign.same-length t) (Operands·assign.returns t) (Operands·assign.same-length-2 t) (Operands·assign.returns-2 t)
-    (Operands·assign.same-length-3 t) (Operands·assign.returns-3 t))
-    (λ t. readers.Lts-operands-atom.spec (operands·atom-claims t) (operands·atom-at t) operands·atom.Post (Operands·atom.kind-requires t)
-    (Operands·atom.is-constant-requires t) (Operands·atom.add-node t) (Operands·atom.node-requires t) (Operands·atom.same-length t)
-    (Operands·atom.returns t) (Operands·atom.add-node-2 t) (Operands·atom.node-requires-2 t) (Operands·atom.add-node-3 t)
-    (Operands·atom.node-requires-3 t) (Operands·atom.name-or-call-requires t) (Operands·atom.add-until t) (Operands·atom.until-requires t)
-    (Operands·atom.around-requires t) (Operands·atom.add-until-2 t) (Operands·atom.until-requires-2 t) (Operands·atom.around-requires-2 t)
-    (Operands·atom.same-length-2 t) (Operands·atom.returns-2 t) (Operands·atom.same-length-3 t) (Operands·atom.returns-3 t)
-    (Operands·atom.same-length-4 t) (Operands·atom.returns-4 t) (Operands·atom.same-length-5 t) (Operands·atom.returns-5 t)
-    (Operands·atom.same-length-6 t) (Operands·atom.returns-6 t) (Operands·atom.same-length-7 t) (Operands·atom.returns-7 t))
-    (λ t. readers.Lts-operands-rest.spec (operands·rest-claims t) (operands·rest-at t) operands·rest.Post (Operands·rest.kind-requires t)
-    (Operands·rest.tightness-requires t) (Operands·rest.same-length t) (Operands·rest.returns t) (Operands·rest.same-length-2 t)
-    (Operands·rest.returns-2 t) (Operands·rest.add-tier t) (Operands·rest.add-tier-2 t) (Operands·rest.tier-requires t)
-    (Operands·rest.enum-known-right t) (Operands·rest.cast-put t) (Operands·rest.put-requires t) (Operands·rest.after-requires t)
-    (Operands·rest.add-rest t) (Operands·rest.cast-rest t) (Operands·rest.rest-requires t) (Operands·rest.enum-known-right-2 t)
-    (Operands·rest.same-length-3 t) (Operands·rest.returns-3 t) (Operands·rest.same-length-4 t) (Operands·rest.returns-4 t))
-    (λ t. readers.Lts-operands-tier.spec (operands·tier-claims t) (operands·tier-at t) operands·tier.Post (Operands·tier.un-requires t)
-    (Operands·tier.enum-known-first t) (Operands·tier.rest-requires t) (Operands·tier.enum-known-first-2 t) (Operands·tier.same-length t)
-    (Operands·tier.returns t) (Operands·tier.same-length-2 t) (Operands·tier.returns-2 t))
-    λ t. readers.Lts-operands-un.spec (operands·un-claims t) (operands·un-at t) operands·un.Post (Operands·un.kind-requires t)
-    (Operands·un.is-prefix-requires t) (Operands·un.add-un t) (Operands·un.un-requires t) (Operands·un.add-over t)
-    (Operands·un.over-requires t) (Operands·un.atom-requires t) (Operands·un.same-length t) (Operands·un.returns t)
-    (Operands·un.same-length-2 t) (Operands·un.returns-2 t)
+    (λ t. readers.Lts-names-named.spec (names·named-claims t) (names·named-at t) names·named.Post
+    (Names·named.add-kind t) (Names·named.kind-requires t) (Names·named.add-node t) (Names·named.node-requires t)
+    (Names·named.same-length t) (Names·named.returns t) (Names·named.add-kind-2 t) (Names·named.kind-requires-2 t)
+    (Names·named.add-node-2 t) (Names·named.node-requires-2 t) (Names·named.same-length-2 t) (Names·named.returns-2 t)
+    (Names·named.add-arguments t) (Names·named.arguments-requires t) (Names·named.over-requires t)
+    (Names·named.same-length-3 t) (Names·named.returns-3 t))
+    (λ t. readers.Lts-tiers-assign.spec (tiers·assign-claims t) (tiers·assign-at t) tiers·assign.Post
+    (Tiers·assign.tier-requires t) (Tiers·assign.enum-known-target t) (Tiers·assign.kind-requires t) (Tiers·assign.add-tier t)
+    (Tiers·assign.tier-requires-2 t) (Tiers·assign.pair-requires t) (Tiers·assign.enum-known-target-2 t)
+    (Tiers·assign.same-length t) (Tiers·assign.returns t) (Tiers·assign.same-length-2 t) (Tiers·assign.returns-2 t)
+    (Tiers·assign.same-length-3 t) (Tiers·assign.returns-3 t))
+    (λ t. readers.Lts-tiers-atom.spec (tiers·atom-claims t) (tiers·atom-at t) tiers·atom.Post (Tiers·atom.kind-requires t)
+    (Tiers·atom.is-constant-requires t) (Tiers·atom.add-node t) (Tiers·atom.node-requires t) (Tiers·atom.same-length t)
+    (Tiers·atom.returns t) (Tiers·atom.add-node-2 t) (Tiers·atom.node-requires-2 t) (Tiers·atom.add-node-3 t)
+    (Tiers·atom.node-requires-3 t) (Tiers·atom.named-requires t) (Tiers·atom.add-until t) (Tiers·atom.until-requires t)
+    (Tiers·atom.around-requires t) (Tiers·atom.add-until-2 t) (Tiers·atom.until-requires-2 t) (Tiers·atom.around-requires-2 t)
+    (Tiers·atom.same-length-2 t) (Tiers·atom.returns-2 t) (Tiers·atom.same-length-3 t) (Tiers·atom.returns-3 t)
+    (Tiers·atom.same-length-4 t) (Tiers·atom.returns-4 t) (Tiers·atom.same-length-5 t) (Tiers·atom.returns-5 t)
+    (Tiers·atom.same-length-6 t) (Tiers·atom.returns-6 t) (Tiers·atom.same-length-7 t) (Tiers·atom.returns-7 t))
+    (λ t. readers.Lts-tiers-rest.spec (tiers·rest-claims t) (tiers·rest-at t) tiers·rest.Post (Tiers·rest.kind-requires t)
+    (Tiers·rest.tightness-requires t) (Tiers·rest.same-length t) (Tiers·rest.returns t) (Tiers·rest.same-length-2 t)
+    (Tiers·rest.returns-2 t) (Tiers·rest.add-tier t) (Tiers·rest.add-tier-2 t) (Tiers·rest.tier-requires t)
+    (Tiers·rest.enum-known-right t) (Tiers·rest.cast-put t) (Tiers·rest.put-requires t) (Tiers·rest.after-requires t)
+    (Tiers·rest.add-rest t) (Tiers·rest.cast-rest t) (Tiers·rest.rest-requires t) (Tiers·rest.enum-known-right-2 t)
+    (Tiers·rest.same-length-3 t) (Tiers·rest.returns-3 t) (Tiers·rest.same-length-4 t) (Tiers·rest.returns-4 t))
+    (λ t. readers.Lts-tiers-tier.spec (tiers·tier-claims t) (tiers·tier-at t) tiers·tier.Post (Tiers·tier.un-requires t)
+    (Tiers·tier.enum-known-first t) (Tiers·tier.rest-requires t) (Tiers·tier.enum-known-first-2 t) (Tiers·tier.same-length t)
+    (Tiers·tier.returns t) (Tiers·tier.same-length-2 t) (Tiers·tier.returns-2 t))
+    λ t. readers.Lts-tiers-un.spec (tiers·un-claims t) (tiers·un-at t) tiers·un.Post (Tiers·un.kind-requires t)
+    (Tiers·un.is-prefix-requires t) (Tiers·un.add-un t) (Tiers·un.un-requires t) (Tiers·un.add-over t)
+    (Tiers·un.over-requires t) (Tiers·un.atom-requires t) (Tiers·un.same-length t) (Tiers·un.returns t)
+    (Tiers·un.same-length-2 t) (Tiers·un.returns-2 t)

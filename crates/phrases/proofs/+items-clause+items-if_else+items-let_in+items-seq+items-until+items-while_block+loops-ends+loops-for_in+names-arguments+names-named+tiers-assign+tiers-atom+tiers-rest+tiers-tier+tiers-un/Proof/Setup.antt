@@ -23,18 +23,18 @@ use Rattle.phrases.proofs.loops.for_in.Reads as loops·for-in
 use Rattle.phrases.proofs.loops.for_in.Kinds as loops·for-in-kinds
 use Rattle.phrases.proofs.names.arguments.Reads as names·arguments
 use Rattle.phrases.proofs.names.arguments.Kinds as names·arguments-kinds
-use Rattle.phrases.proofs.names.name_or_call.Reads as names·name-or-call
-use Rattle.phrases.proofs.names.name_or_call.Kinds as names·name-or-call-kinds
-use Rattle.phrases.proofs.operands.assign.Reads as operands·assign
-use Rattle.phrases.proofs.operands.assign.Kinds as operands·assign-kinds
-use Rattle.phrases.proofs.operands.atom.Reads as operands·atom
-use Rattle.phrases.proofs.operands.atom.Kinds as operands·atom-kinds
-use Rattle.phrases.proofs.operands.rest.Reads as operands·rest
-use Rattle.phrases.proofs.operands.rest.Kinds as operands·rest-kinds
-use Rattle.phrases.proofs.operands.tier.Reads as operands·tier
-use Rattle.phrases.proofs.operands.tier.Kinds as operands·tier-kinds
-use Rattle.phrases.proofs.operands.un.Reads as operands·un
-use Rattle.phrases.proofs.operands.un.Kinds as operands·un-kinds
+use Rattle.phrases.proofs.names.named.Reads as names·named
+use Rattle.phrases.proofs.names.named.Kinds as names·named-kinds
+use Rattle.phrases.proofs.tiers.assign.Reads as tiers·assign
+use Rattle.phrases.proofs.tiers.assign.Kinds as tiers·assign-kinds
+use Rattle.phrases.proofs.tiers.atom.Reads as tiers·atom
+use Rattle.phrases.proofs.tiers.atom.Kinds as tiers·atom-kinds
+use Rattle.phrases.proofs.tiers.rest.Reads as tiers·rest
+use Rattle.phrases.proofs.tiers.rest.Kinds as tiers·rest-kinds
+use Rattle.phrases.proofs.tiers.tier.Reads as tiers·tier
+use Rattle.phrases.proofs.tiers.tier.Kinds as tiers·tier-kinds
+use Rattle.phrases.proofs.tiers.un.Reads as tiers·un
+use Rattle.phrases.proofs.tiers.un.Kinds as tiers·un-kinds
 
 abbrev pub μ-items·clause : Measures 1 items·clause-kinds.ps ℕ
 μ-items·clause κs a = 12 * (a .1 .0 - a .1 .1 .0) + 7
@@ -63,23 +63,23 @@ abbrev pub μ-loops·for-in : Measures 1 loops·for-in-kinds.ps ℕ
 abbrev pub μ-names·arguments : Measures 1 names·arguments-kinds.ps ℕ
 μ-names·arguments κs a = 12 * (a .1 .0 - a .1 .1 .0) + 17
 
-abbrev pub μ-names·name-or-call : Measures 1 names·name-or-call-kinds.ps ℕ
-μ-names·name-or-call κs a = 12 * (a .1 .0 - a .1 .1 .0) + 1
+abbrev pub μ-names·named : Measures 1 names·named-kinds.ps ℕ
+μ-names·named κs a = 12 * (a .1 .0 - a .1 .1 .0) + 1
 
-abbrev pub μ-operands·assign : Measures 1 operands·assign-kinds.ps ℕ
-μ-operands·assign κs a = 12 * (a .1 .0 - a .1 .1 .0) + 5
+abbrev pub μ-tiers·assign : Measures 1 tiers·assign-kinds.ps ℕ
+μ-tiers·assign κs a = 12 * (a .1 .0 - a .1 .1 .0) + 5
 
-abbrev pub μ-operands·atom : Measures 1 operands·atom-kinds.ps ℕ
-μ-operands·atom κs a = 12 * (a .1 .0 - a .1 .1 .0) + 2
+abbrev pub μ-tiers·atom : Measures 1 tiers·atom-kinds.ps ℕ
+μ-tiers·atom κs a = 12 * (a .1 .0 - a .1 .1 .0) + 2
 
-abbrev pub μ-operands·rest : Measures 1 operands·rest-kinds.ps ℕ
-μ-operands·rest κs a = 12 * (a .1 .0 - a .1 .1 .0) + 0
+abbrev pub μ-tiers·rest : Measures 1 tiers·rest-kinds.ps ℕ
+μ-tiers·rest κs a = 12 * (a .1 .0 - a .1 .1 .0) + 0
 
-abbrev pub μ-operands·tier : Measures 1 operands·tier-kinds.ps ℕ
-μ-operands·tier κs a = 12 * (a .1 .0 - a .1 .1 .0) + 4
+abbrev pub μ-tiers·tier : Measures 1 tiers·tier-kinds.ps ℕ
+μ-tiers·tier κs a = 12 * (a .1 .0 - a .1 .1 .0) + 4
 
-abbrev pub μ-operands·un : Measures 1 operands·un-kinds.ps ℕ
-μ-operands·un κs a = 12 * (a .1 .0 - a .1 .1 .0) + 3
+abbrev pub μ-tiers·un : Measures 1 tiers·un-kinds.ps ℕ
+μ-tiers·un κs a = 12 * (a .1 .0 - a .1 .1 .0) + 3
 
 abbrev pub items·clause-at : ℕ → In 1 items·clause-kinds.ps
 items·clause-at t = and 1 items·clause-kinds.ps (is 1 items·clause-kinds.ps μ-items·clause t) items·clause.Pre
@@ -135,38 +135,38 @@ names·arguments-at t = and 1 names·arguments-kinds.ps (is 1 names·arguments-k
 abbrev pub names·arguments-below : ℕ → In 1 names·arguments-kinds.ps
 names·arguments-below t = and 1 names·arguments-kinds.ps (falls 1 names·arguments-kinds.ps _<_ μ-names·arguments t) names·arguments.Pre
 
-abbrev pub names·name-or-call-at : ℕ → In 1 names·name-or-call-kinds.ps
-names·name-or-call-at t = and 1 names·name-or-call-kinds.ps (is 1 names·name-or-call-kinds.ps μ-names·name-or-call t) names·name-or-call.Pre
+abbrev pub names·named-at : ℕ → In 1 names·named-kinds.ps
+names·named-at t = and 1 names·named-kinds.ps (is 1 names·named-kinds.ps μ-names·named t) names·named.Pre
 
-abbrev pub names·name-or-call-below : ℕ → In 1 names·name-or-call-kinds.ps
-names·name-or-call-below t = and 1 names·name-or-call-kinds.ps (falls 1 names·name-or-call-kinds.ps _<_ μ-names·name-or-call t) names·name-or-call.Pre
+abbrev pub names·named-below : ℕ → In 1 names·named-kinds.ps
+names·named-below t = and 1 names·named-kinds.ps (falls 1 names·named-kinds.ps _<_ μ-names·named t) names·named.Pre
 
-abbrev pub operands·assign-at : ℕ → In 1 operands·assign-kinds.ps
-operands·assign-at t = and 1 operands·assign-kinds.ps (is 1 operands·assign-kinds.ps μ-operands·assign t) operands·assign.Pre
+abbrev pub tiers·assign-at : ℕ → In 1 tiers·assign-kinds.ps
+tiers·assign-at t = and 1 tiers·assign-kinds.ps (is 1 tiers·assign-kinds.ps μ-tiers·assign t) tiers·assign.Pre
 
-abbrev pub operands·assign-below : ℕ → In 1 operands·assign-kinds.ps
-operands·assign-below t = and 1 operands·assign-kinds.ps (falls 1 operands·assign-kinds.ps _<_ μ-operands·assign t) operands·assign.Pre
+abbrev pub tiers·assign-below : ℕ → In 1 tiers·assign-kinds.ps
+tiers·assign-below t = and 1 tiers·assign-kinds.ps (falls 1 tiers·assign-kinds.ps _<_ μ-tiers·assign t) tiers·assign.Pre
 
-abbrev pub operands·atom-at : ℕ → In 1 operands·atom-kinds.ps
-operands·atom-at t = and 1 operands·atom-kinds.ps (is 1 operands·atom-kinds.ps μ-operands·atom t) operands·atom.Pre
+abbrev pub tiers·atom-at : ℕ → In 1 tiers·atom-kinds.ps
+tiers·atom-at t = and 1 tiers·atom-kinds.ps (is 1 tiers·atom-kinds.ps μ-tiers·atom t) tiers·atom.Pre
 
-abbrev pub operands·atom-below : ℕ → In 1 operands·atom-kinds.ps
-operands·atom-below t = and 1 operands·atom-kinds.ps (falls 1 operands·atom-kinds.ps _<_ μ-operands·atom t) operands·atom.Pre
+abbrev pub tiers·atom-below : ℕ → In 1 tiers·atom-kinds.ps
+tiers·atom-below t = and 1 tiers·atom-kinds.ps (falls 1 tiers·atom-kinds.ps _<_ μ-tiers·atom t) tiers·atom.Pre
 
-abbrev pub operands·rest-at : ℕ → In 1 operands·rest-kinds.ps
-operands·rest-at t = and 1 operands·rest-kinds.ps (is 1 operands·rest-kinds.ps μ-operands·rest t) operands·rest.Pre
+abbrev pub tiers·rest-at : ℕ → In 1 tiers·rest-kinds.ps
+tiers·rest-at t = and 1 tiers·rest-kinds.ps (is 1 tiers·rest-kinds.ps μ-tiers·rest t) tiers·rest.Pre
 
-abbrev pub operands·rest-below : ℕ → In 1 operands·rest-kinds.ps
-operands·rest-below t = and 1 operands·rest-kinds.ps (falls 1 operands·rest-kinds.ps _<_ μ-operands·rest t) operands·rest.Pre
+abbrev pub tiers·rest-below : ℕ → In 1 tiers·rest-kinds.ps
+tiers·rest-below t = and 1 tiers·rest-kinds.ps (falls 1 tiers·rest-kinds.ps _<_ μ-tiers·rest t) tiers·rest.Pre
 
-abbrev pub operands·tier-at : ℕ → In 1 operands·tier-kinds.ps
-operands·tier-at t = and 1 operands·tier-kinds.ps (is 1 operands·tier-kinds.ps μ-operands·tier t) operands·tier.Pre
+abbrev pub tiers·tier-at : ℕ → In 1 tiers·tier-kinds.ps
+tiers·tier-at t = and 1 tiers·tier-kinds.ps (is 1 tiers·tier-kinds.ps μ-tiers·tier t) tiers·tier.Pre
 
-abbrev pub operands·tier-below : ℕ → In 1 operands·tier-kinds.ps
-operands·tier-below t = and 1 operands·tier-kinds.ps (falls 1 operands·tier-kinds.ps _<_ μ-operands·tier t) operands·tier.Pre
+abbrev pub tiers·tier-below : ℕ → In 1 tiers·tier-kinds.ps
+tiers·tier-below t = and 1 tiers·tier-kinds.ps (falls 1 tiers·tier-kinds.ps _<_ μ-tiers·tier t) tiers·tier.Pre
 
-abbrev pub operands·un-at : ℕ → In 1 operands·un-kinds.ps
-operands·un-at t = and 1 operands·un-kinds.ps (is 1 operands·un-kinds.ps μ-operands·un t) operands·un.Pre
+abbrev pub tiers·un-at : ℕ → In 1 tiers·un-kinds.ps
+tiers·un-at t = and 1 tiers·un-kinds.ps (is 1 tiers·un-kinds.ps μ-tiers·un t) tiers·un.Pre
 
-abbrev pub operands·un-below : ℕ → In 1 operands·un-kinds.ps
-operands·un-below t = and 1 operands·un-kinds.ps (falls 1 operands·un-kinds.ps _<_ μ-operands·un t) operands·un.Pre
+abbrev pub tiers·un-below : ℕ → In 1 tiers·un-kinds.ps
+tiers·un-below t = and 1 tiers·un-kinds.ps (falls 1 tiers·un-kinds.ps _<_ μ-tiers·un t) tiers·un.Pre

@@ -3,7 +3,7 @@ use mathlib.Core.Path.{refl, sym, _∙_}
 use Prim.Native.Nat.{ℕ}
 use native.Mathlib.Omega.{arith}
 use Rattle.phrases.proofs.items.clause.Reads as items·clause
-use Rattle.phrases.proofs.+items-clause+items-if_else+items-let_in+items-seq+items-until+items-while_block+loops-ends+loops-for_in+names-arguments+names-name_or_call+operands-assign+operands-atom+operands-rest+operands-tier+operands-un as readers
+use Rattle.phrases.proofs.+items-clause+items-if_else+items-let_in+items-seq+items-until+items-while_block+loops-ends+loops-for_in+names-arguments+names-named+tiers-assign+tiers-atom+tiers-rest+tiers-tier+tiers-un as readers
 use readers.Lts-items-clause as lts
 use readers.Proof.Setup.{items·clause-at}
 use readers.Proof.Claims.{items·clause-claims}

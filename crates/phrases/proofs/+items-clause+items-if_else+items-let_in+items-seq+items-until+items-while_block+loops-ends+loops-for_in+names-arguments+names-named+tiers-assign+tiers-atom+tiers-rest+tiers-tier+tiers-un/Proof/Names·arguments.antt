@@ -4,7 +4,7 @@ use Prim.Native.Nat.{ℕ}
 use native.Mathlib.Omega.{arith}
 use borrow.Author.Needs.{needs}
 use Rattle.phrases.proofs.names.arguments.Reads as names·arguments
-use Rattle.phrases.proofs.+items-clause+items-if_else+items-let_in+items-seq+items-until+items-while_block+loops-ends+loops-for_in+names-arguments+names-name_or_call+operands-assign+operands-atom+operands-rest+operands-tier+operands-un as readers
+use Rattle.phrases.proofs.+items-clause+items-if_else+items-let_in+items-seq+items-until+items-while_block+loops-ends+loops-for_in+names-arguments+names-named+tiers-assign+tiers-atom+tiers-rest+tiers-tier+tiers-un as readers
 use readers.Lts-names-arguments as lts
 use readers.Proof.Setup.{names·arguments-at}
 use readers.Proof.Claims.{names·arguments-claims}

@@ -2,7 +2,7 @@
 use Prim.Native.Nat.{ℕ}
 use Rattle.layout.proofs.rows.put.Reads as put-reads
 use Rattle.layout.proofs.token.kind.Reads as kind-reads
-use Rattle.phrases.proofs.+items-clause+items-if_else+items-let_in+items-seq+items-until+items-while_block+loops-ends+loops-for_in+names-arguments+names-name_or_call+operands-assign+operands-atom+operands-rest+operands-tier+operands-un as readers
+use Rattle.phrases.proofs.+items-clause+items-if_else+items-let_in+items-seq+items-until+items-while_block+loops-ends+loops-for_in+names-arguments+names-named+tiers-assign+tiers-atom+tiers-rest+tiers-tier+tiers-un as readers
 use Rattle.phrases.proofs.items.clause.Reads as items·clause
 use Rattle.phrases.proofs.items.if_else.Reads as items·if-else
 use Rattle.phrases.proofs.items.let_in.Reads as items·let-in
@@ -12,12 +12,12 @@ use Rattle.phrases.proofs.items.while_block.Reads as items·while-block
 use Rattle.phrases.proofs.loops.ends.Reads as loops·ends
 use Rattle.phrases.proofs.loops.for_in.Reads as loops·for-in
 use Rattle.phrases.proofs.names.arguments.Reads as names·arguments
-use Rattle.phrases.proofs.names.name_or_call.Reads as names·name-or-call
-use Rattle.phrases.proofs.operands.assign.Reads as operands·assign
-use Rattle.phrases.proofs.operands.atom.Reads as operands·atom
-use Rattle.phrases.proofs.operands.rest.Reads as operands·rest
-use Rattle.phrases.proofs.operands.tier.Reads as operands·tier
-use Rattle.phrases.proofs.operands.un.Reads as operands·un
+use Rattle.phrases.proofs.names.named.Reads as names·named
+use Rattle.phrases.proofs.tiers.assign.Reads as tiers·assign
+use Rattle.phrases.proofs.tiers.atom.Reads as tiers·atom
+use Rattle.phrases.proofs.tiers.rest.Reads as tiers·rest
+use Rattle.phrases.proofs.tiers.tier.Reads as tiers·tier
+use Rattle.phrases.proofs.tiers.un.Reads as tiers·un
 use Rattle.phrases.proofs.operators.after.Reads as after-reads
 use Rattle.phrases.proofs.operators.is_constant.Reads as is-constant-reads
 use Rattle.phrases.proofs.operators.is_prefix.Reads as is-prefix-reads
@@ -29,8 +29,8 @@ use Rattle.phrases.proofs.parts.node.Reads as node-reads
 use Rattle.phrases.proofs.parts.over.Reads as over-reads
 use Rattle.phrases.proofs.parts.pair.Reads as pair-reads
 use readers.Proof.Setup.{items·clause-below, items·if-else-below, items·let-in-below, items·seq-below, items·until-below, items·while-block-below}
-use readers.Proof.Setup.{loops·ends-below, loops·for-in-below, names·arguments-below, names·name-or-call-below, operands·assign-below}
-use readers.Proof.Setup.{operands·atom-below, operands·rest-below, operands·tier-below, operands·un-below}
+use readers.Proof.Setup.{loops·ends-below, loops·for-in-below, names·arguments-below, names·named-below, tiers·assign-below}
+use readers.Proof.Setup.{tiers·atom-below, tiers·rest-below, tiers·tier-below, tiers·un-below}
 
 abbrev pub items·clause-claims : ℕ → readers.Lts-items-clause.Claims
 items·clause-claims t = (
@@ -44,8 +44,8 @@ items·clause-claims t = (
   items·while-block.Post,
   loops·for-in-below t,
   loops·for-in.Post,
-  operands·assign-below t,
-  operands·assign.Post,
+  tiers·assign-below t,
+  tiers·assign.Post,
 )
 
 abbrev pub items·if-else-claims : ℕ → readers.Lts-items-if_else.Claims
@@ -85,8 +85,8 @@ items·while-block-claims t =
 
 abbrev pub loops·ends-claims : ℕ → readers.Lts-loops-ends.Claims
 loops·ends-claims t = (
-  operands·tier-below t,
-  operands·tier.Post,
+  tiers·tier-below t,
+  tiers·tier.Post,
   kind-reads.Asked,
   kind-reads.Learnt,
   over-reads.Asked,
@@ -101,8 +101,8 @@ abbrev pub loops·for-in-claims : ℕ → readers.Lts-loops-for_in.Claims
 loops·for-in-claims t = (
   kind-reads.Asked,
   kind-reads.Learnt,
-  operands·tier-below t,
-  operands·tier.Post,
+  tiers·tier-below t,
+  tiers·tier.Post,
   is-range-reads.Asked,
   is-range-reads.Learnt,
   loops·ends-below t,
@@ -129,8 +129,8 @@ names·arguments-claims t = (
   pair-reads.Learnt,
 )
 
-abbrev pub names·name-or-call-claims : ℕ → readers.Lts-names-name_or_call.Claims
-names·name-or-call-claims t = (
+abbrev pub names·named-claims : ℕ → readers.Lts-names-named.Claims
+names·named-claims t = (
   kind-reads.Asked,
   kind-reads.Learnt,
   node-reads.Asked,
@@ -141,55 +141,55 @@ names·name-or-call-claims t = (
   over-reads.Learnt,
 )
 
-abbrev pub operands·assign-claims : ℕ → readers.Lts-operands-assign.Claims
-operands·assign-claims t =
-    (operands·tier-below t, operands·tier.Post, kind-reads.Asked, kind-reads.Learnt, pair-reads.Asked, pair-reads.Learnt)
+abbrev pub tiers·assign-claims : ℕ → readers.Lts-tiers-assign.Claims
+tiers·assign-claims t =
+    (tiers·tier-below t, tiers·tier.Post, kind-reads.Asked, kind-reads.Learnt, pair-reads.Asked, pair-reads.Learnt)
 
-abbrev pub operands·atom-claims : ℕ → readers.Lts-operands-atom.Claims
-operands·atom-claims t = (
+abbrev pub tiers·atom-claims : ℕ → readers.Lts-tiers-atom.Claims
+tiers·atom-claims t = (
   kind-reads.Asked,
   kind-reads.Learnt,
   is-constant-reads.Asked,
   is-constant-reads.Learnt,
   node-reads.Asked,
   node-reads.Learnt,
-  names·name-or-call-below t,
-  names·name-or-call.Post,
+  names·named-below t,
+  names·named.Post,
   items·until-below t,
   items·until.Post,
   around-reads.Asked,
   around-reads.Learnt,
 )
 
-abbrev pub operands·rest-claims : ℕ → readers.Lts-operands-rest.Claims
-operands·rest-claims t = (
+abbrev pub tiers·rest-claims : ℕ → readers.Lts-tiers-rest.Claims
+tiers·rest-claims t = (
   kind-reads.Asked,
   kind-reads.Learnt,
   tightness-reads.Asked,
   tightness-reads.Learnt,
-  operands·tier-below t,
-  operands·tier.Post,
+  tiers·tier-below t,
+  tiers·tier.Post,
   put-reads.Asked,
   put-reads.Learnt,
   after-reads.Asked,
   after-reads.Learnt,
-  operands·rest-below t,
-  operands·rest.Post,
+  tiers·rest-below t,
+  tiers·rest.Post,
 )
 
-abbrev pub operands·tier-claims : ℕ → readers.Lts-operands-tier.Claims
-operands·tier-claims t = (operands·un-below t, operands·un.Post, operands·rest-below t, operands·rest.Post)
+abbrev pub tiers·tier-claims : ℕ → readers.Lts-tiers-tier.Claims
+tiers·tier-claims t = (tiers·un-below t, tiers·un.Post, tiers·rest-below t, tiers·rest.Post)
 
-abbrev pub operands·un-claims : ℕ → readers.Lts-operands-un.Claims
-operands·un-claims t = (
+abbrev pub tiers·un-claims : ℕ → readers.Lts-tiers-un.Claims
+tiers·un-claims t = (
   kind-reads.Asked,
   kind-reads.Learnt,
   is-prefix-reads.Asked,
   is-prefix-reads.Learnt,
-  operands·un-below t,
-  operands·un.Post,
+  tiers·un-below t,
+  tiers·un.Post,
   over-reads.Asked,
   over-reads.Learnt,
-  operands·atom-below t,
-  operands·atom.Post,
+  tiers·atom-below t,
+  tiers·atom.Post,
 )
