@@ -19,7 +19,14 @@ checked-report (Checked.Passed t) = check-report passed 0 t
 checked-report (Checked.Refused y i) = check-report (refused (refusal-meant y)) i 0
 
 abbrev pub ran-report : Ran → RunReport ℕ
-ran-report (Ran.Value t v u n) = record { told = passed; place = 0; type = t; value = Values.meant v; units = u; printed = n }
+ran-report (Ran.Value t v u n) = record {
+  told = passed;
+  place = 0;
+  type = t;
+  value = Values.meant v;
+  units = u;
+  printed = n;
+}
 ran-report (Ran.Stopped y i t u n) =
     record { told = stopped (stop-meant y); place = i; type = t; value = nothing; units = u; printed = n }
 ran-report (Ran.Refused y i) = refusal (refusal-meant y) i

@@ -1,5 +1,6 @@
 -- What is true of runs.
 pub mod CellTypes
+pub mod GoodOutcomes
 pub mod Safety
 pub mod NeverStuck
 pub mod Strict

@@ -13,6 +13,7 @@ pub mod Pieces
 pub mod Alone
 pub mod Spots
 pub mod Bases
+pub mod Seeing
 pub mod Scanner
 pub mod Edition
 pub mod Examples

@@ -1,5 +1,5 @@
--- The editions of the language: each is a vocabulary, which a caller names by a number (R12.2). An origin that reads by a
--- vocabulary is one that reads by the caller's number; places are told alike in every edition.
+-- The editions of the language: each is a vocabulary, which a caller names by a number (R12.2). An origin that reads by
+-- a vocabulary is one that reads by the caller's number; places are told alike in every edition.
 use mathlib.Core.Bool.{cond}
 use mathlib.Core.List.{List}
 use mathlib.Core.Option.{Option, none, some}

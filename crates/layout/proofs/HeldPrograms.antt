@@ -18,7 +18,8 @@ use Rattle.layout.proofs.TableLaws.{put-row-five, put-row-other, length
 use Rattle.layout.proofs.LayLaws.{length-lay, lay-before, length-lay-params, lay-params-other, length-lay-def}
 use Rattle.layout.proofs.LayLaws.{length-lay-defs, lay-defs-other, length-lay-program, lay-program-other, lay-other}
 use Rattle.layout.proofs.Owned.{OwnedParams, owned-none, owned-param, IsBlock, is-block, OwnedDef, OwnedDefs, owned-def, reading-owned}
-use Rattle.layout.proofs.Laid.{Agree, last-row, laid-back}
+use Rattle.layout.proofs.LaidParts.{Agree, last-row}
+use Rattle.layout.proofs.Laid.{laid-back}
 use Rattle.layout.proofs.FewRows.{few-rows, few-defs}
 
 -- a body's rows are among its function's

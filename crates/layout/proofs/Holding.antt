@@ -82,14 +82,16 @@ module _ (ts : List Token) (ls : List ℕ) where
   pub leaf-back : (n i k t a b c : ℕ) (s : Shape) (e : Exp) → Five ls i k t a b c → i < NODES → shape-of k ≡ some s → children s ≡ 0 → Listless k
       → Tokens k t → build ts s t (tree-at n ts ls a) (tree-at n ts ls b) (tree-at n ts ls c) (args-at n ts ls a) ≡ e → Back (suc n) i e
   leaf-back n i k t a b c s e v h y z x o q = record {
-    right = row-right n i k t a b c s v h y o (λ l. absurd (omega arith)) (λ l. absurd (omega arith)) (λ l. absurd (omega arith)) (λ l. absurd (x .0 l)) (λ l. absurd (x .1 l));
+    right = row-right n i k t a b c s v h y o (λ l. absurd (omega arith)) (λ l. absurd (omega arith)) (λ l. absurd (omega arith)) (λ l. absurd (x .0 l))
+        (λ l. absurd (x .1 l));
     tree = row-tree n i k t a b c s v h y ∙ q;
   }
 
   pub one-back : (n i k t a b c : ℕ) (s : Shape) (e d : Exp) → Five ls i k t a b c → i < NODES → shape-of k ≡ some s → children s ≡ 1 → Listless k
       → Tokens k t → a < i → Back n a d → build ts s t d (tree-at n ts ls b) (tree-at n ts ls c) (args-at n ts ls a) ≡ e → Back (suc n) i e
   one-back n i k t a b c s e d v h y z x o l p q = record {
-    right = row-right n i k t a b c s v h y o (λ m. (l, p .right)) (λ m. absurd (omega arith)) (λ m. absurd (omega arith)) (λ m. absurd (x .0 m)) (λ m. absurd (x .1 m));
+    right = row-right n i k t a b c s v h y o (λ m. (l, p .right)) (λ m. absurd (omega arith)) (λ m. absurd (omega arith)) (λ m. absurd (x .0 m))
+        (λ m. absurd (x .1 m));
     tree = row-tree n i k t a b c s v h y
         ∙ ap (λ (z : Exp). build ts s t z (tree-at n ts ls b) (tree-at n ts ls c) (args-at n ts ls a)) (p .tree) ∙ q;
   }
@@ -97,7 +99,8 @@ module _ (ts : List Token) (ls : List ℕ) where
   pub two-back : (n i k t a b c : ℕ) (s : Shape) (e d g : Exp) → Five ls i k t a b c → i < NODES → shape-of k ≡ some s → children s ≡ 2 → Listless k
       → Tokens k t → a < i → Back n a d → b < i → Back n b g → build ts s t d g (tree-at n ts ls c) (args-at n ts ls a) ≡ e → Back (suc n) i e
   two-back n i k t a b c s e d g v h y z x o l p m r q = record {
-    right = row-right n i k t a b c s v h y o (λ _. (l, p .right)) (λ _. (m, r .right)) (λ m. absurd (omega arith)) (λ m. absurd (x .0 m)) (λ m. absurd (x .1 m));
+    right = row-right n i k t a b c s v h y o (λ _. (l, p .right)) (λ _. (m, r .right)) (λ m. absurd (omega arith)) (λ m. absurd (x .0 m))
+        (λ m. absurd (x .1 m));
     tree = row-tree n i k t a b c s v h y
         ∙ ap (λ (z : Exp). build ts s t z (tree-at n ts ls b) (tree-at n ts ls c) (args-at n ts ls a)) (p .tree)
         ∙ ap (λ (z : Exp). build ts s t d z (tree-at n ts ls c) (args-at n ts ls a)) (r .tree) ∙ q;

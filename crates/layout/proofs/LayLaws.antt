@@ -4,7 +4,8 @@ use mathlib.Core.Path.{_≡_, refl, _∙_}
 use Prim.Native.Nat.{ℕ, _+_, _*_, _≤_, _<_}
 use native.Mathlib.Omega.{arith}
 use lib.ListN.{length, getD}
-use Rattle.language.specs.Trees.{Exp, name, literal, unary, binary, follow, group, block, call, bind, branch, loop, counted, Exps, last, more, Param, Def, Program}
+use Rattle.language.specs.Trees.{Exp, name, literal, unary, binary, follow, group, block, call}
+use Rattle.language.specs.Trees.{bind, branch, loop, counted, Exps, last, more, Param, Def, Program}
 use Rattle.layout.specs.Table.{ROWS-AT, FUNCTIONS-AT, put-row}
 use Rattle.layout.specs.Rows.{below, under, lay, lay-all, lay-params, lay-def, def-rows, defs-rows, lay-defs, lay-program}
 use Rattle.layout.proofs.TableLaws.{length-put-row, put-row-other, length-put-function, put-function-other}

@@ -8,6 +8,7 @@ pub mod LayLaws
 pub mod Owned
 pub mod Holding
 pub mod Listing
+pub mod LaidParts
 pub mod Laid
 pub mod FewRows
 pub mod FloatWords

@@ -8,7 +8,8 @@ use native.Mathlib.Omega.{arith}
 use lib.ListN.{length, set}
 use Rattle.language.specs.Sizes.{TOKENS, NODES, TABLE}
 use Rattle.language.specs.Tokens.{Token}
-use Rattle.language.specs.Trees.{Exp, name, literal, unary, binary, follow, group, block, call, bind, branch, loop, counted, Exps, last, more, Param, Def, Program}
+use Rattle.language.specs.Trees.{Exp, name, literal, unary, binary, follow, group, block, call}
+use Rattle.language.specs.Trees.{bind, branch, loop, counted, Exps, last, more, Param, Def, Program}
 use Rattle.language.specs.Answers.{cleared}
 use Rattle.layout.specs.Table.{ROWS-AT, put-token, put-row, put-function, zeros, without-rows, without-variables}
 use Rattle.layout.specs.Names.{lay-tokens}

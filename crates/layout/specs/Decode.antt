@@ -17,7 +17,8 @@ use Rattle.language.specs.Trees.{Literal, whole, truth, trivial, decimal, Unary
 use Rattle.language.specs.Trees.{sub, mul, div, less, equal, Exp, name, literal, unary, binary, follow, group}
 use Rattle.language.specs.Trees.{block, call, bind, branch, loop, counted, Exps, last, more, Param, Def, Program}
 use Rattle.language.specs.Meaning.{type-number}
-use Rattle.layout.specs.Table.{KIND, OWN, FIRST, SECOND, THIRD, START, PASS, EXPRESSION, NEXT, TYPE, ARITY, RESULT, BODY}
+use Rattle.layout.specs.Table.{KIND, OWN, FIRST, SECOND, THIRD, START, PASS}
+use Rattle.layout.specs.Table.{EXPRESSION, NEXT, TYPE, ARITY, RESULT, BODY}
 use Rattle.layout.specs.Table.{row-word, function-row}
 use Rattle.layout.specs.Names.{Stand}
 use Rattle.layout.specs.Rows.{PREFIX, CALL, below}
@@ -47,8 +48,8 @@ shapes =
 unfoldable pub shape-of : ℕ → Option Shape
 shape-of k = entry shapes k
 
--- how many of a shape's three words name a row below it, the first ones; a call's first names its arguments, a `for`'s its
--- bounds
+-- how many of a shape's three words name a row below it, the first ones; a call's first names its arguments, a `for`'s
+-- its bounds
 abbrev pub children : Shape → ℕ
 children a-name = 0
 children a-number = 0

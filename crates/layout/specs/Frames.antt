@@ -1,6 +1,6 @@
--- Frames of work memory, behind the slots, and the cells behind them: what waits while a part of it is worked out, the newest
--- last. A frame has four words: a node's row, its phase, the first slot that it sees, and in one word how many slots it sees and
--- a mark, by its phase.
+-- Frames of work memory, behind the slots, and the cells behind them: what waits while a part of it is worked out, the
+-- newest last. A frame has four words: a node's row, its phase, the first slot that it sees, and in one word how many
+-- slots it sees and a mark, by its phase.
 use mathlib.Core.List.{List}
 use Prim.Native.Nat.{ℕ, _+_, _*_, _/_, _%_}
 use lib.ListN.{getD, set}

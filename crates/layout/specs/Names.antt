@@ -1,5 +1,5 @@
--- Names as numbers, float numbers as bits: what the last two words of a token are, and when the words of a table stand for
--- a token list.
+-- Names as numbers, float numbers as bits: what the last two words of a token are, and when the words of a table stand
+-- for a token list.
 use mathlib.Core.Bool.{cond}
 use mathlib.Core.List.{List, [], _∷_}
 use mathlib.Core.Path.{_≡_}
@@ -36,7 +36,8 @@ pub record Named (ts : List Token) (n : ℕ) (s : Spelling) : Type 0 where
 unfoldable pub float-bits : Spelling → ℕ
 float-bits s = toBits binary64 (float-of s)
 
--- what the token t, one of ts, is worth, as a word: a number's value, a name's number, or the low half of a float's bits
+-- what the token t, one of ts, is worth, as a word: a number's value, a name's number, or the low half of a float's
+-- bits
 unfoldable pub value-word : List Token → Token → ℕ
 value-word ts t =
     cond (eqb (t .kind) NUMBER) (t .value)

@@ -5,8 +5,10 @@ use mathlib.Core.List.{List, [], _∷_}
 use Prim.Native.Nat.{ℕ, _+_}
 use lib.ListN.{length}
 use Rattle.language.specs.Tokens.{Token, NAME, NUMBER, FLOAT-NUMBER, DEF, LET, WHILE, IF, REF, NOT, TRUE, FALSE, TT}
-use Rattle.language.specs.Tokens.{UPTO, THROUGH, PLUS, MINUS, STAR, SLASH, AND, OR, LESS, EQUAL, BECOMES, BANG, SEMI, LPAR, LBRACE}
-use Rattle.language.specs.Trees.{Literal, whole, truth, trivial, decimal, Unary, minus, not, fetch, new, Binary, add, sub}
+use Rattle.language.specs.Tokens.{UPTO, THROUGH, PLUS, MINUS, STAR, SLASH, AND, OR}
+use Rattle.language.specs.Tokens.{LESS, EQUAL, BECOMES, BANG, SEMI, LPAR, LBRACE}
+use Rattle.language.specs.Trees.{Literal, whole, truth, trivial, decimal, Unary}
+use Rattle.language.specs.Trees.{minus, not, fetch, new, Binary, add, sub}
 use Rattle.language.specs.Trees.{mul, div, less, equal, and, or, assign, Exp, name, literal, unary, binary, follow}
 use Rattle.language.specs.Trees.{group, block, call, bind, branch, loop, counted, Exps, last, more, Param, Def, Program}
 use Rattle.language.specs.Meaning.{type-number}

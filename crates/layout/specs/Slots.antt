@@ -1,5 +1,5 @@
--- Slots of work memory, for bindings, operands and arguments that wait, and cells: three words each, a key and a tag in one,
--- and two for the value. A binding's key is the number of its name, a cell's its birth number.
+-- Slots of work memory, for bindings, operands and arguments that wait, and cells: three words each, a key and a tag in
+-- one, and two for the value. A binding's key is the number of its name, a cell's its birth number.
 use mathlib.Core.List.{List}
 use Prim.Native.Nat.{ℕ, _+_, _-_, _*_, _/_, _%_}
 use lib.ListN.{getD, set}
@@ -19,8 +19,8 @@ KEYS = 268435456
 abbrev pub HELD : ℕ
 HELD = TOKENS + 1
 
--- A call that works out its last argument holds those before it, and a body's Block sees all of them: so many slots can be
--- in use.
+-- A call that works out its last argument holds those before it, and a body's Block sees all of them: so many slots can
+-- be in use.
 abbrev pub WAITING : ℕ
 WAITING = PARAMETERS - 1
 
@@ -37,7 +37,8 @@ value-at w base i =
 
 unfoldable pub put-slot : List ℕ → ℕ → ℕ → ℕ → Value → List ℕ
 put-slot w base i key v =
-    set (set (set w (base + 3 * i) (TAGS * key + tag-of v)) (base + 3 * i + 1) (low-of v)) (base + 3 * i + 2) (high-of v)
+    set (set (set w (base + 3 * i) (TAGS * key + tag-of v)) (base + 3 * i + 1) (low-of v)) (base + 3 * i + 2)
+    (high-of v)
 
 -- a slot gets a key, and holds what it held
 unfoldable pub name-slot : List ℕ → ℕ → ℕ → ℕ → List ℕ

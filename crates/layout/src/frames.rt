@@ -67,7 +67,8 @@ pub fn put(
     size: usize,
     mark: usize,
 )
-    requires { ⌜ (WORK ≤ length (now work)) × (height < FRAMES) × (node ≤ WORK) × (base ≤ WORK) × (size < SIZES) × (mark ≤ WORK) ⌝ }
+    requires { ⌜ (WORK ≤ length (now work)) × (height < FRAMES) × (node ≤ WORK) × (base ≤ WORK) × (size < SIZES)
+        × (mark ≤ WORK) ⌝ }
     ensures { λ _. ⌜ now (work .exit) ≡ put-frame (now (work .entry)) height node phase base size mark ⌝ }
 {
     let at = FRAMES_AT + 4 * height;

@@ -2,10 +2,11 @@
 // memory, with a function for each way to read or write one. `specs/` says the same for contracts.
 //
 // Table memory: a token has four words (kind, place and end in one, and two for what it is worth: the low
-// one a number's value or a name's number, both together a float number's bits), a row of the reading five (kind, own token, three more), a function one (its row), a variable of the
-// checker two (its name's number, its type's number). Work memory: a slot has three words (a key and a
-// tag in one, and two for the value, of which a float alone needs the high one), a frame four (a node's row,
-// its phase, the first slot that it sees, and how many with a mark in one word); cells are slots, too.
+// one a number's value or a name's number, both together a float number's bits), a row of the reading five (kind, own
+// token, three more), a function one (its row), a variable of the checker two (its name's number, its type's number).
+// Work memory: a slot has three words (a key and a tag in one, and two for the value, of which a float alone needs the
+// high one), a frame four (a node's row, its phase, the first slot that it sees, and how many with a mark in one word);
+// cells are slots, too.
 
 pub mod floats;
 pub mod frames;

@@ -34,7 +34,8 @@ pub const START: usize = 2;
 
 pub const PASS: usize = 3;
 
-// An argument, whose own token is the call's or the `for`'s: its expression, and the next argument, 0 where it is the last.
+// An argument, whose own token is the call's or the `for`'s: its expression, and the next argument, 0 where it is the
+// last.
 pub const EXPRESSION: usize = 2;
 
 pub const NEXT: usize = 3;

@@ -31,7 +31,8 @@ values-from w at k (suc n) = value-at w at k ∷ values-from w at (k + 1) n
 -- what the newest of n slots that has the key holds, the first of them slot `base`
 unfoldable pub bound-in : List ℕ → ℕ → ℕ → ℕ → Option State.Value
 bound-in w base zero key = none
-bound-in w base (suc n) key = cond (eqb key (key-at w 0 (base + n))) (some (value-at w 0 (base + n))) (bound-in w base n key)
+bound-in w base (suc n) key = cond (eqb key (key-at w 0 (base + n))) (some (value-at w 0 (base + n)))
+    (bound-in w base n key)
 
 -- v is that, if any has it
 abbrev pub Bound : List ℕ → ℕ → ℕ → ℕ → State.Value → Type 0

@@ -93,7 +93,8 @@ pub fn born(s: Tally) -> Tally
 // The cell that was born as n holds v from now on.
 pub fn assign(work: &mut [u32], n: u32, v: Value, s: Tally) -> Outcome
     requires { ⌜ Room (now work) s × (s .births ≤ ALLOWANCE) ⌝ }
-    ensures { λ r. ⌜ Applied (λ i σ. apply-binary i assign (cell n) (meant v) σ) (now (work .entry)) (now (work .exit)) s r ⌝ }
+    ensures { λ r. ⌜ Applied (λ i σ. apply-binary i assign (cell n) (meant v) σ) (now (work .entry)) (now (work .exit))
+        s r ⌝ }
 {
     let cells = s.cells;
     let i = seek(work, cells, n);

@@ -147,7 +147,8 @@ fn on_floats(op: u32, a: Value, b: Value) -> Outcome
 
 pub fn apply_binary(op: u32, work: &mut [u32], a: Value, b: Value, s: Tally) -> Outcome
     requires { ⌜ Room (now work) s × (s .births ≤ ALLOWANCE) ⌝ }
-    ensures { λ r. ⌜ Applied (λ i σ. apply-binary i (binary-of op) (meant a) (meant b) σ) (now (work .entry)) (now (work .exit)) s r ⌝ }
+    ensures { λ r. ⌜ Applied (λ i σ. apply-binary i (binary-of op) (meant a) (meant b) σ) (now (work .entry))
+        (now (work .exit)) s r ⌝ }
 {
     if op == kinds::BECOMES {
         let c = operands::cell_of(a);

@@ -1,14 +1,18 @@
 -- Line feeds counted, and the bytes before the next and behind the last, as a text grows or shrinks by a byte.
-use borrow.Author.Tests.{eq-eqb, ne-eqb}
+use borrow.Author.Tests.{eq-eqb, ne-eqb, eqb-true, eqb-false}
 use lib.Dec.{eqb}
 use lib.ListN.{length, getD, take, drop, length-drop}
-use lib.Seq.{drop-cons, drop-length, take-suc}
-use mathlib.Core.Bool.{Bool, true, false, cond}
+use lib.Seq.{take-suc}
+use mathlib.Core.Bool.{Bool, true, false, cond, not}
 use mathlib.Core.List.{List, [], _∷_, _++_, reverse, reverse-append}
 use mathlib.Core.Path.{_≡_, refl, _∙_, ap, subst}
 use native.Mathlib.Numerals.{add-one}
 use native.Mathlib.Omega.{arith}
 use Prim.Native.Nat.{ℕ, zero, suc, _+_, _-_, _≤_, _<_}
+use Rattle.language.proofs.Pairs.Lines.{begin-here, begin-on}
+use Rattle.language.specs.Pairs.{line-begin, before-feed, line-end}
+use Rattle.language.specs.Text.{byte, is-in-line}
+use Rattle.pairs.proofs.Spans.{feed, no-feed}
 use Rattle.page.specs.Characters.{is-readable}
 use Rattle.page.specs.Lines.{feeds, ahead, behind, columns-of, Spotted}
 
@@ -54,18 +58,6 @@ module _ (t : List ℕ) (i : ℕ) (h : i < length t) where
   pub behind-more : (getD t i 0 ≡ 10 → ⊥) → behind (take (i + 1) t) ≡ behind (take i t) + 1
   behind-more e = ap behind longer ∙ behind-end (take i t) (getD t i 0) ∙ rw (ne-eqb (getD t i 0) 10 e) (omega arith)
 
-  cut : ahead (drop i t) ≡ cond (eqb (getD t i 0) 10) zero (suc (ahead (drop (i + 1) t)))
-  unfolding ahead
-  cut = rw (add-one i, drop-cons t i 0 h)
-
-  -- a line ends at its line feed
-  pub ahead-none : getD t i 0 ≡ 10 → ahead (drop i t) ≡ 0
-  ahead-none e = cut ∙ rw (eq-eqb (getD t i 0) 10 e)
-
-  -- and goes on with another byte
-  pub ahead-more : (getD t i 0 ≡ 10 → ⊥) → ahead (drop i t) ≡ ahead (drop (i + 1) t) + 1
-  ahead-more e = cut ∙ rw (ne-eqb (getD t i 0) 10 e) (omega arith)
-
 -- nothing stands behind in no text
 pub behind-nil : (t : List ℕ) → behind (take 0 t) ≡ 0
 unfolding behind ahead
@@ -75,11 +67,6 @@ behind-nil t = refl
 pub feeds-nil : (t : List ℕ) → feeds (take 0 t) ≡ 0
 unfolding feeds
 feeds-nil t = refl
-
--- nothing stands ahead at the end
-pub ahead-end : (t : List ℕ) (i : ℕ) → i ≡ length t → ahead (drop i t) ≡ 0
-unfolding ahead
-ahead-end t i e = rw (e, drop-length t)
 
 at-most : (q : Bool) (m n : ℕ) → m ≤ n → cond q (suc m) m ≤ suc n
 at-most true m n h = omega arith
@@ -96,35 +83,42 @@ feeds-few (x ∷ t) (suc i) = at-most (eqb x 10) (feeds (take i t)) i (feeds-few
 pub feeds-up-to : (t : List ℕ) (i at n : ℕ) → i ≤ at → at ≤ i → n ≡ feeds (take i t) → n ≡ feeds (take at t)
 feeds-up-to t i at n a b e = let x : i ≡ at = omega arith in rw x at e
 
--- ---- on the way back from the place `at`
+-- ---- where a line begins and ends, as `pairs` finds it
 
--- from i up to `at` there is no line feed
-pub record Back (t : List ℕ) (at i : ℕ) : Type 0 where
-  pub within : i ≤ at
-  pub left : behind (take at t) + i ≡ at + behind (take i t)
+module _ (t : List ℕ) (p : ℕ) (h : suc p ≤ length t) where
+  begin-more : (q : Bool) → eqb (byte t p) 10 ≡ q → line-begin t p + behind (take p t) ≡ p
+      → line-begin t (suc p) + behind (take (suc p) t) ≡ suc p
+  begin-more true e g =
+      let x = eqb-true (byte t p) 10 e in
+      let b : behind (take (suc p) t) ≡ 0 = rw (add-one p) at (behind-none t p (omega arith) x) in
+      omega (arith, begin-here t p (feed (byte t p) x), b)
+  begin-more false e g =
+      let x = eqb-false (byte t p) 10 e in
+      let b : behind (take (suc p) t) ≡ behind (take p t) + 1 = rw (add-one p) at (behind-more t p (omega arith) x) in
+      omega (arith, begin-on t p (no-feed (byte t p) x), b, g)
 
--- at first
-pub back-none : (t : List ℕ) (at : ℕ) → Back t at at
-back-none t at = record { within = omega arith; left = omega arith }
+begin-behind : (t : List ℕ) (p : ℕ) → p ≤ length t → line-begin t p + behind (take p t) ≡ p
+unfolding line-begin behind
+begin-behind t zero h = behind-nil t
+begin-behind t (suc p) h = begin-more t p h (eqb (byte t p) 10) refl (begin-behind t p (omega arith))
 
-module _ {t : List ℕ} {at i : ℕ} (g : Back t at i) where
-  -- the byte before i is a line feed
-  pub back-feed : at ≤ length t → 0 < i → getD t (i - 1) 0 ≡ 10 → i + behind (take at t) ≡ at
-  back-feed l p e =
-      let x : i - 1 + 1 ≡ i = omega arith in
-      let h : i - 1 < length t = omega (arith, g .within) in
-      let b = rw x at (behind-none t (i - 1) h e) in omega (arith, g .left, b)
+-- what stands behind the last line feed goes from where the line begins
+pub starts-behind : (t : List ℕ) (p r : ℕ) → p ≤ length t → r ≡ line-begin t p → r + behind (take p t) ≡ p
+starts-behind t p r h e = ap (λ (z : ℕ). z + behind (take p t)) e ∙ begin-behind t p h
 
-  -- it is another byte
-  pub back-more : at ≤ length t → 0 < i → (getD t (i - 1) 0 ≡ 10 → ⊥) → Back t at (i - 1)
-  back-more l p e =
-      let x : i - 1 + 1 ≡ i = omega arith in
-      let h : i - 1 < length t = omega (arith, g .within) in
-      let b = rw x at (behind-more t (i - 1) h e) in record { within = omega (arith, g .within); left = omega (arith, g .left, b) }
+turned : (q : Bool) (n : ℕ) → cond (not q) (suc n) zero ≡ cond q zero (suc n)
+turned true n = refl
+turned false n = refl
 
-  -- there is none
-  pub back-all : i ≤ 0 → 0 + behind (take at t) ≡ at
-  back-all z = let x : i ≡ 0 = omega arith in omega (arith, rw x at (g .left), behind-nil t)
+before-ahead : (t : List ℕ) → before-feed t ≡ ahead t
+unfolding before-feed ahead is-in-line
+before-ahead [] = refl
+before-ahead (b ∷ t) = rw (before-ahead t) (turned (eqb b 10) (ahead t))
+
+-- what stands before the next one goes up to where it ends
+pub ends-ahead : (t : List ℕ) (p r : ℕ) → r ≡ line-end t p → r ≡ p + ahead (drop p t)
+unfolding line-end
+ends-ahead t p r e = e ∙ ap (λ (z : ℕ). p + z) (before-ahead (drop p t))
 
 -- no more stands ahead than there is
 ahead-short : (q : Bool) (m n : ℕ) → m ≤ n → cond q zero (suc m) ≤ suc n

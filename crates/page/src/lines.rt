@@ -38,14 +38,7 @@ pub fn line_start(source: &[u8], at: usize) -> usize
     requires { ⌜ at ≤ length (now source) ⌝ }
     ensures { λ r. ⌜ r + behind (take at (now (source .entry))) ≡ at ⌝ }
 {
-    let mut i = at;
-    while 0 < i {
-        if source[i - 1] == b'\n' {
-            return i;
-        }
-        i -= 1;
-    }
-    0
+    pairs::begin_of(source, at)
 }
 
 // Where the line of a place ends: at its line feed, or with the text.
@@ -53,14 +46,7 @@ pub fn line_end(source: &[u8], at: usize) -> usize
     requires { ⌜ at ≤ length (now source) ⌝ }
     ensures { λ r. ⌜ r ≡ at + ahead (drop at (now (source .entry))) ⌝ }
 {
-    let mut i = at;
-    while i < source.len() {
-        if source[i] == b'\n' {
-            return i;
-        }
-        i += 1;
-    }
-    i
+    pairs::end_of(source, at)
 }
 
 // How many columns these bytes take: one for each character where the line is UTF-8, and else for each byte.

@@ -14,11 +14,11 @@ use Rattle.language.specs.Pairs.{line-begin, line-end, Place, in-sheet, place-o
 use Rattle.language.specs.Text.{byte, is-in-line}
 
 -- an LF ends a line, and no other byte does
-feed : (b : ℕ) → b ≡ 10 → is-in-line b ≡ false
+pub feed : (b : ℕ) → b ≡ 10 → is-in-line b ≡ false
 unfolding is-in-line
 feed b e = rw (eq-eqb b 10 e)
 
-no-feed : (b : ℕ) → (b ≡ 10 → ⊥) → is-in-line b ≡ true
+pub no-feed : (b : ℕ) → (b ≡ 10 → ⊥) → is-in-line b ≡ true
 unfolding is-in-line
 no-feed b e = rw (ne-eqb b 10 e)
 

@@ -28,7 +28,7 @@ pub fn front() -> Spot
 }
 
 // Where the line of a byte begins.
-fn begin_of(sheet: &[u8], at: usize) -> usize
+pub fn begin_of(sheet: &[u8], at: usize) -> usize
     requires { ⌜ at ≤ length (now sheet) ⌝ }
     ensures { λ r. ⌜ r ≡ line-begin (now (sheet .entry)) at ⌝ }
 {
@@ -44,7 +44,7 @@ fn begin_of(sheet: &[u8], at: usize) -> usize
 }
 
 // Where it ends: at its LF, which does not belong to it, or with the sheet.
-fn end_of(sheet: &[u8], at: usize) -> usize
+pub fn end_of(sheet: &[u8], at: usize) -> usize
     requires { ⌜ at ≤ length (now sheet) ⌝ }
     ensures { λ r. ⌜ r ≡ line-end (now (sheet .entry)) at ⌝ }
 {

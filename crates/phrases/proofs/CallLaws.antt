@@ -1,4 +1,4 @@
--- The ways through `name_or_call` and `arguments`.
+-- The ways through `named` and `arguments`.
 use mathlib.Core.List.{List}
 use mathlib.Core.Path.{_≡_, refl, ap, subst, _∙_}
 use Prim.Native.Nat.{ℕ, _+_, _<_}

@@ -1,4 +1,4 @@
-// Seq, Tail, Let and Item. These readers and those of `loops`, `operands` and `names` call each other. Each call
+// Seq, Tail, Let and Item. These readers and those of `loops`, `tiers` and `names` call each other. Each call
 // goes to a later token, or to a lower rule at the same one.
 ghost use mathlib.Core.Path.{_≡_};
 ghost use Prim.Native.Nat.{_≤_};
@@ -6,11 +6,11 @@ ghost use Rattle.language.specs.Tokens.{LET, IF, WHILE};
 ghost use Rattle.layout.specs.Table.{kind-of};
 ghost use Rattle.phrases.specs.Parts.{Room, Yields, Halts, Seq, Clause, Let, Until};
 use crate::loops::for_in;
-use crate::operands::assign;
 use crate::parts::Part;
 use crate::parts::around;
 use crate::parts::choice;
 use crate::parts::pair;
+use crate::tiers::assign;
 use language::kinds;
 use layout::token::kind;
 

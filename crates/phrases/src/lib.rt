@@ -7,6 +7,6 @@
 pub mod items;
 pub mod loops;
 pub mod names;
-pub mod operands;
 pub mod operators;
 pub mod parts;
+pub mod tiers;

@@ -15,7 +15,7 @@ use layout::rows::CALL;
 use layout::token::kind;
 
 // At a name, which is called where `(` stands behind it.
-pub fn name_or_call(table: &mut [u32], count: usize, at: usize, free: usize) -> Part
+pub fn named(table: &mut [u32], count: usize, at: usize, free: usize) -> Part
     requires { ⌜ Room count (now table) at free ⌝ }
     requires { ⌜ kind-of (now table) count at ≡ NAME ⌝ }
     ensures { λ g. ⌜ Yields (Atom at) count (now (table .entry)) at free g (now (table .exit)) ⌝ }

@@ -21,7 +21,8 @@ use Rattle.runner.specs.Waiting.{Run}
 use Rattle.runner.specs.Standing.{Resumes, above, begun, weight, Any, OfAll, Prints, Printing, LastOf, Heads, callee, Callable, Enters}
 use Rattle.runner.specs.declared.state.Spot.{Spot}
 use Rattle.runner.specs.declared.state.Next.{Next}
-use Rattle.runner.proofs.Passing.{argument-row, argument-heads, argument-inside, argument-slot, argument-prints, argument-callable, argument-fits, argument-enters, next-inside, next-small, argument-passes}
+use Rattle.runner.proofs.Passing.{argument-row, argument-heads, argument-inside, argument-slot, argument-prints}
+use Rattle.runner.proofs.Passing.{argument-callable, argument-fits, argument-enters, next-inside, next-small, argument-passes}
 use Rattle.runner.proofs.Promises.{prints-to}
 use Rattle.runner.proofs.Resuming.{onward-less}
 

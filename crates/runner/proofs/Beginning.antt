@@ -22,13 +22,15 @@ use Rattle.machine.specs.Outcomes.{memory}
 use Rattle.numbers.specs.declared.Stop.{Stop}
 use Rattle.machine.specs.declared.state.Tally.{Tally}
 use Rattle.runner.specs.Phases.{waits}
-use Rattle.runner.specs.Trees.{NameAt, At, at-name, at-literal, at-unary, at-binary, at-follow, at-group, at-block, at-call, at-bind, at-branch, at-loop, at-counted, slack, Scene}
+use Rattle.runner.specs.Trees.{NameAt, At, at-name, at-literal, at-unary, at-binary, at-follow, at-group}
+use Rattle.runner.specs.Trees.{at-block, at-call, at-bind, at-branch, at-loop, at-counted, slack, Scene}
 use Rattle.runner.specs.Waiting.{Run, Then, Binds, Stack}
 use Rattle.runner.specs.Standing.{Fair, Begins, Starts, Gives, Good, charged, over}
 use Rattle.runner.specs.declared.state.Spot.{Spot}
 use Rattle.runner.specs.declared.state.Ending.{Ending}
 use Rattle.layout.proofs.Shapes.{unary-high, binary-between}
-use Rattle.runner.proofs.RowKinds.{literal-range, range-between, range-waits, unary-waits, binary-waits, semi-waits, group-waits, block-waits, call-waits, let-waits, if-waits, while-waits, clash, clash-waits}
+use Rattle.runner.proofs.RowKinds.{literal-range, range-between, range-waits, unary-waits, binary-waits, semi-waits}
+use Rattle.runner.proofs.RowKinds.{group-waits, block-waits, call-waits, let-waits, if-waits, while-waits, clash, clash-waits}
 use Rattle.runner.proofs.Finding.{bound-holds}
 use Rattle.runner.proofs.Entering.{fair-low}
 

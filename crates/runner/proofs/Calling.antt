@@ -21,7 +21,8 @@ use Rattle.machine.specs.Slots.{values-from}
 use Rattle.machine.specs.Outcomes.{memory}
 use Rattle.machine.specs.declared.state.Tally.{Tally}
 use Rattle.runner.specs.Phases.{LAST, ARGUMENT}
-use Rattle.runner.specs.Trees.{Head, NameAt, count, At, at-name, at-literal, at-unary, at-binary, at-follow, at-group, at-block, at-call, at-bind, at-branch, at-loop, at-counted, Args, slack, Scene}
+use Rattle.runner.specs.Trees.{Head, NameAt, count, At, at-name, at-literal, at-unary, at-binary, at-follow, at-group}
+use Rattle.runner.specs.Trees.{at-block, at-call, at-bind, at-branch, at-loop, at-counted, Args, slack, Scene}
 use Rattle.runner.specs.Waiting.{Run, FrameAt, which, called, Does, by-call, Waits}
 use Rattle.runner.specs.Standing.{Begins, Starts, Good, Heads, callee, Callable, Enters}
 use Rattle.runner.specs.declared.state.Spot.{Spot}

@@ -28,7 +28,8 @@ use Rattle.machine.specs.Outcomes.{memory}
 use Rattle.machine.specs.declared.state.Tally.{Tally}
 use Rattle.numbers.specs.declared.Stop.{Stop}
 use Rattle.runner.specs.Phases.{ARGUMENT}
-use Rattle.runner.specs.Trees.{count, slack, At, at-name, at-literal, at-unary, at-binary, at-follow, at-group, at-block, at-call, at-bind, at-branch, at-loop, at-counted, Args}
+use Rattle.runner.specs.Trees.{count, slack, At, at-name, at-literal, at-unary, at-binary, at-follow}
+use Rattle.runner.specs.Trees.{at-group, at-block, at-call, at-bind, at-branch, at-loop, at-counted, Args}
 use Rattle.runner.specs.Waiting.{Run, Then, bounded, ForAt, ForDoes, Does, by-for}
 use Rattle.runner.specs.Standing.{Begins, Starts, Resumes, Good, over}
 use Rattle.runner.specs.Loops.{Counting}

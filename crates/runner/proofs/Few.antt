@@ -11,7 +11,8 @@ use Rattle.language.specs.Tokens.{same}
 use Rattle.language.specs.Trees.{Name, Ty, Exp, name, literal, unary, binary, follow, group, block, call, bind, branch}
 use Rattle.language.specs.Trees.{loop, counted, Exps, last, more, Param, Def, Scope, empty, push, nearest, size, PUTCHAR}
 use Rattle.language.specs.Types.{Sig, Typed, t-name, t-whole, t-truth, t-trivial, t-decimal, t-unary, t-binary, t-follow, t-group, t-block, t-call}
-use Rattle.language.specs.Types.{t-bind, t-branch, t-loop, t-counted, Bounds, two, three, TypedAll, t-last, t-more, Takes, takes-none, takes-more, sig, with-def, given, Fine, fine}
+use Rattle.language.specs.Types.{t-bind, t-branch, t-loop, t-counted, Bounds, two, three, TypedAll, t-last}
+use Rattle.language.specs.Types.{t-more, Takes, takes-none, takes-more, sig, with-def, given, Fine, fine}
 use Rattle.language.proofs.Meaning.CellTypes.{none-some, some-one}
 use Rattle.runner.specs.Trees.{count}
 

@@ -20,7 +20,8 @@ use Rattle.runner.specs.Trees.{At, slack, Scene}
 use Rattle.runner.specs.Waiting.{Run, Then, Binds, FrameAt, Waits, Stack, ground, frame}
 use Rattle.runner.specs.Standing.{Fair, Begins, Gives, Resumes}
 use Rattle.runner.specs.declared.state.Spot.{Spot}
-use Rattle.runner.proofs.Memory.{Stored, stored-phase, stored-slot, stored-then, frame-turned, frame-kept, key-kept, value-kept, keys-kept, memory-kept, fair-kept}
+use Rattle.runner.proofs.Memory.{Stored, stored-phase, stored-slot, stored-then, frame-turned}
+use Rattle.runner.proofs.Memory.{frame-kept, key-kept, value-kept, keys-kept, memory-kept, fair-kept}
 use Rattle.runner.proofs.Stacks.{Kept, binds-kept, later-kept, stack-kept, stack-raise}
 use Rattle.runner.proofs.Entering.{fair-low, spot, enter}
 

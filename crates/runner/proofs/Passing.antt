@@ -29,7 +29,8 @@ use Rattle.runner.specs.Waiting.{Run, Then, Binds, binds-held, FrameAt, 
 use Rattle.runner.specs.Standing.{Begins, Resumes, Good, Printing, Heads, callee, Callable, Enters}
 use Rattle.runner.specs.declared.state.Spot.{Spot}
 use Rattle.runner.specs.declared.state.Next.{Next}
-use Rattle.runner.proofs.Memory.{Stored, stored-frame, stored-slot, stored-keyed, stored-then, frame-pushed, frame-kept, key-kept, value-kept, values-kept}
+use Rattle.runner.proofs.Memory.{Stored, stored-frame, stored-slot, stored-keyed, stored-then}
+use Rattle.runner.proofs.Memory.{frame-pushed, frame-kept, key-kept, value-kept, values-kept}
 use Rattle.runner.proofs.Stacks.{then-then, helds-length, binds-kept}
 use Rattle.runner.proofs.Functions.{values-more, values-length, values-by, parameters-length, callable, Called, call-prints, call-enters, body-of}
 use Rattle.runner.proofs.Entering.{spot, told-whole, onward-good, fair-printed, same-stack}

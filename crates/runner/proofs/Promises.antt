@@ -18,7 +18,8 @@ use Rattle.machine.specs.declared.state.Outcome.{Outcome}
 use Rattle.numbers.specs.declared.Stop.{Stop}
 use Rattle.machine.specs.declared.state.Tally.{Tally}
 use Rattle.runner.specs.Waiting.{Run}
-use Rattle.runner.specs.Standing.{Begins, Starts, Gives, Resumes, Good, charged, given, over, onward, weight, Some, Goes, Of, Any, Prints, Printing, Creating}
+use Rattle.runner.specs.Standing.{Begins, Starts, Gives, Resumes, Good, charged, given, over}
+use Rattle.runner.specs.Standing.{onward, weight, Some, Goes, Of, Any, Prints, Printing, Creating}
 use Rattle.runner.specs.declared.state.Ending.{Ending}
 use Rattle.runner.specs.declared.state.Spot.{Spot}
 use Rattle.runner.specs.declared.state.Next.{Next}

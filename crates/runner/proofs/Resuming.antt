@@ -28,8 +28,10 @@ use Rattle.runner.specs.declared.state.Spot.{Spot}
 use Rattle.runner.specs.declared.state.Ending.{Ending}
 use Rattle.runner.specs.declared.state.Next.{Next}
 use Rattle.runner.proofs.Giving.{give-resumes}
-use Rattle.runner.proofs.Operating.{resume-last, resume-inside, unary-inside, unary-other, resume-unary, resume-create, right-inside, right-slot, resume-right, left-inside, left-slot, resume-settled, resume-held}
-use Rattle.runner.proofs.Controlling.{before-inside, resume-before, bound-inside, bound-token, bound-slot, bound-key, resume-bound, condition-inside, resume-then, resume-else, test-inside, resume-test, resume-end, pass-inside, resume-pass, resume-whole}
+use Rattle.runner.proofs.Operating.{resume-last, resume-inside, unary-inside, unary-other, resume-unary, resume-create}
+use Rattle.runner.proofs.Operating.{right-inside, right-slot, resume-right, left-inside, left-slot, resume-settled, resume-held}
+use Rattle.runner.proofs.Controlling.{before-inside, resume-before, bound-inside, bound-token, bound-slot, bound-key, resume-bound, condition-inside}
+use Rattle.runner.proofs.Controlling.{resume-then, resume-else, test-inside, resume-test, resume-end, pass-inside, resume-pass, resume-whole}
 use Rattle.runner.proofs.Promises.{goes-to}
 
 -- what an operator gave is less than what it was given

@@ -13,7 +13,9 @@ use Rattle.language.specs.Meaning.{Env}
 use Rattle.layout.specs.Slots.{key-at}
 use Rattle.layout.specs.Frames.{FRAMES-AT, CELLS-AT}
 use Rattle.runner.specs.Phases.{LAST, UNARY, LEFT, RIGHT, BEFORE, INSIDE, BOUND, CONDITION, TEST, PASS, ARGUMENT, COUNTED}
-use Rattle.runner.specs.Waiting.{Run, Then, Binds, binds-none, binds-name, binds-held, Later, which, WaitsLast, WaitsUnary, WaitsLeft, WaitsRight, WaitsBefore, WaitsInside, WaitsBound, WaitsCondition, WaitsTest, WaitsPass, WaitsArgument, WaitsCounted, WaitsWhole, Waits, Stack, ground, frame}
+use Rattle.runner.specs.Waiting.{Run, Then, Binds, binds-none, binds-name, binds-held, Later, which, WaitsLast, WaitsUnary}
+use Rattle.runner.specs.Waiting.{WaitsLeft, WaitsRight, WaitsBefore, WaitsInside, WaitsBound, WaitsCondition, WaitsTest}
+use Rattle.runner.specs.Waiting.{WaitsPass, WaitsArgument, WaitsCounted, WaitsWhole, Waits, Stack, ground, frame}
 use Rattle.runner.specs.Trees.{helds}
 use Rattle.runner.proofs.Memory.{Below, frame-kept, value-kept, key-kept, values-kept}
 

@@ -21,13 +21,15 @@ use Rattle.layout.proofs.Shapes.{range-counts}
 use Rattle.machine.specs.Outcomes.{memory}
 use Rattle.machine.specs.declared.state.Tally.{Tally}
 use Rattle.runner.specs.Phases.{waits, phase-of}
-use Rattle.runner.specs.Trees.{At, at-name, at-literal, at-unary, at-binary, at-follow, at-group, at-block, at-call, at-bind, at-branch, at-loop, at-counted, slack, Scene}
+use Rattle.runner.specs.Trees.{At, at-name, at-literal, at-unary, at-binary, at-follow, at-group}
+use Rattle.runner.specs.Trees.{at-block, at-call, at-bind, at-branch, at-loop, at-counted, slack, Scene}
 use Rattle.runner.specs.Waiting.{Run, Then, Binds, FrameAt, Later, which, tested, Waits, Stack}
 use Rattle.runner.specs.Standing.{Fair, Begins, Starts}
 use Rattle.runner.specs.declared.state.Spot.{Spot}
 use Rattle.runner.proofs.Memory.{Stored, stored-frame, frame-pushed, keys-kept, memory-kept, fair-kept}
 use Rattle.runner.proofs.Stacks.{then-then, Kept, binds-kept, stack-kept}
-use Rattle.runner.proofs.RowKinds.{literal-waits, unary-phase, binary-phase, group-phase, block-phase, semi-phase, let-phase, if-phase, while-phase, clash-bool, clash-still}
+use Rattle.runner.proofs.RowKinds.{literal-waits, unary-phase, binary-phase, group-phase, block-phase}
+use Rattle.runner.proofs.RowKinds.{semi-phase, let-phase, if-phase, while-phase, clash-bool, clash-still}
 use Rattle.runner.proofs.Entering.{spot, enter}
 
 -- what is live now

@@ -29,7 +29,8 @@ opened true i by s m = choose (is-zero by) (λ _. stop zero-step i s) λ _. m
 opened false i by s m = m
 
 -- z is next; the last frame is the node's, whatever it waited for
-pub record Counting (q : Run) (t w o : List ℕ) (first : Bool) (node : ℕ) (z to by : Value) (p : Spot) (s : Tally) : Type 0 where
+pub record Counting (q : Run) (t w o : List ℕ) (first : Bool) (node : ℕ) (z to by : Value) (p : Spot) (s : Tally)
+    : Type 0 where
   pub v : Value
   pub phase : ℕ
   pub frame : Resumes q t w o v node phase p s
@@ -42,7 +43,8 @@ pub record Counting (q : Run) (t w o : List ℕ) (first : Bool) (node : ℕ) (z 
   pub step-is : meant by ≡ number step
   pub room : p .base + length (frame .L) + WAITING * suc (frame .d) ≤ WAITING * ACTIVE
   pub means : then (opened first (loop .i) step (memory w o s)
-      (for-from (q .fs) (frame .d) (loop .x) (loop .through) end step (loop .e) (frame .env) n (memory w o s))) (frame .κ) ≡ q .whole
+      (for-from (q .fs) (frame .d) (loop .x) (loop .through) end step (loop .e) (frame .env) n (memory w o s)))
+      (frame .κ) ≡ q .whole
 
 -- the name's slot, and those of the end and the step above it
 abbrev pub put-bound : List ℕ → ℕ → ℕ → Value → Value → Value → List ℕ
@@ -50,6 +52,7 @@ put-bound w at key z to by = put-slot (put-slot (put-slot w 0 at key z) 0 (at + 
 
 -- the body begins, for z
 pub record BodyBegins (t w w′ : List ℕ) (node : ℕ) (z to by v : Value) (p : Spot) (s : Tally) (r : Next) : Type 0 where
-  pub laid : w′ ≡ put-phase (put-bound w (p .base + p .size) (token-value t (row-word t node OWN + 1)) z to by) (p .height) COUNTED
+  pub laid : w′ ≡ put-phase (put-bound w (p .base + p .size) (token-value t (row-word t node OWN + 1)) z to by)
+      (p .height) COUNTED
   pub is : r ≡ begun (row-word t node SECOND) v (above (p .base) (p .size + 3) p) s
   pub survive : Survives z × Survives to × Survives by

@@ -242,7 +242,8 @@ pub record Callable (t : List ℕ) (row n : ℕ) : Type 0 where
 
 -- the body of the function at a row begins
 pub record Enters (t w w′ : List ℕ) (node row : ℕ) (v : Value) (p : Spot) (s : Tally) (r : Next) : Type 0 where
-  pub keyed : Keyed t (put-frame w (p .height) node LAST (p .base) (p .size) 0) w′ row (p .base + p .size) (row-word t row ARITY)
+  pub keyed : Keyed t (put-frame w (p .height) node LAST (p .base) (p .size) 0) w′ row (p .base + p .size)
+      (row-word t row ARITY)
   pub is : r ≡ begun (row-word t row BODY) v (above (p .base + p .size) (row-word t row ARITY) p) s
 
 -- a part of a turn of the loop goes on, or leaves alone what it is not for

@@ -6,9 +6,11 @@ use Prim.Native.Nat.{ℕ, zero, suc, _+_, _≤_, _<_}
 use lib.ListN.{length}
 use Rattle.language.specs.Sizes.{TOKENS, NODES, PARAMETERS, TABLE}
 use Rattle.language.specs.Tokens.{Token, NAME, LET, IF, WHILE, SEMI, LPAR, LBRACE}
-use Rattle.language.specs.Trees.{Name, Literal, Unary, Binary, Exp, name, literal, unary, binary, follow, group, block, call, bind, branch, loop, counted, Exps, last, more, Def, Scope, empty, push, PUTCHAR}
+use Rattle.language.specs.Trees.{Name, Literal, Unary, Binary, Exp, name, literal, unary, binary, follow, group, block}
+use Rattle.language.specs.Trees.{call, bind, branch, loop, counted, Exps, last, more, Def, Scope, empty, push, PUTCHAR}
 use Rattle.language.specs.Meaning.{Fun, putchar, defined}
-use Rattle.layout.specs.Table.{KIND, OWN, FIRST, SECOND, THIRD, EXPRESSION, NEXT, ARITY, BODY, token-value, row-word, function-row}
+use Rattle.layout.specs.Table.{KIND, OWN, FIRST, SECOND, THIRD, EXPRESSION, NEXT}
+use Rattle.layout.specs.Table.{ARITY, BODY, token-value, row-word, function-row}
 use Rattle.layout.specs.Names.{Stand, Named}
 use Rattle.layout.specs.Rows.{CALL, literal-kind, unary-kind, binary-kind, range-kind}
 use Rattle.layout.specs.Functions.{function-name, Headed}
@@ -65,13 +67,15 @@ module _ (ts : List Token) (t : List ℕ) where
       at-unary : {row i : ℕ} {o : Unary} {e : Exp}
           → Head t row (unary-kind o) i → At (row-word t row FIRST) e → At row (unary i o e)
       at-binary : {row i : ℕ} {o : Binary} {e f : Exp}
-          → Head t row (binary-kind o) i → At (row-word t row FIRST) e → At (row-word t row SECOND) f → At row (binary i o e f)
+          → Head t row (binary-kind o) i → At (row-word t row FIRST) e → At (row-word t row SECOND) f
+          → At row (binary i o e f)
       at-follow : {row i : ℕ} {e f : Exp}
           → Head t row SEMI i → At (row-word t row FIRST) e → At (row-word t row SECOND) f → At row (follow i e f)
       at-group : {row i : ℕ} {e : Exp} → Head t row LPAR i → At (row-word t row FIRST) e → At row (group i e)
       at-block : {row i : ℕ} {e : Exp} → Head t row LBRACE i → At (row-word t row FIRST) e → At row (block i e)
       at-call : {row i : ℕ} {x : Name} {es : Exps}
-          → Head t row CALL i → NameAt ts t i x → count es ≤ PARAMETERS → Args (row-word t row FIRST) es → At row (call i x es)
+          → Head t row CALL i → NameAt ts t i x → count es ≤ PARAMETERS → Args (row-word t row FIRST) es
+          → At row (call i x es)
       at-bind : {row i : ℕ} {x : Name} {e f : Exp}
           → Head t row LET i → NameAt ts t (i + 1) x → At (row-word t row FIRST) e → At (row-word t row SECOND) f
           → At row (bind i x e f)

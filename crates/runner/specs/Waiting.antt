@@ -10,8 +10,10 @@ use Rattle.language.specs.Sizes.{NODES, ACTIVE, PARAMETERS}
 use Rattle.language.specs.Tokens.{Token}
 use Rattle.language.specs.Trees.{Name, Unary, Binary, Exp, Exps, Scope, empty, push, nearest}
 use Rattle.language.specs.State as M
-use Rattle.language.specs.State.{number, nothing, value, stop, stuck, zero-step, then, as-bool, as-unit, want, choose, keep, with-cells}
-use Rattle.language.specs.Meaning.{Fun, Env, in-range, is-zero, apply-unary, apply-binary, settles, with-bounds, arguments, invoke, eval}
+use Rattle.language.specs.State.{number, nothing, value, stop, stuck, zero-step, then}
+use Rattle.language.specs.State.{as-bool, as-unit, want, choose, keep, with-cells}
+use Rattle.language.specs.Meaning.{Fun, Env, in-range, is-zero, apply-unary, apply-binary}
+use Rattle.language.specs.Meaning.{settles, with-bounds, arguments, invoke, eval}
 use Rattle.language.proofs.Meaning.Spending.{while}
 use Rattle.language.proofs.Meaning.Turns.{for-from}
 use Rattle.layout.specs.Table.{OWN, FIRST, SECOND, THIRD, NEXT, row-word}
@@ -20,10 +22,11 @@ use Rattle.layout.specs.Rows.{CALL, unary-kind, binary-kind, range-kind}
 use Rattle.layout.specs.Slots.{TAGS, HELD, WAITING, key-at, value-at}
 use Rattle.layout.specs.Frames.{NODE, PHASE, BASE, CELLS-AT, frame-word, frame-size, frame-mark}
 use Rattle.machine.specs.Slots.{values-from}
-use Rattle.runner.specs.Phases.{LAST, UNARY, LEFT, RIGHT, BEFORE, INSIDE, BOUND, CONDITION, TEST, PASS, ARGUMENT, COUNTED}
+use Rattle.runner.specs.Phases.{LAST, UNARY, LEFT, RIGHT, BEFORE, INSIDE, BOUND}
+use Rattle.runner.specs.Phases.{CONDITION, TEST, PASS, ARGUMENT, COUNTED}
 use Rattle.runner.specs.Trees.{Head, NameAt, count, helds, At, Args}
 
--- ---- a run: its tokens and functions, the outcome of the whole, which is not stuck, and the memories as they were lent
+-- ---- a run: its tokens and functions, the outcome of the whole, not stuck, and the memories as they were lent
 
 pub record Run : Type 0 where
   pub ts : List Token
@@ -45,7 +48,8 @@ pub data Binds (ts : List Token) (w : List ℕ) (base : ℕ) : List ℕ → Env 
   binds-name : {n : ℕ} {x : Name} {L : List ℕ} {env : Env} {v : M.Value}
       → Named ts n x → key-at w 0 (base + length L) ≡ n → value-at w 0 (base + length L) ≡ v → Binds ts w base L env
       → Binds ts w base (n ∷ L) (push x v env)
-  binds-held : {L : List ℕ} {env : Env} → key-at w 0 (base + length L) ≡ HELD → Binds ts w base L env → Binds ts w base (HELD ∷ L) env
+  binds-held : {L : List ℕ} {env : Env} → key-at w 0 (base + length L) ≡ HELD → Binds ts w base L env
+      → Binds ts w base (HELD ∷ L) env
 
 -- ---- frames
 
@@ -80,11 +84,13 @@ called fs d i x vs s = want (nearest x fs) λ g. invoke fs (eval fs d) i g vs s
 -- what a `for` does with the values of its bounds, and with that of a pass for z
 abbrev pub bounded : Scope Fun → ℕ → ℕ → Name → Bool → Exp → Env → List M.Value → M.State → M.Outcome
 bounded fs d i x through e env vs s =
-    with-bounds vs λ from to by. choose (is-zero by) (λ _. stop zero-step i s) λ _. for-from fs d x through to by e env from s
+    with-bounds vs λ from to by. choose (is-zero by) (λ _. stop zero-step i s)
+    λ _. for-from fs d x through to by e env from s
 
 abbrev pub passed : Scope Fun → ℕ → Name → Bool → ℤ → ℤ → Exp → Env → ℤ → Then
 passed fs d x through to by e env z v s =
-    want (as-unit v) λ _. choose (in-range (z +ℤ by)) (λ _. for-from fs d x through to by e env (z +ℤ by) s) λ _. value nothing s
+    want (as-unit v) λ _. choose (in-range (z +ℤ by)) (λ _. for-from fs d x through to by e env (z +ℤ by) s)
+    λ _. value nothing s
 
 -- the `for` at a row
 pub record ForAt (q : Run) (t : List ℕ) (row : ℕ) : Type 0 where
@@ -114,8 +120,8 @@ module _ (q : Run) (t : List ℕ) (d row : ℕ) (env : Env) (done : List M.Value
     by-call : CallDoes → Does
     by-for : ForDoes → Does
 
--- A frame of the node at a row, whose part may have d more active: κ is what comes behind the node, κ′ what comes behind the
--- part, and u slots above its own L hold values. There were n cells and b births when it began to wait.
+-- A frame of the node at a row, whose part may have d more active: κ is what comes behind the node, κ′ what comes
+-- behind the part, and u slots above its own L hold values. There were n cells and b births when it began to wait.
 module _ (q : Run) (t w : List ℕ) (d row base mark n b : ℕ) (L : List ℕ) (env : Env) (κ κ′ : Then) (u : ℕ) where
   abbrev Tree : ℕ → Exp → Type 0
   Tree r e = At (q .ts) t r e
@@ -143,7 +149,8 @@ module _ (q : Run) (t w : List ℕ) (d row base mark n b : ℕ) (L : List ℕ) (
     pub room : Roomy
     pub at : Tree (row-word t row SECOND) f
     pub goes : (v : M.Value) (s : M.State)
-        → κ′ v s ≡ then (choose (settles o v) (λ _. value v s) λ _. then (eval (q .fs) d f env s) λ x s. apply-binary i o v x s) κ
+        → κ′ v s ≡ then (choose (settles o v) (λ _. value v s) λ _. then (eval (q .fs) d f env s)
+        λ x s. apply-binary i o v x s) κ
 
   pub record WaitsRight : Type 0 where
     pub i : ℕ
@@ -207,7 +214,8 @@ module _ (q : Run) (t w : List ℕ) (d row base mark n b : ℕ) (L : List ℕ) (
     pub at-e : Tree (row-word t row SECOND) e
     pub goes : (v : M.Value) (s : M.State) → κ′ v s ≡ then (want (as-unit v) λ _. while (q .fs) d c e env s) κ
 
-  -- for argument or bound k, whose row and number are the mark, with the values vs before it and the arguments es behind it
+  -- for argument or bound k, whose row and number are the mark, with the values vs before it and the arguments es
+  -- behind it
   pub record WaitsArgument : Type 0 where
     pub arg : ℕ
     pub k : ℕ

@@ -48,7 +48,8 @@ pub fn begin(
     s: Tally,
 ) -> Next
     requires { ⌜ Some (Of defs λ q o. Begins q (now table) (now work) o node spot s) ⌝ }
-    ensures { λ r. ⌜ Goes (Of defs λ q o. Begins q (now (table .entry)) (now (work .entry)) o node spot s) (now (table .entry)) (now (work .exit)) (3 * s .units + spot .height + 1) r ⌝ }
+    ensures { λ r. ⌜ Goes (Of defs λ q o. Begins q (now (table .entry)) (now (work .entry)) o node spot s)
+        (now (table .entry)) (now (work .exit)) (3 * s .units + spot .height + 1) r ⌝ }
 {
     if machine::state::exhausted(s) {
         let place = rows::word(table, node, rows::OWN);
@@ -121,7 +122,8 @@ fn start(
     s: Tally,
 ) -> Next
     requires { ⌜ Some (Of defs λ q o. Starts q (now table) (now work) o node spot s) ⌝ }
-    ensures { λ r. ⌜ Goes (Of defs λ q o. Starts q (now (table .entry)) (now (work .entry)) o node spot s) (now (table .entry)) (now (work .exit)) (3 * s .units + spot .height + 3) r ⌝ }
+    ensures { λ r. ⌜ Goes (Of defs λ q o. Starts q (now (table .entry)) (now (work .entry)) o node spot s)
+        (now (table .entry)) (now (work .exit)) (3 * s .units + spot .height + 3) r ⌝ }
 {
     let kind = rows::word(table, node, rows::KIND);
     if kind == kinds::NAME {
@@ -145,8 +147,10 @@ fn start(
 
 // What the nearest binding of the name holds.
 fn look(table: &[u32], work: &[u32], node: usize, spot: Spot, s: Tally) -> Next
-    requires { ⌜ Some (λ q o. Starts q (now table) (now work) o node spot s) × (row-word (now table) node KIND ≡ NAME) ⌝ }
-    ensures { λ r. ⌜ Goes (λ q o. Starts q (now (table .entry)) (now (work .entry)) o node spot s) (now (table .entry)) (now (work .entry)) (3 * s .units + spot .height + 3) r ⌝ }
+    requires { ⌜ Some (λ q o. Starts q (now table) (now work) o node spot s)
+        × (row-word (now table) node KIND ≡ NAME) ⌝ }
+    ensures { λ r. ⌜ Goes (λ q o. Starts q (now (table .entry)) (now (work .entry)) o node spot s) (now (table .entry))
+        (now (work .entry)) (3 * s .units + spot .height + 3) r ⌝ }
 {
     let own = rows::link(table, node, rows::OWN);
     let key = token::value(table, own);
@@ -164,8 +168,11 @@ fn wait(
     spot: Spot,
     s: Tally,
 ) -> Next
-    requires { ⌜ (WORK ≤ length (now work)) × (spot .height < FRAMES) × (node < NODES) × (spot .base ≤ WORK) × (spot .size < SIZES) × (s .cells ≤ WORK) ⌝ }
-    ensures { λ r. ⌜ (now (work .exit) ≡ put-frame (now (work .entry)) (spot .height) node phase (spot .base) (spot .size) (s .cells)) × (r ≡ begun part v (above (spot .base) (spot .size) spot) s) ⌝ }
+    requires { ⌜ (WORK ≤ length (now work)) × (spot .height < FRAMES) × (node < NODES) × (spot .base ≤ WORK)
+        × (spot .size < SIZES) × (s .cells ≤ WORK) ⌝ }
+    ensures { λ r. ⌜ (now (work .exit)
+        ≡ put-frame (now (work .entry)) (spot .height) node phase (spot .base) (spot .size) (s .cells))
+        × (r ≡ begun part v (above (spot .base) (spot .size) spot) s) ⌝ }
 {
     let base = spot.base;
     let size = spot.size;

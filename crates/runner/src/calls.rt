@@ -10,7 +10,8 @@ ghost use Rattle.layout.specs.Functions.{found};
 ghost use Rattle.layout.specs.Slots.{SLOTS, TAGS};
 ghost use Rattle.layout.specs.Frames.{FRAMES, SIZES, put-frame};
 ghost use Rattle.runner.specs.Phases.{ARGUMENT};
-ghost use Rattle.runner.specs.Standing.{Starts, Resumes, Some, Goes, Of, Any, Prints, OfAll, LastOf, Printing, Keyed, Callable, Enters, Heads, callee, above, begun};
+ghost use Rattle.runner.specs.Standing.{Starts, Resumes, Some, Goes, Of, Any, Prints, OfAll, LastOf};
+ghost use Rattle.runner.specs.Standing.{Printing, Keyed, Callable, Enters, Heads, callee, above, begun};
 use crate::loops;
 use crate::state;
 use crate::state::Next;
@@ -50,8 +51,10 @@ pub fn call(
     spot: Spot,
     s: Tally,
 ) -> Next
-    requires { ⌜ Some (Of defs λ q o. Starts q (now table) (now work) o node spot s) × (row-word (now table) node KIND ≡ CALL) ⌝ }
-    ensures { λ r. ⌜ Goes (Of defs λ q o. Starts q (now (table .entry)) (now (work .entry)) o node spot s) (now (table .entry)) (now (work .exit)) (3 * s .units + spot .height + 3) r ⌝ }
+    requires { ⌜ Some (Of defs λ q o. Starts q (now table) (now work) o node spot s)
+        × (row-word (now table) node KIND ≡ CALL) ⌝ }
+    ensures { λ r. ⌜ Goes (Of defs λ q o. Starts q (now (table .entry)) (now (work .entry)) o node spot s)
+        (now (table .entry)) (now (work .exit)) (3 * s .units + spot .height + 3) r ⌝ }
 {
     let row = rows::link(table, node, rows::FIRST);
     if row == 0 {
@@ -75,8 +78,12 @@ pub fn pass(
     spot: Spot,
     s: Tally,
 ) -> Next
-    requires { ⌜ (TABLE ≤ length (now table)) × (WORK ≤ length (now work)) × (spot .height < FRAMES) × (node < NODES) × (row < NODES) × (k < PARAMETERS) × (spot .base ≤ WORK) × (spot .size < SIZES) ⌝ }
-    ensures { λ r. ⌜ (now (work .exit) ≡ put-frame (now (work .entry)) (spot .height) node ARGUMENT (spot .base) (spot .size) (TAGS * row + k)) × (r ≡ begun (row-word (now (table .entry)) row EXPRESSION) v (above (spot .base) (spot .size + k) spot) s) ⌝ }
+    requires { ⌜ (TABLE ≤ length (now table)) × (WORK ≤ length (now work)) × (spot .height < FRAMES) × (node < NODES)
+        × (row < NODES) × (k < PARAMETERS) × (spot .base ≤ WORK) × (spot .size < SIZES) ⌝ }
+    ensures { λ r. ⌜ (now (work .exit)
+        ≡ put-frame (now (work .entry)) (spot .height) node ARGUMENT (spot .base) (spot .size) (TAGS * row + k))
+        × (r ≡ begun (row-word (now (table .entry)) row EXPRESSION) v (above (spot .base) (spot .size + k) spot)
+        s) ⌝ }
 {
     let base = spot.base;
     let size = spot.size;
@@ -116,7 +123,9 @@ fn enter(
     spot: Spot,
     s: Tally,
 ) -> Next
-    requires { ⌜ Callable (now table) head (row-word (now table) head ARITY) × (WORK ≤ length (now work)) × (spot .height < FRAMES) × (node < NODES) × (spot .base + spot .size + row-word (now table) head ARITY ≤ SLOTS) ⌝ }
+    requires { ⌜ Callable (now table) head (row-word (now table) head ARITY) × (WORK ≤ length (now work))
+        × (spot .height < FRAMES) × (node < NODES)
+        × (spot .base + spot .size + row-word (now table) head ARITY ≤ SLOTS) ⌝ }
     ensures { λ r. ⌜ Enters (now (table .entry)) (now (work .entry)) (now (work .exit)) node head v spot s r ⌝ }
 {
     let base = spot.base;
@@ -146,7 +155,9 @@ pub fn argument(
     s: Tally,
 ) -> Next
     requires { ⌜ Any (OfAll defs λ q. Resumes q (now table) (now work) (now out) v node ARGUMENT spot s) ⌝ }
-    ensures { λ r. ⌜ Prints (OfAll defs λ q. Resumes q (now (table .entry)) (now (work .entry)) (now (out .entry)) v node ARGUMENT spot s) (now (table .entry)) (now (work .exit)) (now (out .exit)) (3 * s .units + spot .height + 3) r ⌝ }
+    ensures { λ r. ⌜ Prints (OfAll defs λ q. Resumes q (now (table .entry)) (now (work .entry)) (now (out .entry)) v
+        node ARGUMENT spot s) (now (table .entry)) (now (work .exit)) (now (out .exit))
+        (3 * s .units + spot .height + 3) r ⌝ }
 {
     let height = spot.height;
     let mark = frames::mark(work, height);
@@ -174,8 +185,11 @@ fn last_argument(
     spot: Spot,
     s: Tally,
 ) -> Next
-    requires { ⌜ Any (OfAll defs λ q. Resumes q (now table) (now work) (now out) v node ARGUMENT spot s) × LastOf (now table) (now work) (spot .height) k ⌝ }
-    ensures { λ r. ⌜ Prints (OfAll defs λ q. Resumes q (now (table .entry)) (now (work .entry)) (now (out .entry)) v node ARGUMENT spot s) (now (table .entry)) (now (work .exit)) (now (out .exit)) (3 * s .units + spot .height + 3) r ⌝ }
+    requires { ⌜ Any (OfAll defs λ q. Resumes q (now table) (now work) (now out) v node ARGUMENT spot s)
+        × LastOf (now table) (now work) (spot .height) k ⌝ }
+    ensures { λ r. ⌜ Prints (OfAll defs λ q. Resumes q (now (table .entry)) (now (work .entry)) (now (out .entry)) v
+        node ARGUMENT spot s) (now (table .entry)) (now (work .exit)) (now (out .exit))
+        (3 * s .units + spot .height + 3) r ⌝ }
 {
     let kind = rows::word(table, node, rows::KIND);
     if loops::counts(kind) {
@@ -194,7 +208,8 @@ fn last_argument(
 
 fn print(table: &[u32], out: &mut [u8], v: Value, node: usize, spot: Spot, s: Tally) -> Next
     requires { ⌜ (TABLE ≤ length (now table)) × (node < NODES) × (s .printed ≤ length (now out)) ⌝ }
-    ensures { λ r. ⌜ Printing (row-word (now (table .entry)) node OWN) v (now (out .entry)) (now (out .exit)) spot s r ⌝ }
+    ensures { λ r. ⌜ Printing (row-word (now (table .entry)) node OWN) v (now (out .entry)) (now (out .exit))
+        spot s r ⌝ }
 {
     let place = rows::word(table, node, rows::OWN);
     let r = output::put(out, v, s);

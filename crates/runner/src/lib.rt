@@ -1,6 +1,6 @@
-// Runs a reading that has a type, by a loop: what waits lies as frames in lent work memory, beside the slots for bindings and
-// operands and the cells. Each node uses a unit when it begins. Work memory is cleared at the end, and bytes go to the lent
-// output.
+// Runs a reading that has a type, by a loop: what waits lies as frames in lent work memory, beside the slots for
+// bindings and operands and the cells. Each node uses a unit when it begins. Work memory is cleared at the end, and
+// bytes go to the lent output.
 
 mod begin;
 mod calls;
@@ -40,7 +40,8 @@ pub enum Done {
 // A node that is to begin does.
 fn begun(table: &[u32], work: &mut [u32], out: &mut [u8], defs: usize, n: Next) -> Next
     requires { ⌜ Any (OfAll defs λ q. Good q (now table) (now work) (now out) n) ⌝ }
-    ensures { λ r. ⌜ Turns defs (now (table .entry)) (now (work .entry)) (now (out .entry)) (now (work .exit)) (now (out .exit)) n r Mode.Begin ⌝ }
+    ensures { λ r. ⌜ Turns defs (now (table .entry)) (now (work .entry)) (now (out .entry)) (now (work .exit))
+        (now (out .exit)) n r Mode.Begin ⌝ }
 {
     let mode = n.mode;
     let v = n.value;
@@ -54,7 +55,8 @@ fn begun(table: &[u32], work: &mut [u32], out: &mut [u8], defs: usize, n: Next) 
 // A value that is to be given is.
 fn given(table: &[u32], work: &mut [u32], out: &mut [u8], defs: usize, n: Next) -> Next
     requires { ⌜ Any (OfAll defs λ q. Good q (now table) (now work) (now out) n) ⌝ }
-    ensures { λ r. ⌜ Turns defs (now (table .entry)) (now (work .entry)) (now (out .entry)) (now (work .exit)) (now (out .exit)) n r Mode.Give ⌝ }
+    ensures { λ r. ⌜ Turns defs (now (table .entry)) (now (work .entry)) (now (out .entry)) (now (work .exit))
+        (now (out .exit)) n r Mode.Give ⌝ }
 {
     let mode = n.mode;
     let v = n.value;
@@ -68,7 +70,8 @@ fn given(table: &[u32], work: &mut [u32], out: &mut [u8], defs: usize, n: Next) 
 // A turn of the loop: a node begins, and if it has its value at once, that is given.
 fn turn(table: &[u32], work: &mut [u32], out: &mut [u8], defs: usize, n: Next) -> Next
     requires { ⌜ Any (OfAll defs λ q. Good q (now table) (now work) (now out) n) ⌝ }
-    ensures { λ r. ⌜ Steps defs (now (table .entry)) (now (work .entry)) (now (out .entry)) (now (work .exit)) (now (out .exit)) n r ⌝ }
+    ensures { λ r. ⌜ Steps defs (now (table .entry)) (now (work .entry)) (now (out .entry)) (now (work .exit))
+        (now (out .exit)) n r ⌝ }
 {
     let m = begun(table, work, out, defs, n);
     given(table, work, out, defs, m)
@@ -77,7 +80,8 @@ fn turn(table: &[u32], work: &mut [u32], out: &mut [u8], defs: usize, n: Next) -
 // Turn by turn, until it is over.
 fn go(table: &[u32], work: &mut [u32], out: &mut [u8], defs: usize, first: Next) -> Next
     requires { ⌜ Any (OfAll defs λ q. Good q (now table) (now work) (now out) first) ⌝ }
-    ensures { λ r. ⌜ Ran defs (now (table .entry)) (now (work .entry)) (now (out .entry)) (now (work .exit)) (now (out .exit)) first r ⌝ }
+    ensures { λ r. ⌜ Ran defs (now (table .entry)) (now (work .entry)) (now (out .entry)) (now (work .exit))
+        (now (out .exit)) first r ⌝ }
 {
     let mut next = first;
     while state::runs(next) {
@@ -106,7 +110,8 @@ fn report(n: Next) -> Done
 // Runs the program that the table holds.
 pub fn run(table: &[u32], work: &mut [u32], out: &mut [u8], program: Held, allowance: u32) -> Done
     requires { ⌜ Loaded (now table) (now work) program allowance ⌝ }
-    ensures { λ r. ⌜ RunsTo (now (table .entry)) (now (work .entry)) (now (out .entry)) (now (work .exit)) (now (out .exit)) program allowance r ⌝ }
+    ensures { λ r. ⌜ RunsTo (now (table .entry)) (now (work .entry)) (now (out .entry)) (now (work .exit))
+        (now (out .exit)) program allowance r ⌝ }
 {
     let spot = Spot {
         base: 0,

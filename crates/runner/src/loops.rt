@@ -47,8 +47,10 @@ pub fn bounded(
     spot: Spot,
     s: Tally,
 ) -> Next
-    requires { ⌜ Some (λ q o. Resumes q (now table) (now work) o v node ARGUMENT spot s) × LastOf (now table) (now work) (spot .height) k × (counts (row-word (now table) node KIND) ≡ true) ⌝ }
-    ensures { λ r. ⌜ Goes (λ q o. Resumes q (now (table .entry)) (now (work .entry)) o v node ARGUMENT spot s) (now (table .entry)) (now (work .exit)) (3 * s .units + spot .height + 3) r ⌝ }
+    requires { ⌜ Some (λ q o. Resumes q (now table) (now work) o v node ARGUMENT spot s)
+        × LastOf (now table) (now work) (spot .height) k × (counts (row-word (now table) node KIND) ≡ true) ⌝ }
+    ensures { λ r. ⌜ Goes (λ q o. Resumes q (now (table .entry)) (now (work .entry)) o v node ARGUMENT spot s)
+        (now (table .entry)) (now (work .exit)) (3 * s .units + spot .height + 3) r ⌝ }
 {
     let at = spot.base + spot.size;
     let from = slots::value(work, SLOTS_AT, at);
@@ -73,7 +75,8 @@ fn first(
     s: Tally,
 ) -> Next
     requires { ⌜ Some (λ q o. Counting q (now table) (now work) o true node from to by spot s) ⌝ }
-    ensures { λ r. ⌜ Goes (λ q o. Counting q (now (table .entry)) (now (work .entry)) o true node from to by spot s) (now (table .entry)) (now (work .exit)) (3 * s .units + spot .height + 3) r ⌝ }
+    ensures { λ r. ⌜ Goes (λ q o. Counting q (now (table .entry)) (now (work .entry)) o true node from to by spot s)
+        (now (table .entry)) (now (work .exit)) (3 * s .units + spot .height + 3) r ⌝ }
 {
     if counting::still(by) {
         let place = rows::word(table, node, rows::OWN);
@@ -95,7 +98,8 @@ fn turn(
     s: Tally,
 ) -> Next
     requires { ⌜ Some (λ q o. Counting q (now table) (now work) o false node z to by spot s) ⌝ }
-    ensures { λ r. ⌜ Goes (λ q o. Counting q (now (table .entry)) (now (work .entry)) o false node z to by spot s) (now (table .entry)) (now (work .exit)) (3 * s .units + spot .height + 3) r ⌝ }
+    ensures { λ r. ⌜ Goes (λ q o. Counting q (now (table .entry)) (now (work .entry)) o false node z to by spot s)
+        (now (table .entry)) (now (work .exit)) (3 * s .units + spot .height + 3) r ⌝ }
 {
     let kind = rows::word(table, node, rows::KIND);
     if counting::passes(kind == kinds::THROUGH, to, by, z) {
@@ -116,7 +120,9 @@ fn pass(
     spot: Spot,
     s: Tally,
 ) -> Next
-    requires { ⌜ (TABLE ≤ length (now table)) × (node < NODES) × (row-word (now table) node OWN + 1 < TOKENS) × (token-value (now table) (row-word (now table) node OWN + 1) ≤ KEYS) × (WORK ≤ length (now work)) × (spot .height < FRAMES) × (spot .base + spot .size + 2 < SLOTS) ⌝ }
+    requires { ⌜ (TABLE ≤ length (now table)) × (node < NODES) × (row-word (now table) node OWN + 1 < TOKENS)
+        × (token-value (now table) (row-word (now table) node OWN + 1) ≤ KEYS) × (WORK ≤ length (now work))
+        × (spot .height < FRAMES) × (spot .base + spot .size + 2 < SLOTS) ⌝ }
     ensures { λ r. ⌜ BodyBegins (now (table .entry)) (now (work .entry)) (now (work .exit)) node z to by v spot s r ⌝ }
 {
     let own = rows::link(table, node, rows::OWN);
@@ -140,7 +146,8 @@ fn pass(
 // A pass is over, and the number behind its own may be due.
 pub fn next(table: &[u32], work: &mut [u32], v: Value, node: usize, spot: Spot, s: Tally) -> Next
     requires { ⌜ Some (λ q o. Resumes q (now table) (now work) o v node COUNTED spot s) ⌝ }
-    ensures { λ r. ⌜ Goes (λ q o. Resumes q (now (table .entry)) (now (work .entry)) o v node COUNTED spot s) (now (table .entry)) (now (work .exit)) (3 * s .units + spot .height + 3) r ⌝ }
+    ensures { λ r. ⌜ Goes (λ q o. Resumes q (now (table .entry)) (now (work .entry)) o v node COUNTED spot s)
+        (now (table .entry)) (now (work .exit)) (3 * s .units + spot .height + 3) r ⌝ }
 {
     let at = spot.base + spot.size;
     let z = slots::value(work, SLOTS_AT, at);

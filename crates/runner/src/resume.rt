@@ -41,7 +41,8 @@ pub fn give(
     s: Tally,
 ) -> Next
     requires { ⌜ Any (OfAll defs λ q. Gives q (now table) (now work) (now out) v spot s) ⌝ }
-    ensures { λ r. ⌜ Prints (OfAll defs λ q. Gives q (now (table .entry)) (now (work .entry)) (now (out .entry)) v spot s) (now (table .entry)) (now (work .exit)) (now (out .exit)) (3 * s .units + spot .height + 2) r ⌝ }
+    ensures { λ r. ⌜ Prints (OfAll defs λ q. Gives q (now (table .entry)) (now (work .entry)) (now (out .entry)) v spot
+        s) (now (table .entry)) (now (work .exit)) (now (out .exit)) (3 * s .units + spot .height + 2) r ⌝ }
 {
     let h = spot.height - 1;
     let node = frames::link(work, h, frames::NODE);
@@ -71,8 +72,10 @@ fn resume(
     spot: Spot,
     s: Tally,
 ) -> Next
-    requires { ⌜ Some (λ q o. Resumes q (now table) (now work) o v node phase spot s) × (phase ≡ ARGUMENT → ⊥) × (phase ≡ COUNTED → ⊥) ⌝ }
-    ensures { λ r. ⌜ Goes (λ q o. Resumes q (now (table .entry)) (now (work .entry)) o v node phase spot s) (now (table .entry)) (now (work .exit)) (3 * s .units + spot .height + 3) r ⌝ }
+    requires { ⌜ Some (λ q o. Resumes q (now table) (now work) o v node phase spot s) × (phase ≡ ARGUMENT → ⊥)
+        × (phase ≡ COUNTED → ⊥) ⌝ }
+    ensures { λ r. ⌜ Goes (λ q o. Resumes q (now (table .entry)) (now (work .entry)) o v node phase spot s)
+        (now (table .entry)) (now (work .exit)) (3 * s .units + spot .height + 3) r ⌝ }
 {
     if phase == state::LAST {
         return state::gives(v, spot, s);
@@ -110,7 +113,8 @@ fn control(
     s: Tally,
 ) -> Next
     requires { ⌜ Some (λ q o. Resumes q (now table) (now work) o v node phase spot s) × Controls phase ⌝ }
-    ensures { λ r. ⌜ Goes (λ q o. Resumes q (now (table .entry)) (now (work .entry)) o v node phase spot s) (now (table .entry)) (now (work .exit)) (3 * s .units + spot .height + 3) r ⌝ }
+    ensures { λ r. ⌜ Goes (λ q o. Resumes q (now (table .entry)) (now (work .entry)) o v node phase spot s)
+        (now (table .entry)) (now (work .exit)) (3 * s .units + spot .height + 3) r ⌝ }
 {
     if phase == state::BOUND {
         let own = rows::link(table, node, rows::OWN);
@@ -143,7 +147,8 @@ fn control(
 // The frame waits for another part, which begins.
 fn turn(work: &mut [u32], phase: u32, part: usize, v: Value, spot: Spot, s: Tally) -> Next
     requires { ⌜ (WORK ≤ length (now work)) × (spot .height < FRAMES) ⌝ }
-    ensures { λ r. ⌜ (now (work .exit) ≡ put-phase (now (work .entry)) (spot .height) phase) × (r ≡ begun part v (above (spot .base) (spot .size) spot) s) ⌝ }
+    ensures { λ r. ⌜ (now (work .exit) ≡ put-phase (now (work .entry)) (spot .height) phase)
+        × (r ≡ begun part v (above (spot .base) (spot .size) spot) s) ⌝ }
 {
     let height = spot.height;
     frames::turn(work, height, phase);
@@ -157,8 +162,11 @@ fn turn(work: &mut [u32], phase: u32, part: usize, v: Value, spot: Spot, s: Tall
 
 // The value goes into the slot above those in sight, with a key, and another part begins, which sees it, too.
 fn hold(work: &mut [u32], v: Value, key: u32, phase: u32, part: usize, spot: Spot, s: Tally) -> Next
-    requires { ⌜ (WORK ≤ length (now work)) × (spot .height < FRAMES) × (spot .base + spot .size < SLOTS) × (key ≤ KEYS) ⌝ }
-    ensures { λ r. ⌜ (now (work .exit) ≡ put-phase (put-slot (now (work .entry)) 0 (spot .base + spot .size) key v) (spot .height) phase) × (r ≡ begun part v (above (spot .base) (spot .size + 1) spot) s) × Survives v ⌝ }
+    requires { ⌜ (WORK ≤ length (now work)) × (spot .height < FRAMES) × (spot .base + spot .size < SLOTS)
+        × (key ≤ KEYS) ⌝ }
+    ensures { λ r. ⌜ (now (work .exit)
+        ≡ put-phase (put-slot (now (work .entry)) 0 (spot .base + spot .size) key v) (spot .height) phase)
+        × (r ≡ begun part v (above (spot .base) (spot .size + 1) spot) s) × Survives v ⌝ }
 {
     let base = spot.base;
     let size = spot.size;
@@ -176,7 +184,8 @@ fn hold(work: &mut [u32], v: Value, key: u32, phase: u32, part: usize, spot: Spo
 // The left side is worked out: it settles the node, or it is held while the right side is worked out.
 fn left(table: &[u32], work: &mut [u32], v: Value, node: usize, spot: Spot, s: Tally) -> Next
     requires { ⌜ Some (λ q o. Resumes q (now table) (now work) o v node LEFT spot s) ⌝ }
-    ensures { λ r. ⌜ Goes (λ q o. Resumes q (now (table .entry)) (now (work .entry)) o v node LEFT spot s) (now (table .entry)) (now (work .exit)) (3 * s .units + spot .height + 3) r ⌝ }
+    ensures { λ r. ⌜ Goes (λ q o. Resumes q (now (table .entry)) (now (work .entry)) o v node LEFT spot s)
+        (now (table .entry)) (now (work .exit)) (3 * s .units + spot .height + 3) r ⌝ }
 {
     let op = rows::word(table, node, rows::KIND);
     if operations::settles(op, v) {
@@ -188,7 +197,8 @@ fn left(table: &[u32], work: &mut [u32], v: Value, node: usize, spot: Spot, s: T
 
 fn right(table: &[u32], work: &mut [u32], v: Value, node: usize, spot: Spot, s: Tally) -> Next
     requires { ⌜ Some (λ q o. Resumes q (now table) (now work) o v node RIGHT spot s) ⌝ }
-    ensures { λ r. ⌜ Goes (λ q o. Resumes q (now (table .entry)) (now (work .entry)) o v node RIGHT spot s) (now (table .entry)) (now (work .exit)) (3 * s .units + spot .height + 3) r ⌝ }
+    ensures { λ r. ⌜ Goes (λ q o. Resumes q (now (table .entry)) (now (work .entry)) o v node RIGHT spot s)
+        (now (table .entry)) (now (work .exit)) (3 * s .units + spot .height + 3) r ⌝ }
 {
     let op = rows::word(table, node, rows::KIND);
     let place = rows::word(table, node, rows::OWN);
@@ -200,7 +210,8 @@ fn right(table: &[u32], work: &mut [u32], v: Value, node: usize, spot: Spot, s: 
 
 fn unary(table: &[u32], work: &mut [u32], v: Value, node: usize, spot: Spot, s: Tally) -> Next
     requires { ⌜ Some (λ q o. Resumes q (now table) (now work) o v node UNARY spot s) ⌝ }
-    ensures { λ r. ⌜ Goes (λ q o. Resumes q (now (table .entry)) (now (work .entry)) o v node UNARY spot s) (now (table .entry)) (now (work .exit)) (3 * s .units + spot .height + 3) r ⌝ }
+    ensures { λ r. ⌜ Goes (λ q o. Resumes q (now (table .entry)) (now (work .entry)) o v node UNARY spot s)
+        (now (table .entry)) (now (work .exit)) (3 * s .units + spot .height + 3) r ⌝ }
 {
     let op = rows::word(table, node, rows::KIND);
     let place = rows::word(table, node, rows::OWN);

@@ -1,16 +1,18 @@
 -- The grammar as it was before there were floats (R08.1): today's without the productions that read a token of a float, the number and
--- the word, or of a counted loop, which came later still. A reading leaves no token unread, so it read what is read today of lists without such tokens; and their trees have no
--- float number and no counted loop.
+-- the word, or of a counted loop, which came later still. A reading leaves no token unread, so it read what is read
+-- today of lists without such tokens; and their trees have no float number and no counted loop.
 use mathlib.Core.Bool.{Bool, true, false}
 use mathlib.Core.List.{List}
 use Prim.Native.Nat.{ℕ}
 use lib.Dec.{T}
 use Rattle.language.specs.Tokens.{Token, At, FLOAT-NUMBER, FLOAT, FOR, kind-at}
 use Rattle.language.specs.Trees.{Literal, whole, truth, trivial, decimal, Program}
-use Rattle.language.specs.Grammar.{Of, Sym, program, def, formals, params, type, seq, tail, bound, item, counting, bounds, assign, atom, actuals, args, tier}
+use Rattle.language.specs.Grammar.{Of, Sym, program, def, formals, params, type, seq, tail, bound}
+use Rattle.language.specs.Grammar.{item, counting, bounds, assign, atom, actuals, args, tier}
 use Rattle.language.specs.Grammar.{constants, Reading, Reads, program-seq, program-def, def-is, formals-none, formals-some, params-one}
 use Rattle.language.specs.Grammar.{params-more, type-basic, type-ref, seq-tail, seq-item, seq-more, tail-let, tail-if, let-in, item-if}
-use Rattle.language.specs.Grammar.{item-for, for-is, bounds-two, bounds-three, item-while, item-assign, assign-one, assign-to, chain-one, chain-more, cmp-one, cmp-two, un-prefix, un-atom}
+use Rattle.language.specs.Grammar.{item-for, for-is, bounds-two, bounds-three, item-while, item-assign, assign-one}
+use Rattle.language.specs.Grammar.{assign-to, chain-one, chain-more, cmp-one, cmp-two, un-prefix, un-atom}
 use Rattle.language.specs.Grammar.{atom-name, atom-call, atom-number, atom-float, atom-constant, atom-group, atom-block, actuals-none}
 use Rattle.language.specs.Grammar.{actuals-some, args-one, args-more}
 use Rattle.language.proofs.Grammar.Entries.{every, entry-passes}

@@ -1,217 +1,29 @@
 -- A node that has a type is never stuck, and its value is of the type.
-use mathlib.Core.Path.{_≡_, refl, sym, ap, subst, _∙_}
-use mathlib.Core.Bool.{Bool, true, false}
-use mathlib.Core.List.{List, [], _∷_, map}
-use mathlib.Core.Option.{Option, none, some}
+use mathlib.Core.Path.{_≡_, sym, subst, _∙_}
+use mathlib.Core.Bool.{Bool, true}
+use mathlib.Core.List.{List, [], _∷_}
+use mathlib.Core.Option.{some}
 use Prim.Native.Nat.{ℕ, zero, suc}
-use native.Mathlib.Omega.{arith}
-use lib.IntN.{ℤ, pos, negsuc}
-use lib.Ieee.{Float}
-use lib.Dec.{leb}
-use borrow.Author.Tests.{leb-true, le-leb}
-use Rattle.language.specs.Sizes.{BYTE}
-use Rattle.language.specs.Trees.{Name, Ty, int, bool, unit, float, ref, Unary, Binary, Exp, Exps, Param, Scope, empty, push, nearest}
-use Rattle.language.specs.Types.{Sig, Arithmetic, of-int, of-float, UnopType, u-minus, u-not, u-fetch, u-new, BinopType, b-add}
-use Rattle.language.specs.Types.{b-sub, b-mul, b-div, b-less, b-equal, b-and, b-or, b-assign, Typed, t-name, t-whole, t-truth}
+use lib.IntN.{ℤ}
+use Rattle.language.specs.Trees.{Name, Ty, int, bool, unit, Exp, Exps, Scope, empty, push, nearest}
+use Rattle.language.specs.Types.{Sig}
+use Rattle.language.specs.Types.{Typed, t-name, t-whole, t-truth}
 use Rattle.language.specs.Types.{t-trivial, t-decimal, t-unary, t-binary, t-follow, t-group, t-block, t-call, t-bind, t-branch}
-use Rattle.language.specs.Types.{t-loop, TypedAll, t-last, t-more, Takes, takes-none, takes-more, t-counted, Bounds, two, three}
-use Rattle.language.specs.State.{Stop, Value, flag, State, Outcome, value, stop, then, as-int}
-use Rattle.language.specs.State.{as-bool, as-unit, as-cell, choose, when-some, want, alike, only}
-use Rattle.language.specs.Meaning.{Env, charge, begin, in-range, fit, literal-value, create, apply-unary, quotient, apply-binary, settles}
-use Rattle.language.specs.Meaning.{emit, put, Fun, putchar, defined, enter, arguments, invoke, passes, step, eval, with-bounds, turns}
-use Rattle.language.proofs.Grammar.OwnTokens.{Own, owns, all-owns, All, first, rest, front, back}
-use Rattle.language.proofs.Meaning.CellTypes.{none-some, some-one, Born, newest, Grows, stays, gains, grows-trans, Fits, fits-int, fits-float}
-use Rattle.language.proofs.Meaning.CellTypes.{fits-bool, fits-unit, fits-ref, FitsAll, fits-none, fits-more, holds-live, EnvFits, env-empty}
-use Rattle.language.proofs.Meaning.CellTypes.{env-push, StateFits, keep-holds, store-holds, held-fits, env-find, fits-grows, env-grows, holds-grows}
-
--- not stuck; a value is of the type t, under the cells born up to then
-pub data Good (R : ℤ → Type 0) (Σ : List Ty) (t : Ty) : Outcome → Type 0 where
-  good-value : {Σ′ : List Ty} {v : Value} {s : State} → Grows Σ Σ′ → StateFits R Σ′ s → Fits R Σ′ v t → Good R Σ t (value v s)
-  good-stop : {w : Stop} {i : ℕ} {s : State} → Good R Σ t (stop w i s)
-
--- all numbers that are written are what is asked
-abbrev pub Fair : (ℤ → Type 0) → List Own → Type 0
-Fair R os = All (λ o. R (pos (o .worth))) os
-
--- g is a function of the kind that s tells
-pub data FunFits (R : ℤ → Type 0) (Δ : Scope Sig) : Fun → Sig → Type 0 where
-  fun-putchar : FunFits R Δ putchar record { takes = int ∷ []; gives = int }
-  fun-defined : {Γ : Scope Ty} {ps : List Param} {e : Exp} {ts : List Ty} {t : Ty}
-      → Takes empty ps Γ → ts ≡ map (λ (p : Param). p .type) ps → Typed Δ Γ e t → Fair R (owns e)
-      → FunFits R Δ (defined ps e) record { takes = ts; gives = t }
-
-abbrev pub Ready : (ℤ → Type 0) → Scope Sig → Scope Fun → Type 0
-Ready R Δ fs = (f : Name) (s : Sig) → nearest f Δ ≡ some s → (g : Fun) × (nearest f fs ≡ some g) × FunFits R Δ g s
-
-pub record Safe (R : ℤ → Type 0) (Δ : Scope Sig) (go : Exp → Env → State → Outcome) : Type 0 where
-  pub at : {Σ : List Ty} {Γ : Scope Ty} {e : Exp} {t : Ty} (env : Env) (s : State)
-      → Typed Δ Γ e t → Fair R (owns e) → EnvFits R Σ env Γ → StateFits R Σ s → Good R Σ t (go e env s)
+use Rattle.language.specs.Types.{t-loop, TypedAll, t-last, t-more, t-counted}
+use Rattle.language.specs.State.{Value, State, Outcome}
+use Rattle.language.specs.Meaning.{Env, in-range, literal-value}
+use Rattle.language.specs.Meaning.{Fun, arguments, invoke, passes, step, eval, turns}
+use Rattle.language.proofs.Grammar.OwnTokens.{owns, all-owns, first, rest, front, back}
+use Rattle.language.proofs.Meaning.CellTypes.{none-some, some-one, Grows, stays, grows-trans, Fits, fits-int, fits-float}
+use Rattle.language.proofs.Meaning.CellTypes.{fits-bool, fits-unit, FitsAll, fits-none, fits-more, EnvFits, env-empty}
+use Rattle.language.proofs.Meaning.CellTypes.{env-push, StateFits, keep-holds, env-find, fits-grows, env-grows}
+pub use Rattle.language.proofs.Meaning.GoodOutcomes.{Good, good-value, good-stop, Fair, FunFits, fun-putchar, fun-defined, Ready, Safe}
+pub use Rattle.language.proofs.Meaning.GoodOutcomes.{good-then, good-choose, good-begin, binary-good, settled}
+use Rattle.language.proofs.Meaning.GoodOutcomes.{good-int, good-bool, good-unit, good-when, unary-good, good-put, good-one, good-bounds}
+use Rattle.language.proofs.Meaning.GoodOutcomes.{good-enter}
 
 -- every int within the range is what is asked
 module _ {R : ℤ → Type 0} (wide : (z : ℤ) → in-range z ≡ true → R z) where
-  lift : {Σ Σ′ : List Ty} {t : Ty} {o : Outcome} → Grows Σ Σ′ → Good R Σ′ t o → Good R Σ t o
-  lift g (good-value h p q) = good-value (grows-trans g h) p q
-  lift g good-stop = good-stop
-
-  pub good-then : {Σ : List Ty} {t u : Ty} {o : Outcome} (k : Value → State → Outcome) → Good R Σ t o
-      → ((Σ′ : List Ty) (v : Value) (s : State) → Grows Σ Σ′ → StateFits R Σ′ s → Fits R Σ′ v t → Good R Σ′ u (k v s)) → Good R Σ u (then o k)
-  unfolding then
-  good-then k (good-value {Σ′} {v} {s} g p q) f = lift g (f Σ′ v s g p q)
-  good-then k good-stop f = good-stop
-
-  good-int : {Σ : List Ty} {u : Ty} {v : Value} (k : ℤ → Outcome) → Fits R Σ v int → ((z : ℤ) → Good R Σ u (k z)) → Good R Σ u (want (as-int v) k)
-  unfolding when-some
-  good-int k (fits-int {z} r) f = f z
-
-  good-bool : {Σ : List Ty} {u : Ty} {v : Value} (k : Bool → Outcome) → Fits R Σ v bool
-      → ((b : Bool) → v ≡ flag b → Good R Σ u (k b)) → Good R Σ u (want (as-bool v) k)
-  unfolding when-some
-  good-bool k (fits-bool {b}) f = f b refl
-
-  good-unit : {Σ : List Ty} {u : Ty} {v : Value} (k : Unit {0} → Outcome) → Fits R Σ v unit → Good R Σ u (k tt) → Good R Σ u (want (as-unit v) k)
-  unfolding when-some
-  good-unit k fits-unit f = f
-
-  good-cell : {Σ : List Ty} {t u : Ty} {v : Value} (k : ℕ → Outcome) → Fits R Σ v (ref t)
-      → ((b : ℕ) → Born Σ b t → Good R Σ u (k b)) → Good R Σ u (want (as-cell v) k)
-  unfolding when-some
-  good-cell k (fits-ref {b} p) f = f b p
-
-  good-ints : {Σ : List Ty} {u : Ty} {v w : Value} (f : ℤ → ℤ → Outcome) (g : Float → Float → Outcome) → Fits R Σ v int
-      → Fits R Σ w int → ((x y : ℤ) → Good R Σ u (f x y)) → Good R Σ u (alike v w f g)
-  unfolding alike when-some
-  good-ints f g (fits-int {z = x} p) (fits-int {z = y} q) h = h x y
-
-  good-floats : {Σ : List Ty} {u : Ty} {v w : Value} (f : ℤ → ℤ → Outcome) (g : Float → Float → Outcome) → Fits R Σ v float
-      → Fits R Σ w float → ((x y : Float) → Good R Σ u (g x y)) → Good R Σ u (alike v w f g)
-  unfolding alike when-some
-  good-floats f g (fits-float {x = x}) (fits-float {x = y}) h = h x y
-
-  pub good-choose : {Σ : List Ty} {u : Ty} (b : Bool) (x y : Unit {0} → Outcome) → (b ≡ true → Good R Σ u (x tt))
-      → (b ≡ false → Good R Σ u (y tt)) → Good R Σ u (choose b x y)
-  unfolding choose
-  good-choose true x y f g = f refl
-  good-choose false x y f g = g refl
-
-  good-when : {A : Type 0} {Σ : List Ty} {u : Ty} (o : Option A) (f : A → Outcome) (x : Unit {0} → Outcome)
-      → ((a : A) → o ≡ some a → Good R Σ u (f a)) → (o ≡ none → Good R Σ u (x tt)) → Good R Σ u (when-some o f x)
-  unfolding when-some
-  good-when none f x g h = h refl
-  good-when (some a) f x g h = g a refl
-
-  good-charge : {Σ : List Ty} {u : Ty} (n i : ℕ) (s : State) (k : State → Outcome) → StateFits R Σ s
-      → ((s : State) → StateFits R Σ s → Good R Σ u (k s)) → Good R Σ u (charge n i s k)
-  unfolding charge
-  good-charge zero i s k p f = good-stop
-  good-charge (suc n) i s k p f = f _ record { counted = p .counted; holds = p .holds }
-
-  pub good-begin : {Σ : List Ty} {u : Ty} (i : ℕ) (s : State) (k : State → Outcome) → StateFits R Σ s
-      → ((s : State) → StateFits R Σ s → Good R Σ u (k s)) → Good R Σ u (begin i s k)
-  unfolding begin
-  good-begin i s k p f = good-charge (s .units) i s k p f
-
-  good-fit : {Σ : List Ty} (i : ℕ) (z : ℤ) (s : State) → StateFits R Σ s → Good R Σ int (fit i z s)
-  unfolding fit
-  good-fit i z s p = good-choose _ _ _ (λ e. good-value stays p (fits-int (wide z e))) λ _. good-stop
-
-  good-quotient : {Σ : List Ty} (i : ℕ) (x y : ℤ) (s : State) → StateFits R Σ s → Good R Σ int (quotient i x y s)
-  unfolding quotient
-  good-quotient i x y s p = good-choose _ _ _ (λ _. good-stop) λ _. good-fit i _ s p
-
-  good-create : {Σ : List Ty} {t : Ty} (i : ℕ) (v : Value) (s : State) → StateFits R Σ s → Fits R Σ v t → Good R Σ (ref t) (create i v s)
-  unfolding create
-  good-create i v s p q =
-      good-choose _ _ _
-      (λ _. let b = newest (ap suc (p .counted)) in
-      good-value (gains stays)
-      record { counted = ap suc (p .counted); holds = holds-live b (fits-grows (gains stays) q) (holds-grows (gains stays) (p .holds)) }
-      (fits-ref b))
-      λ _. good-stop
-
-  unary-good : {Σ : List Ty} {o : Unary} {t u : Ty} (i : ℕ) (v : Value) (s : State)
-      → UnopType o t u → StateFits R Σ s → Fits R Σ v t → Good R Σ u (apply-unary i o v s)
-  unfolding apply-unary
-  unary-good i v s u-minus p q = good-int _ q λ z. good-fit i _ s p
-  unary-good i v s u-not p q = good-bool _ q λ b _. good-value stays p fits-bool
-  unary-good {Σ} i v s (u-fetch {t}) p q =
-      good-cell _ q λ b r. good-when _ _ _ (λ w e. good-value stays p (held-fits Σ b t w (s .cells) r (p .holds) e)) λ _. good-stop
-  unary-good i v s (u-new h) p q = good-create i v s p q
-
-  pub binary-good : {Σ : List Ty} {o : Binary} {t u r : Ty} (i : ℕ) (v w : Value) (s : State)
-      → BinopType o t u r → StateFits R Σ s → Fits R Σ v t → Fits R Σ w u → Good R Σ r (apply-binary i o v w s)
-  unfolding apply-binary
-  binary-good i v w s (b-add of-int) p q r = good-ints _ _ q r λ x y. good-fit i _ s p
-  binary-good i v w s (b-add of-float) p q r = good-floats _ _ q r λ x y. good-value stays p fits-float
-  binary-good i v w s (b-sub of-int) p q r = good-ints _ _ q r λ x y. good-fit i _ s p
-  binary-good i v w s (b-sub of-float) p q r = good-floats _ _ q r λ x y. good-value stays p fits-float
-  binary-good i v w s (b-mul of-int) p q r = good-ints _ _ q r λ x y. good-fit i _ s p
-  binary-good i v w s (b-mul of-float) p q r = good-floats _ _ q r λ x y. good-value stays p fits-float
-  binary-good i v w s (b-div of-int) p q r = good-ints _ _ q r λ x y. good-quotient i x y s p
-  binary-good i v w s (b-div of-float) p q r = good-floats _ _ q r λ x y. good-value stays p fits-float
-  binary-good i v w s (b-less of-int) p q r = good-ints _ _ q r λ x y. good-value stays p fits-bool
-  binary-good i v w s (b-less of-float) p q r = good-floats _ _ q r λ x y. good-value stays p fits-bool
-  binary-good i v w s b-equal p q r = good-int _ q λ x. good-int _ r λ y. good-value stays p fits-bool
-  binary-good i v w s b-and p q r = good-bool _ q λ x _. good-bool _ r λ y _. good-value stays p fits-bool
-  binary-good i v w s b-or p q r = good-bool _ q λ x _. good-bool _ r λ y _. good-value stays p fits-bool
-  binary-good {Σ} i v w s (b-assign {t}) p q r =
-      good-cell _ q λ b m.
-      good-when _ _ _
-      (λ _ e. good-value stays record { counted = p .counted; holds = store-holds Σ b t w (s .cells) m r (p .holds) } fits-unit)
-      λ _. good-stop
-
-  abbrev IsFalse : Bool → Type 0
-  IsFalse false = Unit {0}
-  IsFalse true = ⊥
-
-  false-true : false ≡ true → ⊥
-  false-true e = subst IsFalse e tt
-
-  -- where the left side settles it, its value is the result
-  pub settled : {Σ : List Ty} {o : Binary} {t u r : Ty} {v : Value} → BinopType o t u r → settles o v ≡ true → Fits R Σ v t → Fits R Σ v r
-  unfolding settles
-  settled (b-add a) e p = absurd (false-true e)
-  settled (b-sub a) e p = absurd (false-true e)
-  settled (b-mul a) e p = absurd (false-true e)
-  settled (b-div a) e p = absurd (false-true e)
-  settled (b-less a) e p = absurd (false-true e)
-  settled b-equal e p = absurd (false-true e)
-  settled b-and e p = p
-  settled b-or e p = p
-  settled b-assign e p = absurd (false-true e)
-
-  good-emit : {Σ : List Ty} (r i n : ℕ) (s : State) → R (pos n) → StateFits R Σ s → Good R Σ int (emit r i n s)
-  unfolding emit
-  good-emit zero i n s q p = good-stop
-  good-emit (suc r) i n s q p = good-value stays record { counted = p .counted; holds = p .holds } (fits-int q)
-
-  -- a byte is in the range
-  byte-wide : (n : ℕ) → leb n BYTE ≡ true → R (pos n)
-  unfolding in-range
-  byte-wide n e = wide (pos n) (le-leb n _ (omega (arith, leb-true n BYTE e)))
-
-  good-put : {Σ : List Ty} (i : ℕ) (z : ℤ) (s : State) → StateFits R Σ s → Good R Σ int (put i z s)
-  unfolding put
-  good-put i (pos n) s p = good-choose _ _ _ (λ e. good-emit (s .room) i n s (byte-wide n e) p) λ _. good-stop
-  good-put i (negsuc n) s p = good-stop
-
-  good-one : {Σ : List Ty} {t u : Ty} {vs : List Value} (k : Value → Outcome) → FitsAll R Σ vs (t ∷ [])
-      → ((v : Value) → Fits R Σ v t → Good R Σ u (k v)) → Good R Σ u (want (only vs) k)
-  unfolding when-some only
-  good-one k (fits-more {v = v} p fits-none) f = f v p
-
-  good-bounds : {Σ : List Ty} {u : Ty} {vs : List Value} {ts : List Ty} → Bounds ts → (k : ℤ → ℤ → ℤ → Outcome) → FitsAll R Σ vs ts
-      → ((x y z : ℤ) → R x → Good R Σ u (k x y z)) → Good R Σ u (with-bounds vs k)
-  unfolding with-bounds when-some
-  good-bounds two k (fits-more (fits-int {z = x} p) (fits-more (fits-int {z = y} q) fits-none)) f = f x y _ p
-  good-bounds three k (fits-more (fits-int {z = x} p) (fits-more (fits-int {z = y} q) (fits-more (fits-int {z = z} r) fits-none))) f = f x y z p
-
-  good-enter : {Σ : List Ty} {Γ Γ′ : Scope Ty} {ps : List Param} {u : Ty} (vs : List Value) (env : Env) (k : Env → Outcome)
-      → Takes Γ ps Γ′ → FitsAll R Σ vs (map (λ (p : Param). p .type) ps) → EnvFits R Σ env Γ
-      → ((env : Env) → EnvFits R Σ env Γ′ → Good R Σ u (k env)) → Good R Σ u (enter ps vs env k)
-  unfolding enter
-  good-enter vs env k takes-none fits-none h f = f env h
-  good-enter vs env k (takes-more a b c q) (fits-more {v = v} {vs = ws} p r) h f = good-enter ws (push _ v env) k q r (env-push p h) f
-
   module _ (Δ : Scope Sig) (fs : Scope Fun) (ready : Ready R Δ fs) (go : Exp → Env → State → Outcome) (all : Safe R Δ go) where
     safe : {Σ : List Ty} {Γ : Scope Ty} {e : Exp} {t : Ty} (env : Env) (s : State)
         → Typed Δ Γ e t → Fair R (owns e) → EnvFits R Σ env Γ → StateFits R Σ s → Good R Σ t (go e env s)
@@ -224,41 +36,41 @@ module _ {R : ℤ → Type 0} (wide : (z : ℤ) → in-range z ≡ true → R z)
     unfolding arguments owns
     arguments-good env s k t-last m h p f = f _ [] s stays p fits-none
     arguments-good env s k (t-more {e = e} a b) m h p f =
-        good-then _ (safe env s a (front (owns e) _ m) h p) λ Σ₁ v s₁ g₁ p₁ q₁.
+        good-then wide _ (safe env s a (front (owns e) _ m) h p) λ Σ₁ v s₁ g₁ p₁ q₁.
         arguments-good env s₁ _ b (back (owns e) _ m) (env-grows g₁ h) p₁ λ Σ₂ vs s₂ g₂ p₂ q₂.
         f Σ₂ (v ∷ vs) s₂ (grows-trans g₁ g₂) p₂ (fits-more (fits-grows g₂ q₁) q₂)
 
     invoke-good : {Σ : List Ty} {g : Fun} {s : Sig} (i : ℕ) (vs : List Value) (st : State)
         → FunFits R Δ g s → FitsAll R Σ vs (s .takes) → StateFits R Σ st → Good R Σ (s .gives) (invoke fs go i g vs st)
     unfolding invoke
-    invoke-good i vs st fun-putchar q p = good-one _ q λ v r. good-int _ r λ z. good-put i z st p
+    invoke-good i vs st fun-putchar q p = good-one wide _ q λ v r. good-int wide _ r λ z. good-put wide i z st p
     invoke-good {Σ} i vs st (fun-defined a b c m) q p =
-        good-enter vs empty _ a (subst (FitsAll R Σ vs) b q) env-empty λ env h. safe env st c m h p
+        good-enter wide vs empty _ a (subst (FitsAll R Σ vs) b q) env-empty λ env h. safe env st c m h p
 
     passes-good : {Σ : List Ty} {Γ : Scope Ty} {c e : Exp} (n : ℕ) (env : Env) (s : State) → Typed Δ Γ c bool → Fair R (owns c)
         → Typed Δ Γ e unit → Fair R (owns e) → EnvFits R Σ env Γ → StateFits R Σ s → Good R Σ unit (passes fs go n c e env s)
     unfolding passes
     passes-good zero env s a m b k h p = good-stop
     passes-good (suc n) env s a m b k h p =
-        good-then _ (safe env s a m h p) λ Σ₁ v s₁ g₁ p₁ q₁.
-        good-bool _ q₁ λ x _.
-        good-choose _ _ _
+        good-then wide _ (safe env s a m h p) λ Σ₁ v s₁ g₁ p₁ q₁.
+        good-bool wide _ q₁ λ x _.
+        good-choose wide _ _ _
         (λ _.
-        good-then _ (safe env s₁ b k (env-grows g₁ h) p₁) λ Σ₂ w s₂ g₂ p₂ q₂.
-        good-unit _ q₂ (passes-good n env s₂ a m b k (env-grows (grows-trans g₁ g₂) h) p₂))
+        good-then wide _ (safe env s₁ b k (env-grows g₁ h) p₁) λ Σ₂ w s₂ g₂ p₂ q₂.
+        good-unit wide _ q₂ (passes-good n env s₂ a m b k (env-grows (grows-trans g₁ g₂) h) p₂))
         λ _. good-value stays p₁ fits-unit
 
     turns-good : {Σ : List Ty} {Γ : Scope Ty} {x : Name} {e : Exp} (n : ℕ) (through : Bool) (to by z : ℤ) (env : Env) (s : State)
         → Typed Δ (push x int Γ) e unit → Fair R (owns e) → EnvFits R Σ env Γ → StateFits R Σ s → R z
         → Good R Σ unit (turns fs go n x through to by z e env s)
     unfolding turns
-    turns-good zero through to by z env s b k h p r = good-choose _ _ _ (λ _. good-stop) λ _. good-value stays p fits-unit
+    turns-good zero through to by z env s b k h p r = good-choose wide _ _ _ (λ _. good-stop) λ _. good-value stays p fits-unit
     turns-good (suc n) through to by z env s b k h p r =
-        good-choose _ _ _
+        good-choose wide _ _ _
         (λ _.
-        good-then _ (safe (push _ _ env) s b k (env-push (fits-int r) h) p) λ Σ₁ v s₁ g₁ p₁ q₁.
-        good-unit _ q₁
-        (good-choose _ _ _ (λ e. turns-good n through to by _ env s₁ b k (env-grows g₁ h) p₁ (wide _ e)) λ _. good-value stays p₁ fits-unit))
+        good-then wide _ (safe (push _ _ env) s b k (env-push (fits-int r) h) p) λ Σ₁ v s₁ g₁ p₁ q₁.
+        good-unit wide _ q₁
+        (good-choose wide _ _ _ (λ e. turns-good n through to by _ env s₁ b k (env-grows g₁ h) p₁ (wide _ e)) λ _. good-value stays p₁ fits-unit))
         λ _. good-value stays p fits-unit
 
     pub step-good : {Σ : List Ty} {Γ : Scope Ty} {e : Exp} {t : Ty} (env : Env) (s : State)
@@ -266,56 +78,56 @@ module _ {R : ℤ → Type 0} (wide : (z : ℤ) → in-range z ≡ true → R z)
     unfolding step literal-value owns
     step-good {Σ} env s (t-name {x = x} {t = t} e) m h p =
         let f = env-find Σ x t h e in
-        good-when _ _ _ (λ v d. good-value stays p (subst (λ w. Fits R Σ w t) (some-one (sym (f .1) ∙ d)) (f .2)))
+        good-when wide _ _ _ (λ v d. good-value stays p (subst (λ w. Fits R Σ w t) (some-one (sym (f .1) ∙ d)) (f .2)))
         λ d. absurd (none-some (sym d ∙ f .1))
     step-good env s t-whole m h p = good-value stays p (fits-int (first m))
     step-good env s t-truth m h p = good-value stays p fits-bool
     step-good env s t-trivial m h p = good-value stays p fits-unit
     step-good env s t-decimal m h p = good-value stays p fits-float
     step-good env s (t-unary {i = i} a b) m h p =
-        good-then _ (safe env s a (rest m) h p) λ Σ₁ v s₁ g₁ p₁ q₁. unary-good i v s₁ b p₁ q₁
+        good-then wide _ (safe env s a (rest m) h p) λ Σ₁ v s₁ g₁ p₁ q₁. unary-good wide i v s₁ b p₁ q₁
     step-good env s (t-binary {i = i} {e = e} a b c) m h p =
-        good-then _ (safe env s a (front (owns e) _ m) h p) λ Σ₁ v s₁ g₁ p₁ q₁.
-        good-choose _ _ _ (λ d. good-value stays p₁ (settled c d q₁)) λ _.
-        good-then _ (safe env s₁ b (rest (back (owns e) _ m)) (env-grows g₁ h) p₁) λ Σ₂ w s₂ g₂ p₂ q₂.
-        binary-good i v w s₂ c p₂ (fits-grows g₂ q₁) q₂
+        good-then wide _ (safe env s a (front (owns e) _ m) h p) λ Σ₁ v s₁ g₁ p₁ q₁.
+        good-choose wide _ _ _ (λ d. good-value stays p₁ (settled wide c d q₁)) λ _.
+        good-then wide _ (safe env s₁ b (rest (back (owns e) _ m)) (env-grows g₁ h) p₁) λ Σ₂ w s₂ g₂ p₂ q₂.
+        binary-good wide i v w s₂ c p₂ (fits-grows g₂ q₁) q₂
     step-good env s (t-follow {e = e} a b) m h p =
-        good-then _ (safe env s a (front (owns e) _ m) h p) λ Σ₁ v s₁ g₁ p₁ q₁.
-        good-unit _ q₁ (safe env s₁ b (rest (back (owns e) _ m)) (env-grows g₁ h) p₁)
+        good-then wide _ (safe env s a (front (owns e) _ m) h p) λ Σ₁ v s₁ g₁ p₁ q₁.
+        good-unit wide _ q₁ (safe env s₁ b (rest (back (owns e) _ m)) (env-grows g₁ h) p₁)
     step-good env s (t-group a) m h p = safe env s a (rest m) h p
     step-good env s (t-block a) m h p =
-        good-then _ (safe env s a (rest m) h p) λ Σ₁ v s₁ g₁ p₁ q₁.
+        good-then wide _ (safe env s a (rest m) h p) λ Σ₁ v s₁ g₁ p₁ q₁.
         good-value stays record { counted = p₁ .counted; holds = keep-holds Σ₁ _ (s₁ .cells) (p₁ .holds) } q₁
     step-good env s (t-call {i = i} {f = f} {ts = ts} {t = t} a e) m h p =
         let r = ready f record { takes = ts; gives = t } e in
         let fits : (g : Fun) → nearest f fs ≡ some g → FunFits R Δ g record { takes = ts; gives = t } =
         λ g d. subst (λ x. FunFits R Δ x record { takes = ts; gives = t }) (some-one (sym (r .1) ∙ d)) (r .2) in
         arguments-good env s _ a (rest m) h p λ Σ₁ vs s₁ g₁ p₁ q₁.
-        good-when _ _ _ (λ g d. invoke-good i vs s₁ (fits g d) q₁ p₁) λ d. absurd (none-some (sym d ∙ r .1))
+        good-when wide _ _ _ (λ g d. invoke-good i vs s₁ (fits g d) q₁ p₁) λ d. absurd (none-some (sym d ∙ r .1))
     step-good env s (t-bind {e = e} a b) m h p =
-        good-then _ (safe env s a (front (owns e) _ (rest m)) h p) λ Σ₁ v s₁ g₁ p₁ q₁.
+        good-then wide _ (safe env s a (front (owns e) _ (rest m)) h p) λ Σ₁ v s₁ g₁ p₁ q₁.
         safe (push _ v env) s₁ b (back (owns e) _ (rest m)) (env-push q₁ (env-grows g₁ h)) p₁
     step-good env s (t-branch {c = c} {e = e} a b d) m h p =
         let n = back (owns c) _ (rest m) in
-        good-then _ (safe env s a (front (owns c) _ (rest m)) h p) λ Σ₁ v s₁ g₁ p₁ q₁.
-        good-bool _ q₁ λ x _.
-        good-choose _ _ _ (λ _. safe env s₁ b (front (owns e) _ n) (env-grows g₁ h) p₁) λ _.
+        good-then wide _ (safe env s a (front (owns c) _ (rest m)) h p) λ Σ₁ v s₁ g₁ p₁ q₁.
+        good-bool wide _ q₁ λ x _.
+        good-choose wide _ _ _ (λ _. safe env s₁ b (front (owns e) _ n) (env-grows g₁ h) p₁) λ _.
         safe env s₁ d (back (owns e) _ n) (env-grows g₁ h) p₁
     step-good env s (t-loop {c = c} a b) m h p =
         passes-good (s .units) env s a (front (owns c) _ (rest m)) b (back (owns c) _ (rest m)) h p
     step-good env s (t-counted {es = es} a b d) m h p =
         arguments-good env s _ a (front (all-owns es) _ (rest m)) h p λ Σ₁ vs s₁ g₁ p₁ q₁.
-        good-bounds b _ q₁ λ from to by r.
-        good-choose _ _ _ (λ _. good-stop) λ _.
+        good-bounds wide b _ q₁ λ from to by r.
+        good-choose wide _ _ _ (λ _. good-stop) λ _.
         turns-good (s₁ .units) _ to by from env s₁ d (back (all-owns es) _ (rest m)) (env-grows g₁ h) p₁ r
 
   module _ (Δ : Scope Sig) (fs : Scope Fun) (ready : Ready R Δ fs) where
     safe-at : (d : ℕ) → Safe R Δ (eval fs d)
     unfolding eval
-    safe-at zero = record { at = λ env s a m h p. good-begin _ s _ p λ s₁ p₁. good-stop }
+    safe-at zero = record { at = λ env s a m h p. good-begin wide _ s _ p λ s₁ p₁. good-stop }
     safe-at (suc d) =
         let ih = safe-at d in
-        record { at = λ env s a m h p. good-begin _ s _ p λ s₁ p₁. step-good Δ fs ready (eval fs d) ih env s₁ a m h p₁ }
+        record { at = λ env s a m h p. good-begin wide _ s _ p λ s₁ p₁. step-good Δ fs ready (eval fs d) ih env s₁ a m h p₁ }
 
     pub eval-good : {Σ : List Ty} {Γ : Scope Ty} {e : Exp} {t : Ty} (d : ℕ) (env : Env) (s : State)
         → Typed Δ Γ e t → Fair R (owns e) → EnvFits R Σ env Γ → StateFits R Σ s → Good R Σ t (eval fs d e env s)

@@ -8,7 +8,8 @@ use mir.Val.{toZ, ofZ}
 use mir.Facts.{toZ-ofZ}
 use Rattle.layout.specs.declared.values.Value.the-variants.{Flag}
 use Rattle.machine.specs.declared.state.Outcome.the-variants.{Gives}
-use Rattle.machine.proofs.Reckoning.{reckons-add, reckons-sub, reckons-mul, reckons-zero, reckons-div, reckons-less, reckons-equal, bits-equal, bits-zero}
+use Rattle.machine.proofs.Reckoning.{reckons-add, reckons-sub, reckons-mul, reckons-zero}
+use Rattle.machine.proofs.Reckoning.{reckons-div, reckons-less, reckons-equal, bits-equal, bits-zero}
 use borrow.Author.Needs.{needs}
 use Rattle.machine.proofs.operations.reckon.Statement.{statement}
 use Rattle.machine.proofs.operations.reckon.Tie as tie

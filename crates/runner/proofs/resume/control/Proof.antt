@@ -2,7 +2,8 @@
 use lib.Dec.{lit<}
 use native.Mathlib.Omega.{arith}
 use Rattle.runner.proofs.Promises.{resumes-table, resumes-frame}
-use Rattle.runner.proofs.Resuming.{resumes-then, resumes-else, resumes-test, resumes-pass, resumes-end, resumes-bound, resumes-whole, row-bound, row-condition, row-test, row-pass, token-bound, slot-bound, key-bound}
+use Rattle.runner.proofs.Resuming.{resumes-then, resumes-else, resumes-test, resumes-pass, resumes-end, resumes-bound}
+use Rattle.runner.proofs.Resuming.{resumes-whole, row-bound, row-condition, row-test, row-pass, token-bound, slot-bound, key-bound}
 use borrow.Author.Needs.{needs}
 use Rattle.runner.proofs.resume.control.Statement.{statement}
 use Rattle.runner.proofs.resume.control.Tie as tie
