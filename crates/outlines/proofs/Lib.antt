@@ -1,0 +1,4 @@
+-- Laws that the proofs of `outlines` cite.
+pub mod Matched
+pub mod Drawing
+pub mod Answering

@@ -1,0 +1,4 @@
+-- Laws that the proofs of `tally` cite.
+pub mod Laws
+pub mod Reported
+pub mod Jobs
