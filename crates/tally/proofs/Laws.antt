@@ -157,6 +157,7 @@ stop-least State.cell-freed = omega arith
 stop-least State.cells-full = omega arith
 stop-least State.not-a-byte = omega arith
 stop-least State.output-full = omega arith
+stop-least State.zero-step = omega arith
 
 pub stop-most : (s : State.Stop) → stop-number s < 59
 stop-most State.no-unit = omega arith
@@ -167,6 +168,7 @@ stop-most State.cell-freed = omega arith
 stop-most State.cells-full = omega arith
 stop-most State.not-a-byte = omega arith
 stop-most State.output-full = omega arith
+stop-most State.zero-step = omega arith
 
 module _ (a b : ℤ) where
   pub high-summed : ltZ HIGH a ≡ true → a ≡ summed a b

@@ -197,6 +197,7 @@ no-stop State.cell-freed = refl
 no-stop State.cells-full = refl
 no-stop State.not-a-byte = refl
 no-stop State.output-full = refl
+no-stop State.zero-step = refl
 
 pub none-stands : Stands [] no-sums
 unfolding tally pays total chosen
