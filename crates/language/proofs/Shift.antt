@@ -11,5 +11,6 @@ pub mod OneReport
 pub mod Cuts
 pub mod Whole
 pub mod Totals
+pub mod Sound
 pub mod Books
 pub mod Examples

@@ -16,3 +16,4 @@ pub mod Pairs
 pub mod Edition
 pub mod Outline
 pub mod Shift
+pub mod Feeding

@@ -14,18 +14,14 @@ use Rattle.language.specs.Sizes.{LARGEST}
 use Rattle.language.specs.Text.{worth, number-from}
 use Rattle.language.specs.Shift as Shift
 use Rattle.language.specs.Shift.{all-bytes, is-capital-hex, job-of}
-use Rattle.language.proofs.Shift.Cuts.{ended-line}
+use Rattle.language.specs.Feeding.{ended-line}
 use Rattle.language.proofs.Text.Choices.{either, outcome}
 use Rattle.language.proofs.Text.Digits.{number-least}
 use Rattle.tally.specs.declared.lines.Part.{Part}
 use Rattle.tally.specs.declared.lines.Job.{Job}
+use Rattle.tally.specs.Stands.{job-meant}
 use Rattle.tally.specs.Parts.{no-part, spoilt, longer, longer-by, job-told}
 use Rattle.tally.proofs.Laws.{spoilt-longer, digit-longer, other-longer, past-longer, loom-digit, picks-digit, picks-over, rate-digit, rate-over}
-
--- what the code's job is
-abbrev pub job-meant : Job → Option Shift.Job
-job-meant (Job.Good p r) = some record { picks = p; rate = r }
-job-meant Job.Bad = none
 
 -- a line that is bad stays so
 spoilt-by : (p : Part) (bytes : List ℕ) → p .bad ≡ true → longer-by p bytes ≡ p

@@ -20,39 +20,9 @@ use Rattle.numbers.specs.Meanings.{stop-meant}
 use Rattle.numbers.specs.declared.Stop.{Stop}
 use Rattle.tally.specs.declared.sums.Sums.{Sums}
 use Rattle.tally.specs.declared.sums.Outcome.{Outcome}
+use Rattle.tally.specs.Stands.{outcome-meant, stop-at, report-in, Stands}
 use Rattle.tally.specs.Sums.{no-sums, stop-index, counted, HIGH, LOW, summed, with-bad, with-stop, with-pay, added}
 use Rattle.tally.proofs.Laws.{counted-more, plus-summed, stop-least, stop-most}
-
--- what the code's outcome is
-abbrev pub meant : Outcome → Shift.Outcome
-meant Outcome.Bad = Shift.bad
-meant (Outcome.Stopped w) = Shift.stopped (stop-meant w)
-meant (Outcome.Paid z) = Shift.paid z
-
--- where the lines of a written stop are counted
-abbrev stop-at : State.Stop → ℕ
-stop-at w = stop-number w - 50
-
-abbrev pub report-in : Sums → Report
-report-in s = record {
-  lines = s .lines;
-  bad = s .bad;
-  stops = λ w. getD (s .stops) (stop-at w) 0;
-  sum = s .sum;
-  least = s .least;
-  largest = s .largest;
-}
-
--- the numbers s are those of these outcomes
-pub record Stands (os : List Shift.Outcome) (s : Sums) : Type 0 where
-  pub lines : s .lines ≡ length os
-  pub bad : s .bad ≡ tally is-bad os
-  pub nine : length (s .stops) ≡ 9
-  pub stops : (w : State.Stop) → getD (s .stops) (stop-at w) 0 ≡ tally (is-stop w) os
-  pub paid : s .paid ≡ length (pays os)
-  pub sum : s .sum ≡ total (pays os)
-  pub least : s .least ≡ chosen lesser (pays os)
-  pub largest : s .largest ≡ chosen greater (pays os)
 
 pub report-stands : {os : List Shift.Outcome} {s : Sums} → Stands os s → report-in s ≡ report-of os
 unfolding report-of
@@ -182,7 +152,7 @@ module _ (os : List Shift.Outcome) (s : Sums) (h : Stands os s) (few : length os
 
 -- what is kept stands for one outcome more
 pub added-stands : (os : List Shift.Outcome) (s : Sums) (o : Outcome) → Stands os s → length os < LINES → AllInRange (pays os)
-    → Stands (os ++ (meant o ∷ [])) (added s o)
+    → Stands (os ++ (outcome-meant o ∷ [])) (added s o)
 added-stands os s Outcome.Bad h few ints = bad-more os s h few
 added-stands os s (Outcome.Stopped v) h few ints = stop-more os s h few v
 added-stands os s (Outcome.Paid z) h few ints = pay-more os s h few z ints

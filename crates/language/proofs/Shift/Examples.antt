@@ -4,7 +4,7 @@ use mathlib.Core.Path.{_≡_, refl}
 use Rattle.language.specs.Tokens.{spell}
 use Rattle.language.specs.Text.{between, is-digit, worth, number-from}
 use Rattle.language.specs.Shift.{all-bytes, is-capital-hex, job-of, decimal-with, call-of}
-use Rattle.language.proofs.Shift.Cuts.{ended-line, open-line}
+use Rattle.language.specs.Feeding.{ended-line, open-line}
 
 -- the line of the paper, and its call
 line : job-of (ended-line (spell "00070001117000000003")) ≡ some record { picks = 70000; rate = 3 }

@@ -93,7 +93,7 @@ pub sum-fits : (os : List Outcome) → length os ≤ LINES → AllInRange (pays 
 sum-fits os h r = omega (arith, total-mag r, pays-few os)
 
 -- the pays of an admitted book are ints
-in-range-run : {ed : ℕ} {book : List ℕ} {l : Lent} {line : Line} {o : Outcome} {printed : List ℕ} → Admitted ed book l → Comes ed book l line o printed
+pub in-range-run : {ed : ℕ} {book : List ℕ} {l : Lent} {line : Line} {o : Outcome} {printed : List ℕ} → Admitted ed book l → Comes ed book l line o printed
     → AllInRange (pay-before o [])
 in-range-run ready (comes-bad e) = all-none
 in-range-run ready (comes-run e (runs-to-stop x f)) = all-none

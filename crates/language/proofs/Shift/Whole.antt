@@ -14,10 +14,10 @@ use Rattle.language.specs.Text.{is-in-line}
 use Rattle.language.specs.Answers.{Lent}
 use Rattle.language.specs.Shift.{Line, led-by, lines, all-bytes, job-of, Outcome, bad, Comes, comes-bad, AllCome, none-comes, one-comes}
 use Rattle.language.specs.Shift.{ShiftRefusal, many-lines, report-of, told-of, Shift}
+use Rattle.language.specs.Feeding.{Sofar, begun, with-byte, with-outcome, ended-line, open-line, step-past, step-full, step-byte}
+use Rattle.language.specs.Feeding.{step-feed, Fed, fed-none, fed-more, closed, closed-told}
 use Rattle.language.proofs.Text.Choices.{and-both, clash}
 use Rattle.language.proofs.Shift.Decimals.{all-append}
-use Rattle.language.proofs.Shift.Cuts.{Sofar, begun, with-byte, with-outcome, ended-line, open-line, step-past, step-full, step-byte}
-use Rattle.language.proofs.Shift.Cuts.{step-feed, Fed, fed-none, fed-more}
 
 -- ---- the lines of bytes that hold no LF
 
@@ -50,18 +50,6 @@ lines-some b t = go (is-in-line b)
 open-bad : (p : List ℕ) → job-of (open-line p) ≡ none
 unfolding job-of
 open-bad p = refl
-
--- ---- what is told at the end
-
-abbrev pub rest-of : List ℕ → List Outcome
-rest-of [] = []
-rest-of (b ∷ p) = bad ∷ []
-
-unfoldable pub closed : Sofar → List Outcome
-closed s = cond (s .over) (s .outcomes) (s .outcomes ++ rest-of (s .part))
-
-unfoldable pub closed-told : Sofar → Option ShiftRefusal
-closed-told s = cond (s .over) (some many-lines) none
 
 -- what is so of it, while no line is too many
 pub record Open (s : Sofar) : Type 0 where
