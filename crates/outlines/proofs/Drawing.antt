@@ -15,15 +15,16 @@ use Rattle.language.specs.Tokens.{Token, same, past, place-at, spelling-at, NUM
 use Rattle.language.specs.Text.{Stands}
 use Rattle.language.specs.Trees.{Exp, Exps, Param, Def, Program, Ty}
 use Rattle.language.specs.Meaning.{type-number}
-use Rattle.language.specs.Answers.{from-text, Passes}
+use Rattle.language.specs.Answers.{Passes}
+use Rattle.language.specs.Edition.{text-in}
 use Rattle.language.specs.Outline.{is-whole, is-number, Wanted, type-numbers, suits, has-function}
 use Rattle.language.proofs.Text.Spots.{Spot, reached-spot}
 use Rattle.language.proofs.Text.Spellings.{slice-stands}
 use Rattle.language.proofs.Grammar.Entries.{every, entry-passes}
 use Rattle.layout.specs.Table.{KIND, OWN, ARITY, row-word, function-row, token-place, token-end}
 use Rattle.layout.specs.Names.{Stand}
-use Rattle.layout.specs.Decode.{Shape, a-name, a-number, a-follow, a-group, a-block, a-call, a-let, an-if, a-while, a-constant, a-unary, a-binary}
-use Rattle.layout.specs.Decode.{shapes, shape-of, build, build-if, tree-at, Right, ParamsAt, params-none, params-more, FunctionAt, FunctionsAt}
+use Rattle.layout.specs.Decode.{Shape, a-name, a-number, a-float, a-follow, a-group, a-block, a-call, a-let, an-if, a-while, a-constant, a-unary}
+use Rattle.layout.specs.Decode.{a-for, a-binary, shapes, shape-of, build, build-if, tree-at, Right, ParamsAt, params-none, params-more, FunctionAt, FunctionsAt}
 use Rattle.layout.specs.Decode.{functions-none, functions-more, Holds}
 use Rattle.layout.specs.declared.Held.{Held}
 use Rattle.layout.proofs.FunctionLaws.{function-headed}
@@ -99,6 +100,7 @@ module _ {t : List ℕ} {ts : List Token} {w : List ℕ} {count : ℕ} (stand : 
 shape-number : Shape → Bool
 shape-number a-name = false
 shape-number a-number = true
+shape-number a-float = false
 shape-number a-follow = false
 shape-number a-group = false
 shape-number a-block = false
@@ -107,6 +109,7 @@ shape-number a-let = false
 shape-number an-if = false
 shape-number a-while = false
 shape-number (a-constant l) = is-whole l
+shape-number (a-for r) = false
 shape-number (a-unary o) = false
 shape-number (a-binary o) = false
 
@@ -133,6 +136,7 @@ built : (ts : List Token) (s : Shape) (i : ℕ) (a b c : Exp) (es : Exps) → is
 unfolding build is-number shape-number
 built ts a-name i a b c es = refl
 built ts a-number i a b c es = refl
+built ts a-float i a b c es = refl
 built ts a-follow i a b c es = refl
 built ts a-group i a b c es = refl
 built ts a-block i a b c es = refl
@@ -141,6 +145,7 @@ built ts a-let i a b c es = refl
 built ts an-if i a b c es = refl
 built ts a-while i a b c es = refl
 built ts (a-constant l) i a b c es = refl
+built ts (a-for r) i a b c es = refl
 built ts (a-unary o) i a b c es = refl
 built ts (a-binary o) i a b c es = refl
 
@@ -183,9 +188,10 @@ held-rows {ts} {w} {P} h = record {
       };
 }
 
-pub held-told : (t : List ℕ) (x : Wanted) {ts : List Token} {w : List ℕ} {P : Held} {p : Program} {ty : Ty} → Passes (from-text t) ts p ty → Holds ts w P p
+pub held-told : (edition : ℕ) (t : List ℕ) (x : Wanted) {ts : List Token} {w : List ℕ} {P : Held} {p : Program} {ty : Ty}
+    → Passes (text-in edition t) ts p ty → Holds ts w P p
     → (alone-in w (P .root) ≡ is-number (p .main)) × (any-from t w x 0 (P .functions) ≡ has-function x (p .defs))
-held-told t x {ts} {w} {P} {p} a h = (
+held-told edition t x {ts} {w} {P} {p} a h = (
   alone-told (h .depth) ts w (P .root) (h .right) ∙ ap is-number (h .main),
-  ap (any-from t w x 0) (h .defined) ∙ any-told (h .stand) (reached-spot (a .given .splits .whole)) x (h .functions),
+  ap (any-from t w x 0) (h .defined) ∙ any-told (h .stand) (reached-spot (a .given .given .splits .whole)) x (h .functions),
 )

@@ -2,3 +2,4 @@
 pub mod Matched
 pub mod Drawing
 pub mod Answering
+pub mod Determined

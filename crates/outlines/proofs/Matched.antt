@@ -65,13 +65,13 @@ module _ (t w : List ℕ) (x : Wanted) (k n : ℕ) (h : k < n) where
   left : n - k ≡ suc (n - (k + 1))
   left = omega arith
 
-  pub any-here : suits-in t w k x ≡ true → any-from t w x k (n - k) ≡ true
+  pub any-here : {b : Bool} → b ≡ suits-in t w k x → b ≡ true → any-from t w x k (n - k) ≡ true
   unfolding any-from
-  any-here e = rw (left, e)
+  any-here e f = rw (left, sym e ∙ f)
 
-  pub any-later : suits-in t w k x ≡ false → any-from t w x k (n - k) ≡ any-from t w x (k + 1) (n - (k + 1))
+  pub any-later : {b : Bool} → b ≡ suits-in t w k x → b ≡ false → any-from t w x k (n - k) ≡ any-from t w x (k + 1) (n - (k + 1))
   unfolding any-from
-  any-later e = rw (left, e)
+  any-later e f = rw (left, sym e ∙ f)
 
 pub any-none : (t w : List ℕ) (x : Wanted) (k n : ℕ) → n ≤ k → any-from t w x k (n - k) ≡ false
 unfolding any-from

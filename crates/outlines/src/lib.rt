@@ -4,7 +4,7 @@ ghost use mathlib.Core.Path.{_≡_};
 ghost use Prim.Native.Nat.{ℕ, _+_, _≤_, _<_};
 ghost use lib.ListN.{length};
 ghost use Rattle.language.specs.Sizes.{TABLE, NODES};
-ghost use Rattle.language.specs.Answers.{from-text};
+ghost use Rattle.language.specs.Edition.{pair-in};
 ghost use Rattle.language.specs.Outline.{Outline};
 ghost use Rattle.language.specs.Pairs.{joined};
 ghost use Rattle.layout.specs.Table.{ARITY, row-word};
@@ -144,24 +144,25 @@ fn drawn(
     }
 }
 
-// What is told of two sheets that are read as one, with a function that is wanted: its name, the numbers of
-// the types that it takes, and that of the one it gives.
+// What is told of two sheets that are read as one, in the edition that a number names, with a function that
+// is wanted: its name, the numbers of the types that it takes, and that of the one it gives.
 pub fn outline(
+    edition: u32,
     first: &[u8],
     second: &[u8],
+    table: &mut [u32],
     name: &[u8],
     takes: &[u32],
     gives: u32,
-    table: &mut [u32],
 ) -> Outlined
-    ensures { λ r. ⌜ Outline (from-text (joined (now (first .entry)) (now (second .entry))))
+    ensures { λ r. ⌜ Outline (pair-in edition (now (first .entry)) (now (second .entry)))
         (wanted (now (name .entry)) (now (takes .entry)) gives) (now (table .entry)) (outlined-report r)
         (now (table .exit)) ⌝ }
 {
     if table.len() < TABLE {
         return Outlined::Refused(Refusal::ShortMemory);
     }
-    let seen = sheets::examine(first, second, View::Joined, table);
+    let seen = sheets::examine(edition, first, second, View::Joined, table);
     let answer = drawn(first, second, table, seen, name, takes, gives);
     memory::clear(table, 0, TABLE);
     answer

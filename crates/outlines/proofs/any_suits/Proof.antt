@@ -28,7 +28,7 @@ suits-requires c κs =
 returns : tie.Need-returns Inv-loop μ-loop
 returns c =
     let in-loop = c .before .before in
-    sym (in-loop .before .loop .inv .1 ∙ any-here _ _ _ _ _ (in-loop .loop-test .taken) (sym (c .before .suits .ensures) ∙ c .if1 .taken))
+    sym (in-loop .before .loop .inv .1 ∙ any-here _ _ _ _ _ (in-loop .loop-test .taken) (c .before .suits .ensures) (c .if1 .taken))
 
 add-k : tie.Need-add-k Inv-loop μ-loop
 add-k c = omega (arith, c .before .before .loop-test .taken)
@@ -40,7 +40,7 @@ loop-again : tie.Need-loop-again Inv-loop μ-loop
 loop-again c =
     let in-loop = c .before .before in (
       omega (arith, in-loop .loop-test .taken),
-      in-loop .before .loop .inv .1 ∙ any-later _ _ _ _ _ (in-loop .loop-test .taken) (sym (c .before .suits .ensures) ∙ c .if1 .left),
+      in-loop .before .loop .inv .1 ∙ any-later _ _ _ _ _ (in-loop .loop-test .taken) (c .before .suits .ensures) (c .if1 .left),
     )
 
 returns-2 : tie.Need-returns-2 Inv-loop μ-loop

@@ -4,7 +4,7 @@ use Rattle.outlines.proofs.outline.Statement.{statement}
 use Rattle.outlines.proofs.outline.Tie as tie
 
 returns : tie.Need-returns
-returns c = outline-is-short _ _ _ (c .if1 .taken)
+returns c = outline-is-short _ _ _ _ _ (c .if1 .taken)
 
 examine-requires : tie.Need-examine-requires
 examine-requires c κs = search needs
@@ -23,7 +23,7 @@ returns-2 c =
     let at-clear = c .before .before in
     let at-drawn = at-clear .before .before in
     let at-examine = at-drawn .before .before .before .before in
-    outline-is _ _ _ _ _ (at-examine .before .before .if1 .left) (at-clear .clear .ensures) _ _ (at-examine .examine .ensures) (at-drawn .drawn .ensures)
+    outline-is _ _ _ _ _ _ _ (at-examine .before .before .if1 .left) (at-clear .clear .ensures) _ _ (at-examine .examine .ensures) (at-drawn .drawn .ensures)
 
 pub outline-spec : {M : Type 1} → statement M
 outline-spec =
