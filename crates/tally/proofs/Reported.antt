@@ -66,7 +66,7 @@ module _ (os : List Shift.Outcome) (s : Sums) (h : Stands os s) (few : length os
   unpaid : (o : Shift.Outcome) → pay-before o [] ≡ [] → pays os ≡ pays (os ++ (o ∷ []))
   unpaid o e = sym (pays-more os o ∙ ap (λ (zs : List ℤ). pays os ++ zs) e ∙ append-nil (pays os))
 
-  bad-more : Stands (os ++ (Shift.bad ∷ [])) (with-bad s)
+  pub bad-more : Stands (os ++ (Shift.bad ∷ [])) (with-bad s)
   bad-more =
       let p = unpaid Shift.bad refl in
       record {

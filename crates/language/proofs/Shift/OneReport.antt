@@ -33,7 +33,7 @@ same-refusal : {r q : Refusal} {x y : Place} → (r ≡ q) × (x ≡ y)
 same-refusal e = ap₂ (λ (r : Refusal) (x : Place). record { told = some (sheet r); place = x }) (e .0) (e .1)
 
 module _ (ed : ℕ) (book : List ℕ) where
-  one-program : {ts us : List Token} {p q : Program} {t u : Ty} → Passes (pair-in ed book ZERO) ts p t → Passes (pair-in ed book ZERO) us q u → p ≡ q
+  pub one-program : {ts us : List Token} {p q : Program} {t u : Ty} → Passes (pair-in ed book ZERO) ts p t → Passes (pair-in ed book ZERO) us q u → p ≡ q
   one-program {ts} {us} {p} {q} {t} {u} a b =
       let law = pair-in-lawful ed book ZERO in
       let e : _≡_ {A = Fate Place} (passes ts p t) (passes us q u) = sym (passes-is law a) ∙ passes-is law b in

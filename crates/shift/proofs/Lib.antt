@@ -1,0 +1,5 @@
+pub mod Sound
+pub mod Kept
+pub mod Growing
+pub mod Finishing
+pub mod Admitting
