@@ -2,3 +2,4 @@
 pub mod Laws
 pub mod Reported
 pub mod Jobs
+pub mod CallText

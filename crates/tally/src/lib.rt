@@ -2,6 +2,7 @@
 // and what the lines so far add up to. All of it is plain data, by value. Whatever stands in it, nothing
 // here wraps: what no shift can come to is counted no further.
 
+pub mod calls;
 pub mod lines;
 pub mod sums;
 

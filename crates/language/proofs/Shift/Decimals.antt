@@ -48,10 +48,10 @@ abbrev more-digits : ℕ → ℕ → Spelling
 more-digits more n = decimal-with more (n / 10) ++ one-digit (n % 10)
 
 -- so many digits before the last are enough
-abbrev Enough : ℕ → ℕ → Type 0
+abbrev pub Enough : ℕ → ℕ → Type 0
 Enough more n = n < 10 ^ suc more
 
-tenth : (more n : ℕ) → Enough (suc more) n → Enough more (n / 10)
+pub tenth : (more n : ℕ) → Enough (suc more) n → Enough more (n / 10)
 tenth more n h = div-lt-iff-lt-mul {k = 10} {x = n} {y = 10 ^ suc more} (omega arith) .1 (fits (10 ^ suc more) h)
   where
     fits : (m : ℕ) → n < 10 ^ suc (suc more) → n < 10 ^ suc more * 10
