@@ -1,5 +1,5 @@
 -- Bytes put one behind the other into an array: what the proofs of `tally::calls` cite.
-use lib.ListN.{length, take, set, length-set}
+use lib.ListN.{length, take, set, length-set, length-take}
 use lib.Seq.{take-suc-set}
 use mathlib.Core.List.{List, [], _∷_, _++_, append-assoc}
 use mathlib.Core.Path.{_≡_, refl, _∙_}
@@ -62,3 +62,8 @@ whole a b c d e j o p q r s = record {
   room = omega (arith, o .room, p .room, q .room, r .room, s .room);
   inside = s .inside;
 }
+
+-- ---- lent as a slice
+
+pub lent-long : {t : Text} {bytes : List ℕ} {most : ℕ} → Shows t bytes most → t .len ≡ length (take (t .len) (t .text))
+lent-long {t} p = omega (arith, length-take (t .len) (t .text), p .inside)
