@@ -3,3 +3,5 @@ pub mod Kept
 pub mod Growing
 pub mod Finishing
 pub mod Admitting
+pub mod Running
+pub mod Going
