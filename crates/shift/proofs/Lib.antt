@@ -1,0 +1,7 @@
+pub mod Sound
+pub mod Kept
+pub mod Growing
+pub mod Finishing
+pub mod Admitting
+pub mod Running
+pub mod Going
