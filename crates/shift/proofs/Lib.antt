@@ -5,3 +5,4 @@ pub mod Finishing
 pub mod Admitting
 pub mod Running
 pub mod Going
+pub mod InPieces
