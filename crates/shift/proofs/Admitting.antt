@@ -34,7 +34,7 @@ use Rattle.grumpy.proofs.Leaving.{checked-left}
 use Rattle.outlines.specs.declared.Outlined as Found
 use Rattle.outlines.specs.Reports.{outlined-report}
 use Rattle.shift.specs.declared.Why.{Why}
-use Rattle.shift.specs.declared.admission.Admission.{Admission}
+use Rattle.shift.specs.declared.Admission.{Admission}
 use Rattle.shift.specs.Meanings.{granted, admission-meant, lent, keeps-all, left-by}
 use Rattle.shift.specs.Admitting.{AskedOfRoom, AskedOfBook, AskedOfText, Asked}
 
