@@ -3,3 +3,4 @@ pub mod Kept
 pub mod Growing
 pub mod Finishing
 pub mod Admitting
+pub mod Learnt

@@ -1,5 +1,6 @@
 use native.Mathlib.Omega.{arith}
 use borrow.Author.Needs.{needs}
+use Rattle.shift.specs.Meanings.{closed-sums}
 use Rattle.shift.proofs.closing.Statement.{statement}
 use Rattle.shift.proofs.closing.Tie as tie
 use Rattle.shift.proofs.closing.Reads as reads
@@ -10,7 +11,7 @@ use Rattle.tally.proofs.sums.add.Reads as add-reads
 -- src/lib.rt:105:9
 -- c@: result if1 start
 returns : tie.Need-returns
-returns c = ?
+returns c = rw (c .before .if1 .taken)
 
 -- src/lib.rt:107:8
 -- c@: if1 start

@@ -1,5 +1,6 @@
 use native.Mathlib.Omega.{arith}
 use borrow.Author.Needs.{needs}
+use mathlib.Core.Path.{_≡_, refl}
 use Rattle.shift.proofs.fresh.Statement.{statement}
 use Rattle.shift.proofs.fresh.Tie as tie
 use Rattle.shift.proofs.fresh.Reads as reads
@@ -20,7 +21,7 @@ none-requires-2 c κs = search needs
 -- src/lib.rt:50:1
 -- c@: none2 none start
 returns : tie.Need-returns
-returns c = ?
+returns c = cc
 
 pub fresh-spec : {M : Type 1} → statement M
 fresh-spec = tie.close (tie.spec none-requires none-requires-2 returns)
