@@ -5,4 +5,6 @@ pub mod Finishing
 pub mod Admitting
 pub mod Running
 pub mod Going
+pub mod Learnt
+pub mod Pieces
 pub mod InPieces
