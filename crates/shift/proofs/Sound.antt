@@ -2,7 +2,7 @@
 -- pays that are ints (R14.6).
 use lib.IntN.{ℤ}
 use lib.ListN.{length, length-append}
-use mathlib.Core.Bool.{true, false}
+use mathlib.Core.Bool.{false}
 use mathlib.Core.List.{List, [], _∷_, _++_}
 use mathlib.Core.Path.{_≡_, refl, sym, subst}
 use native.Mathlib.Omega.{arith}

@@ -15,7 +15,8 @@ pub record Keeps (state : State) (s : Sofar) : Type 0 where
   pub over : state .over ≡ s .over
 
 -- with the lent output as it was at first, this input was fed, and the state and the output are as it left them
-pub record After (edition : ℕ) (book : List ℕ) (l : Lent) (output input : List ℕ) (state : State) (output′ : List ℕ) : Type 0 where
+pub record After (edition : ℕ) (book : List ℕ) (l : Lent) (output input : List ℕ) (state : State)
+    (output′ : List ℕ) : Type 0 where
   pub so-far : Sofar
   pub fed : Fed edition book l (begun output) input so-far
   pub keeps : Keeps state so-far

@@ -79,7 +79,8 @@ abbrev pub summed-up : State → Outcome → State
 summed-up s o = record { allowance = s .allowance; part = no-part; sums = added (s .sums) o; over = s .over }
 
 -- so many bytes more
-pub record Goes (edition : ℕ) (book bytes table work out : List ℕ) (state r : State) (table′ work′ out′ : List ℕ) : Type 0 where
+pub record Goes (edition : ℕ) (book bytes table work out : List ℕ) (state r : State)
+    (table′ work′ out′ : List ℕ) : Type 0 where
   pub grows : Grows edition book (lent table work (length out) (state .allowance)) bytes state out r out′
   pub allowance : r .allowance ≡ state .allowance
   pub table-same : table′ ≡ table

@@ -13,9 +13,10 @@ filled-requires c κs = search needs
 
 returns-2 : tie.Need-returns-2
 returns-2 c =
-    let a = c .before .before .before .before .before .before .before .args in
-    goes-full (a .edition) (a .book .now) (a .table .now) (a .work .now) (a .out .now) (a .state) (a .b) (c .filled .result) (c .before .before .if1 .left)
-    (c .before .if2 .taken) (c .filled .ensures)
+    let start = c .before .before .before .before .before .before .before in
+    let a = start .args in
+    goes-full (a .edition) (a .book .now) (a .table .now) (a .work .now) (a .out .now) (a .state) (a .b) (c .filled .result)
+    (c .before .before .if1 .left) (c .before .if2 .taken) (c .filled .ensures)
 
 line-requires : tie.Need-line-requires
 line-requires c κs = search needs
@@ -31,17 +32,22 @@ same-length-3 c = search needs
 
 returns-3 : tie.Need-returns-3
 returns-3 c =
-    let a = c .before .before .before .before .before .before .before .before .before .before .before .before .before .before .before .before .before .args in
-    goes-feed (a .edition) (a .book .now) (a .table .now) (a .work .now) (a .out .now) (a .state) (a .b) (c .before .before .before .before .before .before .line .result) _ _ _ (c .before .before .before .before .before .before .before .before .before .before .if3 .taken)
-    (c .before .before .before .before .before .before .line .ensures)
+    let at-line = c .before .before .before .before .before .before in
+    let at-if3 = at-line .before .before .before .before in
+    let start = at-if3 .before .before .before .before .before .before .before in
+    let a = start .args in
+    goes-feed (a .edition) (a .book .now) (a .table .now) (a .work .now) (a .out .now) (a .state) (a .b) (at-line .line .result) _ _ _
+    (at-if3 .if3 .taken) (at-line .line .ensures)
 
 within-requires : tie.Need-within-requires
 within-requires c κs = search needs
 
 returns-4 : tie.Need-returns-4
 returns-4 c =
-    let a = c .before .before .before .before .before .before .before .before .args in
-    goes-byte (a .edition) (a .book .now) (a .table .now) (a .work .now) (a .out .now) (a .state) (a .b) (c .within .result) (c .before .before .before .if1 .left)
+    let at-if1 = c .before .before .before in
+    let start = at-if1 .before .before .before .before .before in
+    let a = start .args in
+    goes-byte (a .edition) (a .book .now) (a .table .now) (a .work .now) (a .out .now) (a .state) (a .b) (c .within .result) (at-if1 .if1 .left)
     (c .before .before .if2 .left) (c .before .if3 .left) (c .within .ensures)
 
 pub byte-spec : {M : Type 1} → statement M

@@ -15,28 +15,42 @@ abbrev μ-loop : tie.MeasureT-loop
 
 loop-holds : tie.Need-loop-holds Inv-loop μ-loop
 loop-holds c =
-    let a = c .before .before .before .before .before .args in so-far-none (a .edition) (a .book .now) (a .piece .now) (a .table .now) (a .work .now) (a .out .now) (a .state)
+    let start = c .before .before .before .before .before in
+    let a = start .args in so-far-none (a .edition) (a .book .now) (a .piece .now) (a .table .now) (a .work .now) (a .out .now) (a .state)
 
 shared-slice-read-byte : tie.Need-shared-slice-read-byte Inv-loop μ-loop
 shared-slice-read-byte c = search needs
 
 byte-requires : tie.Need-byte-requires Inv-loop μ-loop
 byte-requires c κs =
-    let a = c .before .before .before .before .before .before .before .before .before .before .before .args in
-    let h = c .before .before .before .before .before .loop .inv in
-    lends-on (a .edition) (a .book .now) (a .table .now) (a .work .now) (a .out .now) (a .state) _ _ _ _ _ (h .long) (c .before .before .before .before .before .before .before .before .before .before .before .pre) (h .goes)
+    let at-loop = c .before .before .before .before .before in
+    let start = at-loop .before .before .before .before .before .before in
+    let a = start .args in
+    let h = at-loop .loop .inv in
+    lends-on (a .edition) (a .book .now) (a .table .now) (a .work .now) (a .out .now) (a .state) _ _ _ _ _ (h .long) (start .pre) (h .goes)
 
 add-i : tie.Need-add-i Inv-loop μ-loop
-add-i c = omega (arith, c .before .before .before .before .before .before .before .before .before .before .before .loop-test .taken, c .before .before .before .before .before .before .before .before .before .before .before .before .before .before .before .before .before .before .good)
+add-i c =
+    let earlier = c .before .before .before .before .before .before .before in
+    let at-loop-test = earlier .before .before .before .before in
+    let start = at-loop-test .before .before .before .before .before .before .before in
+    omega (arith, at-loop-test .loop-test .taken, start .good)
 
 loop-less : tie.Need-loop-less Inv-loop μ-loop
-loop-less c = omega (arith, c .before .before .before .before .before .before .before .before .before .before .before .loop-test .taken)
+loop-less c =
+    let earlier = c .before .before .before .before .before .before .before in
+    let at-loop-test = earlier .before .before .before .before in
+    omega (arith, at-loop-test .loop-test .taken)
 
 loop-again : tie.Need-loop-again Inv-loop μ-loop
 loop-again c =
-    let a = c .before .before .before .before .before .before .before .before .before .before .before .before .before .before .before .before .before .before .args in
+    let at-byte = c .before .before .before .before .before .before in
+    let at-loop-test = at-byte .before .before .before .before .before in
+    let at-loop = at-loop-test .before in
+    let start = at-loop .before .before .before .before .before .before in
+    let a = start .args in
     so-far-more (a .edition) (a .book .now) (a .piece .now) (a .table .now) (a .work .now) (a .out .now) (a .state) _ _ _ _ _ _ _ _ _ _
-    (c .before .before .before .before .before .before .before .before .before .before .before .before .loop .inv) (c .before .before .before .before .before .before .before .before .before .before .before .loop-test .taken) refl (search needs) (c .before .before .before .before .before .before .byte .ensures)
+    (at-loop .loop .inv) (at-loop-test .loop-test .taken) refl (search needs) (at-byte .byte .ensures)
 
 same-length : tie.Need-same-length Inv-loop μ-loop
 same-length c = search needs

@@ -11,7 +11,10 @@ enum-known-picks c = search needs
 
 run-requires : tie.Need-run-requires
 run-requires c κs =
-    let s = good-small _ (c .before .before .before .before .before .before .ended .result) _ _ (c .before .before .before .before .before .before .ended .ensures) (c .before .before .before .before .picks .given .1) in (c .before .before .before .before .before .before .before .before .before .before .before .pre, s .0, s .1)
+    let at-picks = c .before .before .before .before in
+    let at-ended = at-picks .before .before in
+    let start = at-ended .before .before .before .before .before in
+    let s = good-small _ (at-ended .ended .result) _ _ (at-ended .ended .ensures) (at-picks .picks .given .1) in (start .pre, s .0, s .1)
 
 enum-told : tie.Need-enum-told
 enum-told c = search needs
@@ -27,15 +30,20 @@ same-length-3 c = search needs
 
 returns : tie.Need-returns
 returns c =
-    let a = c .before .before .before .before .before .before .before .before .before .before .before .before .before .before .before .before .before .before .args in
-    came-good (a .edition) (a .book .now) _ (a .table .now) (a .work .now) (a .out .now) (a .part) (c .before .before .before .before .before .before .before .before .before .before .before .before .before .ended .result) (c .before .before .before .before .before .before .before .before .before .before .before .before .before .ended .ensures) _ _
-    (c .before .before .before .before .before .before .run .result) _ _ _ (c .before .before .before .before .before .before .before .before .before .before .before .picks .given .1) (c .before .before .before .before .before .before .run .ensures)
+    let at-run = c .before .before .before .before .before .before in
+    let at-picks = at-run .before .before .before .before .before in
+    let at-ended = at-picks .before .before in
+    let start = at-ended .before .before .before .before .before in
+    let a = start .args in
+    came-good (a .edition) (a .book .now) _ (a .table .now) (a .work .now) (a .out .now) (a .part) (at-ended .ended .result)
+    (at-ended .ended .ensures) _ _ (at-run .run .result) _ _ _ (at-picks .picks .given .1) (at-run .run .ensures)
 
 returns-2 : tie.Need-returns-2
 returns-2 c =
-    let a = c .before .before .before .before .before .before .before .args in
-    came-bad (a .edition) (a .book .now) _ (a .table .now) (a .work .now) (a .out .now) (a .part) (c .before .before .ended .result) (c .before .before .ended .ensures)
-    (c .enum-told .given .1)
+    let start = c .before .before .before .before .before .before .before in
+    let a = start .args in
+    came-bad (a .edition) (a .book .now) _ (a .table .now) (a .work .now) (a .out .now) (a .part) (c .before .before .ended .result)
+    (c .before .before .ended .ensures) (c .enum-told .given .1)
 
 pub come-spec : {M : Type 1} → statement M
 come-spec =

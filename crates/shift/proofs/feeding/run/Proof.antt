@@ -30,9 +30,12 @@ same-length-3 c = search needs
 
 returns : tie.Need-returns
 returns c =
-    let a = c .before .before .before .before .before .before .before .before .before .before .before .before .before .before .before .before .before .before .args in
-    ran-so (a .edition) (a .book .now) (a .table .now) (a .work .now) (a .out .now) (a .allowance) (c .before .before .before .before .before .before .before .before .before .before .before .before .before .before .before .before .before .before .pre .0) _ (c .before .before .before .before .before .before .before .before .before .before .before .before .before .before .before .before .before .before .pre .1) (c .before .before .before .before .before .before .before .before .before .before .before .before .before .before .before .before .before .before .pre .2) _ _ _ _
-    (c .before .before .before .before .before .before .before .run-pair .result) (c .ended .result) (c .before .before .before .before .before .before .before .before .before .before .before .before .before .call .ensures .text) (c .before .before .before .before .before .before .before .run-pair .ensures) (c .ended .ensures)
+    let at-run-pair = c .before .before .before .before .before .before .before in
+    let at-call = at-run-pair .before .before .before .before .before .before in
+    let start = at-call .before .before .before .before .before in
+    let a = start .args in
+    ran-so (a .edition) (a .book .now) (a .table .now) (a .work .now) (a .out .now) (a .allowance) (start .pre .0) _ (start .pre .1) (start .pre .2) _
+    _ _ _ (at-run-pair .run-pair .result) (c .ended .result) (at-call .call .ensures .text) (at-run-pair .run-pair .ensures) (c .ended .ensures)
 
 pub run-spec : {M : Type 1} → statement M
 run-spec =
