@@ -5,9 +5,13 @@ use crate::causes::Cause;
 use crate::ends::End;
 use crate::fields;
 use crate::fields::field;
+use crate::shifts;
+use crate::types;
 use crate::words;
+use numbers::Stop;
 use page::put;
 use page::spot;
+use tally::sums::Sums;
 
 fn sheet(out: &mut [u8], at: usize, file: &[u8]) -> usize
     ensures { λ r. ⌜ Counts r (now (out .exit)) ⌝ }
@@ -113,4 +117,70 @@ pub fn report(
             ran(out, d, units, allowance, printed)
         }
     }
+}
+
+// A name and a number that may be below 0.
+fn amount(out: &mut [u8], at: usize, name: &[u8], n: i64) -> usize
+    ensures { λ r. ⌜ Counts r (now (out .exit)) ⌝ }
+{
+    let a = put(out, at, name);
+    let b = put(out, a, b" ");
+    let c = types::signed(out, b, n);
+    put(out, c, b"\n")
+}
+
+// How many lines came to a stop; those that came to none are told too.
+fn stop(out: &mut [u8], at: usize, name: &[u8], sums: Sums, why: Stop) -> usize
+    ensures { λ r. ⌜ Counts r (now (out .exit)) ⌝ }
+{
+    let lines = shifts::stopped(sums, why);
+    field(out, at, name, lines as u64)
+}
+
+fn stops(out: &mut [u8], at: usize, sums: Sums) -> usize
+    ensures { λ r. ⌜ Counts r (now (out .exit)) ⌝ }
+{
+    let a = stop(out, at, b"stopped-50", sums, Stop::NoUnit);
+    let b = stop(out, a, b"stopped-51", sums, Stop::TooDeep);
+    let c = stop(out, b, b"stopped-52", sums, Stop::OutOfRange);
+    let d = stop(out, c, b"stopped-53", sums, Stop::ZeroDivisor);
+    let e = stop(out, d, b"stopped-54", sums, Stop::CellFreed);
+    let f = stop(out, e, b"stopped-55", sums, Stop::CellsFull);
+    let g = stop(out, f, b"stopped-56", sums, Stop::NotAByte);
+    let h = stop(out, g, b"stopped-57", sums, Stop::OutputFull);
+    stop(out, h, b"stopped-58", sums, Stop::ZeroStep)
+}
+
+// Whether all is well: `over` where there was a line too many.
+fn outcome(out: &mut [u8], at: usize, over: bool) -> usize
+    ensures { λ r. ⌜ Counts r (now (out .exit)) ⌝ }
+{
+    if over {
+        return meaning(out, at, Cause::ManyLines);
+    }
+    well(out, at)
+}
+
+// The whole report of a shift.
+pub fn shift(
+    out: &mut [u8],
+    status: u32,
+    file: &[u8],
+    allowance: u64,
+    over: bool,
+    sums: Sums,
+) -> usize
+    ensures { λ r. ⌜ Counts r (now (out .exit)) ⌝ }
+{
+    let a = field(out, 0, b"status", status as u64);
+    let b = sheet(out, a, file);
+    let c = outcome(out, b, over);
+    let d = field(out, c, b"allowance", allowance);
+    let e = field(out, d, b"lines", sums.lines as u64);
+    let f = field(out, e, b"bad", sums.bad as u64);
+    let g = stops(out, f, sums);
+    let h = field(out, g, b"paid", sums.paid as u64);
+    let i = amount(out, h, b"sum", sums.sum);
+    let j = amount(out, i, b"least", sums.least);
+    amount(out, j, b"largest", sums.largest)
 }
