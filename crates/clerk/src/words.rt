@@ -149,7 +149,7 @@ pub fn words(out: &mut [u8], at: usize, why: Cause) -> usize
         Cause::ManyLines => put(
             out,
             at,
-            b"more than 65536 lines; the report is of those before it",
+            b"more than 65536 lines; the report is of the first 65536",
         ),
     }
 }

@@ -102,17 +102,19 @@ fn record_shift(
     keep(asked, &text[..n])
 }
 
-// What is to be said behind the report of a shift: nothing, or that there was a line too many. True if that could be
-// done.
-fn warn(file: &[u8], book: &[u8], over: bool) -> bool {
+// What is to be said behind the report of a shift: nothing, or that its file has a line too many. True if that could
+// be done.
+fn warn(asked: Asked, over: bool) -> bool {
     if over {
-        return tell(file, book, 0, End::Refused(Cause::ManyLines, 0));
+        let mut file = io::buffer();
+        let length = os::arg(asked.second, &mut file);
+        return tell(&file[..length], b"", 0, End::Refused(Cause::ManyLines, 0));
     }
     true
 }
 
 // Tells what came of a shift, on standard output, and answers the status.
-pub fn shift(asked: Asked, book: &[u8], allowance: u64, over: bool, sums: Sums) -> u32 {
+pub fn shift(asked: Asked, allowance: u64, over: bool, sums: Sums) -> u32 {
     let mut file = io::buffer();
     let length = os::arg(asked.sheet, &mut file);
     let mut text = io::buffer();
@@ -121,7 +123,7 @@ pub fn shift(asked: Asked, book: &[u8], allowance: u64, over: bool, sums: Sums) 
         return failed(asked);
     }
     let mut status = ends::shift_status(over);
-    if !warn(&file[..length], book, over) {
+    if !warn(asked, over) {
         status = 2;
     }
     if !record_shift(asked, status, &file[..length], allowance, over, sums) {

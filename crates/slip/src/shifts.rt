@@ -11,8 +11,8 @@ use language::TABLE;
 use language::WORK;
 use page::Number;
 use pairs::Spot;
-use shift::Answer;
-use shift::Finished;
+use shift::Admission;
+use shift::Ending;
 use shift::State;
 use shift::Why;
 
@@ -22,13 +22,18 @@ const STRIDE: u32 = 8192;
 // More pieces than any input has: no clock gets there. A loop has to have an end that can be seen.
 const PIECES: u64 = 0xffff_ffff_ffff_ffff;
 
-// What became of a piece, or of all of them: they were fed; the input has ended; it cannot be read. That a book
-// which was admitted is refused later does not come.
-enum Fed {
-    More(State),
+// What became of a read: a piece was fed, and there may be more; the input has ended, or no byte more of it matters;
+// it cannot be read. That a book which was admitted is refused later does not come.
+enum Reading {
+    More,
     End,
     Unread,
     Refused(Why, Spot),
+}
+
+struct Fed {
+    reading: Reading,
+    state: State,
 }
 
 fn refuse(asked: Asked, edition: u32, book: &[u8], why: Why, spot: Spot) -> u32 {
@@ -48,8 +53,47 @@ fn progress(before: u32, after: u32) {
     }
 }
 
+// A piece was fed; behind a line too many no byte changes anything.
+fn fed(state: State) -> Fed {
+    if state.over {
+        return Fed {
+            reading: Reading::End,
+            state,
+        };
+    }
+    Fed {
+        reading: Reading::More,
+        state,
+    }
+}
+
+// Feeds one piece more.
+fn feed(
+    edition: u32,
+    book: &[u8],
+    piece: &[u8],
+    table: &mut [u32],
+    work: &mut [u32],
+    out: &mut [u8],
+    state: State,
+) -> Fed {
+    let answer = shift::feed(edition, book, piece, table, work, out, state);
+    let told = answer.told;
+    let next = answer.state;
+    match told {
+        Admission::Granted => {
+            progress(state.sums.lines, next.sums.lines);
+            fed(next)
+        }
+        Admission::Refused(why, spot) => Fed {
+            reading: Reading::Refused(why, spot),
+            state,
+        },
+    }
+}
+
 // Reads one piece more into `bytes`, and feeds it.
-fn piece(
+fn read(
     fd: i32,
     edition: u32,
     book: &[u8],
@@ -61,22 +105,31 @@ fn piece(
 ) -> Fed {
     let got = libc::read(fd, bytes);
     if got < 0 {
-        return Fed::Unread;
+        return Fed {
+            reading: Reading::Unread,
+            state,
+        };
     }
     if got == 0 {
-        return Fed::End;
+        return Fed {
+            reading: Reading::End,
+            state,
+        };
     }
     let n = io::count(got, bytes);
-    match shift::feed(edition, book, &bytes[..n], table, work, out, state) {
-        Answer::Ready(next) => {
-            progress(state.sums.lines, next.sums.lines);
-            Fed::More(next)
-        }
-        Answer::Refused(why, spot) => Fed::Refused(why, spot),
+    feed(edition, book, &bytes[..n], table, work, out, state)
+}
+
+fn goes_on(reading: Reading) -> bool {
+    match reading {
+        Reading::More => true,
+        Reading::End => false,
+        Reading::Unread => false,
+        Reading::Refused(_, _) => false,
     }
 }
 
-// Feeds all pieces, up to the end or to a line too many, behind which no byte changes anything.
+// Reads and feeds all pieces.
 fn pieces(
     fd: i32,
     edition: u32,
@@ -85,42 +138,51 @@ fn pieces(
     work: &mut [u32],
     begun: State,
 ) -> Fed {
-    let mut read = io::large_buffer();
+    let mut input = io::large_buffer();
     let mut printed = io::large_buffer();
-    let bytes: &mut [u8] = &mut read;
+    let bytes: &mut [u8] = &mut input;
     let out: &mut [u8] = &mut printed;
     let mut state = begun;
     let mut left = PIECES;
     while 0 < left {
-        if state.over {
-            return Fed::More(state);
+        let fed = read(fd, edition, book, bytes, table, work, out, state);
+        if !goes_on(fed.reading) {
+            return fed;
         }
-        match piece(fd, edition, book, bytes, table, work, out, state) {
-            Fed::More(next) => state = next,
-            Fed::End => return Fed::More(state),
-            Fed::Unread => return Fed::Unread,
-            Fed::Refused(why, spot) => return Fed::Refused(why, spot),
-        }
+        let next = fed.state;
+        state = next;
         left -= 1;
     }
-    Fed::Unread
-}
-
-fn told(asked: Asked, edition: u32, book: &[u8], name: &[u8], allowance: u64, fed: Fed) -> u32 {
-    match fed {
-        Fed::More(state) => finished(asked, edition, book, allowance, state),
-        Fed::Refused(why, spot) => refuse(asked, edition, book, why, spot),
-        _ => {
-            output::fail(name);
-            reports::failed(asked)
-        }
+    Fed {
+        reading: Reading::Unread,
+        state,
     }
 }
 
 fn finished(asked: Asked, edition: u32, book: &[u8], allowance: u64, state: State) -> u32 {
-    match shift::finish(edition, state) {
-        Finished::Report { over, sums } => reports::shift(asked, book, allowance, over, sums),
-        Finished::Refused(why) => refuse(asked, edition, book, Why::Sheet(why), pairs::front()),
+    let finished = shift::finish(edition, state);
+    let told = finished.told;
+    let sums = finished.sums;
+    match told {
+        Ending::Report { over } => reports::shift(asked, allowance, over, sums),
+        Ending::Refused(why) => refuse(asked, edition, book, Why::Sheet(why), pairs::front()),
+    }
+}
+
+fn unread(asked: Asked, name: &[u8]) -> u32 {
+    output::fail(name);
+    reports::failed(asked)
+}
+
+// Tells what came of the lines, whose file has this name.
+fn tell(asked: Asked, edition: u32, book: &[u8], name: &[u8], allowance: u64, fed: Fed) -> u32 {
+    let reading = fed.reading;
+    let state = fed.state;
+    match reading {
+        Reading::More => unread(asked, name),
+        Reading::End => finished(asked, edition, book, allowance, state),
+        Reading::Unread => unread(asked, name),
+        Reading::Refused(why, spot) => refuse(asked, edition, book, why, spot),
     }
 }
 
@@ -138,15 +200,14 @@ fn lines(
     let length = os::arg(asked.second, &mut name);
     if check::same(&name[..length], b"-") {
         let fed = pieces(libc::STDIN_FILENO, edition, book, table, work, begun);
-        return told(asked, edition, book, &name[..length], allowance, fed);
+        return tell(asked, edition, book, &name[..length], allowance, fed);
     }
     let fd = os::open_read(&name[..length]);
     if fd < 0 {
-        output::fail(&name[..length]);
-        return reports::failed(asked);
+        return unread(asked, &name[..length]);
     }
     let fed = pieces(fd, edition, book, table, work, begun);
-    let status = told(asked, edition, book, &name[..length], allowance, fed);
+    let status = tell(asked, edition, book, &name[..length], allowance, fed);
     libc::close(fd);
     status
 }
@@ -156,9 +217,12 @@ fn begin(asked: Asked, edition: u32, book: &[u8], allowance: u64) -> u32 {
     let mut cells = [0u32; WORK];
     let table: &mut [u32] = &mut words;
     let work: &mut [u32] = &mut cells;
-    match shift::begin(edition, book, table, work, allowance) {
-        Answer::Ready(state) => lines(asked, edition, book, table, work, allowance, state),
-        Answer::Refused(why, spot) => refuse(asked, edition, book, why, spot),
+    let answer = shift::begin(edition, book, table, work, allowance);
+    let told = answer.told;
+    let state = answer.state;
+    match told {
+        Admission::Granted => lines(asked, edition, book, table, work, allowance, state),
+        Admission::Refused(why, spot) => refuse(asked, edition, book, why, spot),
     }
 }
 
