@@ -137,18 +137,54 @@ fn stop(out: &mut [u8], at: usize, name: &[u8], sums: Sums, why: Stop) -> usize
     field(out, at, name, lines as u64)
 }
 
-fn stops(out: &mut [u8], at: usize, sums: Sums) -> usize
+// The stops from 50, from 53 and from 56 on.
+fn first_stops(out: &mut [u8], at: usize, sums: Sums) -> usize
     ensures { λ r. ⌜ Counts r (now (out .exit)) ⌝ }
 {
     let a = stop(out, at, b"stopped-50", sums, Stop::NoUnit);
     let b = stop(out, a, b"stopped-51", sums, Stop::TooDeep);
-    let c = stop(out, b, b"stopped-52", sums, Stop::OutOfRange);
-    let d = stop(out, c, b"stopped-53", sums, Stop::ZeroDivisor);
-    let e = stop(out, d, b"stopped-54", sums, Stop::CellFreed);
-    let f = stop(out, e, b"stopped-55", sums, Stop::CellsFull);
-    let g = stop(out, f, b"stopped-56", sums, Stop::NotAByte);
-    let h = stop(out, g, b"stopped-57", sums, Stop::OutputFull);
-    stop(out, h, b"stopped-58", sums, Stop::ZeroStep)
+    stop(out, b, b"stopped-52", sums, Stop::OutOfRange)
+}
+
+fn second_stops(out: &mut [u8], at: usize, sums: Sums) -> usize
+    ensures { λ r. ⌜ Counts r (now (out .exit)) ⌝ }
+{
+    let a = stop(out, at, b"stopped-53", sums, Stop::ZeroDivisor);
+    let b = stop(out, a, b"stopped-54", sums, Stop::CellFreed);
+    stop(out, b, b"stopped-55", sums, Stop::CellsFull)
+}
+
+fn third_stops(out: &mut [u8], at: usize, sums: Sums) -> usize
+    ensures { λ r. ⌜ Counts r (now (out .exit)) ⌝ }
+{
+    let a = stop(out, at, b"stopped-56", sums, Stop::NotAByte);
+    let b = stop(out, a, b"stopped-57", sums, Stop::OutputFull);
+    stop(out, b, b"stopped-58", sums, Stop::ZeroStep)
+}
+
+fn stops(out: &mut [u8], at: usize, sums: Sums) -> usize
+    ensures { λ r. ⌜ Counts r (now (out .exit)) ⌝ }
+{
+    let a = first_stops(out, at, sums);
+    let b = second_stops(out, a, sums);
+    third_stops(out, b, sums)
+}
+
+fn counts(out: &mut [u8], at: usize, sums: Sums) -> usize
+    ensures { λ r. ⌜ Counts r (now (out .exit)) ⌝ }
+{
+    let a = field(out, at, b"lines", sums.lines as u64);
+    let b = field(out, a, b"bad", sums.bad as u64);
+    let c = stops(out, b, sums);
+    field(out, c, b"paid", sums.paid as u64)
+}
+
+fn amounts(out: &mut [u8], at: usize, sums: Sums) -> usize
+    ensures { λ r. ⌜ Counts r (now (out .exit)) ⌝ }
+{
+    let a = amount(out, at, b"sum", sums.sum);
+    let b = amount(out, a, b"least", sums.least);
+    amount(out, b, b"largest", sums.largest)
 }
 
 // Whether all is well: `over` where there was a line too many.
@@ -176,11 +212,6 @@ pub fn shift(
     let b = sheet(out, a, file);
     let c = outcome(out, b, over);
     let d = field(out, c, b"allowance", allowance);
-    let e = field(out, d, b"lines", sums.lines as u64);
-    let f = field(out, e, b"bad", sums.bad as u64);
-    let g = stops(out, f, sums);
-    let h = field(out, g, b"paid", sums.paid as u64);
-    let i = amount(out, h, b"sum", sums.sum);
-    let j = amount(out, i, b"least", sums.least);
-    amount(out, j, b"largest", sums.largest)
+    let e = counts(out, d, sums);
+    amounts(out, e, sums)
 }

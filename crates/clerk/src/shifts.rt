@@ -1,9 +1,11 @@
 // What is told of a shift, for people: a name and what it comes to on each line, one below the other.
 ghost use mathlib.Core.Path.{_≡_};
+ghost use Prim.Native.Nat.{_<_};
 ghost use Rattle.io.specs.Counts.{Counts};
 ghost use Rattle.numbers.specs.Meanings.{stop-meant};
 ghost use Rattle.page.specs.Text.{Adds};
 ghost use Rattle.tally.specs.Stands.{report-in};
+ghost use Rattle.tally.specs.Sums.{stop-index};
 ghost use Rattle.clerk.specs.Shifts.{pounds-words, count-line, amount-line, progress-line};
 use crate::causes::Cause;
 use crate::types::signed;
@@ -14,12 +16,20 @@ use page::magnitude;
 use page::put;
 use tally::sums::Sums;
 
+// Where the lines of a stop are counted.
+fn index(why: Stop) -> usize
+    ensures { λ r. ⌜ (r ≡ stop-index why) × (r < 9) ⌝ }
+{
+    let number = numbers::of_stop(why);
+    (number - 50) as usize
+}
+
 // How many lines came to this stop.
 pub fn stopped(sums: Sums, why: Stop) -> u32
     ensures { λ r. ⌜ r ≡ report-in sums .stops (stop-meant why) ⌝ }
 {
+    let i = index(why);
     let stops = sums.stops;
-    let i = (numbers::of_stop(why) - 50) as usize;
     stops[i]
 }
 
@@ -73,31 +83,62 @@ fn stop(out: &mut [u8], at: usize, sums: Sums, why: Stop) -> usize
     put(out, f, b"\n")
 }
 
-fn stops(out: &mut [u8], at: usize, sums: Sums) -> usize
+// The stops from 50, from 53 and from 56 on.
+fn first_stops(out: &mut [u8], at: usize, sums: Sums) -> usize
     ensures { λ r. ⌜ Counts r (now (out .exit)) ⌝ }
 {
     let a = stop(out, at, sums, Stop::NoUnit);
     let b = stop(out, a, sums, Stop::TooDeep);
-    let c = stop(out, b, sums, Stop::OutOfRange);
-    let d = stop(out, c, sums, Stop::ZeroDivisor);
-    let e = stop(out, d, sums, Stop::CellFreed);
-    let f = stop(out, e, sums, Stop::CellsFull);
-    let g = stop(out, f, sums, Stop::NotAByte);
-    let h = stop(out, g, sums, Stop::OutputFull);
-    stop(out, h, sums, Stop::ZeroStep)
+    stop(out, b, sums, Stop::OutOfRange)
+}
+
+fn second_stops(out: &mut [u8], at: usize, sums: Sums) -> usize
+    ensures { λ r. ⌜ Counts r (now (out .exit)) ⌝ }
+{
+    let a = stop(out, at, sums, Stop::ZeroDivisor);
+    let b = stop(out, a, sums, Stop::CellFreed);
+    stop(out, b, sums, Stop::CellsFull)
+}
+
+fn third_stops(out: &mut [u8], at: usize, sums: Sums) -> usize
+    ensures { λ r. ⌜ Counts r (now (out .exit)) ⌝ }
+{
+    let a = stop(out, at, sums, Stop::NotAByte);
+    let b = stop(out, a, sums, Stop::OutputFull);
+    stop(out, b, sums, Stop::ZeroStep)
+}
+
+fn stops(out: &mut [u8], at: usize, sums: Sums) -> usize
+    ensures { λ r. ⌜ Counts r (now (out .exit)) ⌝ }
+{
+    let a = first_stops(out, at, sums);
+    let b = second_stops(out, a, sums);
+    third_stops(out, b, sums)
+}
+
+fn counts(out: &mut [u8], at: usize, sums: Sums) -> usize
+    ensures { λ r. ⌜ Counts r (now (out .exit)) ⌝ }
+{
+    let a = count(out, at, b"lines      ", sums.lines);
+    let b = count(out, a, b"bad lines  ", sums.bad);
+    let c = stops(out, b, sums);
+    count(out, c, b"paid       ", sums.paid)
+}
+
+fn amounts(out: &mut [u8], at: usize, sums: Sums) -> usize
+    ensures { λ r. ⌜ Counts r (now (out .exit)) ⌝ }
+{
+    let a = amount(out, at, b"sum        ", sums.sum);
+    let b = amount(out, a, b"least      ", sums.least);
+    amount(out, b, b"largest    ", sums.largest)
 }
 
 // The whole report.
 pub fn report(out: &mut [u8], sums: Sums) -> usize
     ensures { λ r. ⌜ Counts r (now (out .exit)) ⌝ }
 {
-    let a = count(out, 0, b"lines      ", sums.lines);
-    let b = count(out, a, b"bad lines  ", sums.bad);
-    let c = stops(out, b, sums);
-    let d = count(out, c, b"paid       ", sums.paid);
-    let e = amount(out, d, b"sum        ", sums.sum);
-    let f = amount(out, e, b"least      ", sums.least);
-    amount(out, f, b"largest    ", sums.largest)
+    let a = counts(out, 0, sums);
+    amounts(out, a, sums)
 }
 
 // That so many lines are done.

@@ -1,5 +1,8 @@
 -- `amount` puts the parts one behind the other.
-use Rattle.page.proofs.Adding.{both}
+use mathlib.Core.Path.{ap}
+use mir.Facts.{toZ-ofZ}
+use mir.Syntax.{w64}
+use Rattle.page.proofs.Adding.{both, being}
 use Rattle.clerk.specs.Shifts.{amount-line}
 use borrow.Author.Needs.{needs}
 use Rattle.clerk.proofs.shifts.amount.Statement.{statement}
@@ -37,8 +40,10 @@ returns c =
     let k3 = k4 .before .before .before .before in
     let k2 = k3 .before .before .before .before .before in
     let k1 = k2 .before .before .before .before in
+    let start = k1 .before .before .before .before in
     let pence = both (both (k1 .put .ensures) (k2 .signed .ensures)) (k3 .put2 .ensures) in
-    both (both pence (k4 .pounds .ensures)) (k5 .put3 .ensures)
+    being (ap (amount-line (start .args .name .now)) (toZ-ofZ {w = w64} (start .fits .pence)))
+    (both (both pence (k4 .pounds .ensures)) (k5 .put3 .ensures))
 
 pub amount-spec : {M : Type 1} → statement M
 amount-spec =
