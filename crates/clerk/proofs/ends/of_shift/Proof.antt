@@ -20,10 +20,10 @@ returns : tie.Need-returns
 returns c = rw (c .before .before .why .given .1) (c .refused .ensures)
 
 returns-2 : tie.Need-returns-2
-returns-2 c = ?
+returns-2 c = rw (c .enum-told .given .1) refl
 
 returns-3 : tie.Need-returns-3
-returns-3 c = ?
+returns-3 c = rw (c .enum-told2 .given .1) refl
 
 pub of-shift-spec : {M : Type 1} → statement M
 of-shift-spec =
