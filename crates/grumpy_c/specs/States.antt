@@ -9,25 +9,11 @@ use mir.Val.{ofZ, toZ}
 use Rattle.tally.specs.declared.lines.Part.{Part}
 use Rattle.tally.specs.declared.sums.Sums.{Sums}
 use Rattle.shift.specs.declared.State.{State}
-use Rattle.grumpy_c.specs.Words.{with-front, flag-word, narrowed}
+use Rattle.grumpy_c.specs.Words.{with-front, flag-word, narrowed, nine}
 
 -- so many words
 abbrev pub STATE : ℕ
 STATE = 21
-
--- nine counts, one for each stop from 50 on
-abbrev pub nine : List ℕ → List ℕ
-nine n =
-    getD n 0 0
-    ∷ getD n 1 0
-    ∷ getD n 2 0
-    ∷ getD n 3 0
-    ∷ getD n 4 0
-    ∷ getD n 5 0
-    ∷ getD n 6 0
-    ∷ getD n 7 0
-    ∷ getD n 8 0
-    ∷ []
 
 -- the allowance and whether there was a line too many; the line that has begun; what the lines before it add up to
 unfoldable pub state-words : State → List ℕ

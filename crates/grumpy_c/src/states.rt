@@ -18,7 +18,8 @@ pub fn write_state(words: &mut [u64], state: State)
 {
     let part = state.part;
     let sums = state.sums;
-    let stops = sums.stops;
+    let counts = sums.stops;
+    let stops = words::wide(counts);
     let all = [
         state.allowance,
         words::flag(state.over),
@@ -28,15 +29,15 @@ pub fn write_state(words: &mut [u64], state: State)
         words::flag(part.bad),
         sums.lines as u64,
         sums.bad as u64,
-        stops[0] as u64,
-        stops[1] as u64,
-        stops[2] as u64,
-        stops[3] as u64,
-        stops[4] as u64,
-        stops[5] as u64,
-        stops[6] as u64,
-        stops[7] as u64,
-        stops[8] as u64,
+        stops[0],
+        stops[1],
+        stops[2],
+        stops[3],
+        stops[4],
+        stops[5],
+        stops[6],
+        stops[7],
+        stops[8],
         sums.paid as u64,
         words::complement(sums.sum),
         words::complement(sums.least),

@@ -7,7 +7,7 @@ ghost use mir.Syntax.{w64};
 ghost use mir.Val.{ofZ, toZ};
 ghost use Rattle.language.specs.Meaning.{value-number};
 ghost use Rattle.layout.specs.Values.{meant};
-ghost use Rattle.grumpy_c.specs.Words.{with-front, flag-word, narrowed};
+ghost use Rattle.grumpy_c.specs.Words.{with-front, flag-word, narrowed, nine};
 use layout::floats;
 use layout::values::Value;
 
@@ -51,6 +51,23 @@ pub fn narrow(w: u64) -> u32
     ensures { λ r. ⌜ r ≡ narrowed w ⌝ }
 {
     if w < 4294967296 { w as u32 } else { 0 }
+}
+
+// The counts of nine stops.
+pub fn wide(stops: [u32; 9]) -> [u64; 9]
+    ensures { λ r. ⌜ r ≡ nine stops ⌝ }
+{
+    [
+        stops[0] as u64,
+        stops[1] as u64,
+        stops[2] as u64,
+        stops[3] as u64,
+        stops[4] as u64,
+        stops[5] as u64,
+        stops[6] as u64,
+        stops[7] as u64,
+        stops[8] as u64,
+    ]
 }
 
 // The words at the front; those behind them are left alone.
