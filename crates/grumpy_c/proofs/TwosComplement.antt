@@ -43,7 +43,7 @@ complement-up (negsuc n) e = absurd (subst T e tt)
 
 zero-less : (b : ℕ) → pos 0 -ℤ pos b ≡ negℤ (pos b)
 zero-less zero = refl
-zero-less (suc n) = refl
+zero-less (suc n) = rw (lt-ltb 0 (suc n) (omega arith)) (ap negsuc (omega arith))
 
 one-down : (b : ℕ) → negℤ (pos b) -ℤ pos 1 ≡ negsuc b
 one-down zero = refl
@@ -64,3 +64,12 @@ module _ (b : ℕ) (small : b < 2 ^ 63) where
 
 pub number-below : (w : ℕ) → 2 ^ 63 ≤ w → w < 2 ^ 64 → negsuc (18446744073709551615 - w) ≡ toZ w64 w
 number-below w h k = rw (le-ltb w (2 ^ 63) h) (ap negsuc (omega arith))
+
+-- ---- of a number that was read from memory
+
+pub record Signed (z : ℤ) (n : ℕ) : Type 0 where
+  pub fits : SFits w64 z
+  pub word : n ≡ ofZ w64 (toZ w64 (ofZ w64 z))
+
+pub signed : {z : ℤ} {n : ℕ} → Signed z n → n ≡ ofZ w64 z
+signed s = s .word ∙ ap (ofZ w64) (toZ-ofZ {w = w64} (s .fits))

@@ -229,7 +229,8 @@ pub extern "C" fn grumpy_shift_finish(edition: u32, state: &[u64], report: &mut 
         return 40;
     }
     let finished = shift::finish(edition, states::read_state(state));
-    let number = ending_number(finished.told);
+    let told = finished.told;
+    let number = ending_number(told);
     tell_finished(report, number, finished.sums);
     number
 }
