@@ -97,7 +97,7 @@ module _ (ed : ℕ) (book table table′ : List ℕ) (long : TABLE ≤ length ta
   unfolding Some
   room-passed n c = record {
     told = λ l e f p b. admit e f p b (checked-passed (pair-in ed book LARGEST-CALL) (length table) _ (c .answer) refl .3 .given);
-    left = most-left _ c;
+    left = most-left (PairChecked.Passed n) c;
   }
 
   pub room-refused : (y : Code.Refusal) (x : Spot) → Most (PairChecked.Refused y x)
@@ -106,7 +106,7 @@ module _ (ed : ℕ) (book table table′ : List ℕ) (long : TABLE ≤ length ta
     told = λ l e f p b.
         admit-no-room e f p b
         (only-no-room-in ed book p b (checked-refused (pair-in ed book LARGEST-CALL) (length table) _ long (c .answer) refl) .0);
-    left = most-left _ c;
+    left = most-left (PairChecked.Refused y x) c;
   }
 
 -- ---- a book that passes
@@ -151,14 +151,14 @@ module _ (ed : ℕ) (book table table₁ : List ℕ) (long : TABLE ≤ length ta
       → AskedOfRoom ed book table₁ r table′ → AskedOfBook ed book table r table′
   book-found a b r table′ c e f q = record {
     told = λ l g h x. q .told l g h x (found-book a b x (c .answer) e f);
-    left = q .left ∙ ap (cleared TABLE) (drawn-left _ c) ∙ cleared-again TABLE table;
+    left = q .left ∙ ap (cleared TABLE) (drawn-left (Found.Outlined.Passed a b) c) ∙ cleared-again TABLE table;
   }
 
   pub no-book-found : (a b : Bool) (x : Spot) → Drawn (Found.Outlined.Passed a b) → (a ≡ false) ⊎ (b ≡ false) → meant x ≡ front
       → AskedOfBook ed book table (Admission.Refused Why.NoBook x) table₁
   no-book-found a b x c e f = record {
     told = λ l g h y. subst (λ (z : Place). Admits ed book l (turned-away no-book z)) (sym f) (admit-no-book g h y (found-none a b y (c .answer) e));
-    left = drawn-left _ c;
+    left = drawn-left (Found.Outlined.Passed a b) c;
   }
 
   -- it can't be refused, since it passes
@@ -168,7 +168,7 @@ module _ (ed : ℕ) (book table table₁ : List ℕ) (long : TABLE ≤ length ta
     told = λ l g h p.
         let z = outlined-refused (pair-in ed book ZERO) (length table) PAY-WANTED _ long (c .answer) refl in
         absurd (not-both (pair-in-lawful ed book ZERO) (z .1) p);
-    left = drawn-left _ c;
+    left = drawn-left (Found.Outlined.Refused y) c;
   }
 
 -- ---- any book
@@ -185,14 +185,14 @@ module _ (ed : ℕ) (book table table₁ : List ℕ) (long : TABLE ≤ length ta
   unfolding Some
   text-passed n r table′ c q = record {
     told = λ l e f. q .told l e f (checked-passed (pair-in ed book ZERO) (length table) _ (c .answer) refl .3);
-    left = q .left ∙ ap (cleared TABLE) (zero-left _ c) ∙ cleared-again TABLE table;
+    left = q .left ∙ ap (cleared TABLE) (zero-left (PairChecked.Passed n) c) ∙ cleared-again TABLE table;
   }
 
   pub text-refused : (y : Code.Refusal) (x : Spot) → Zero (PairChecked.Refused y x)
       → AskedOfText ed book table (Admission.Refused (Why.Sheet y) x) table₁
   text-refused y x c = record {
     told = λ l e f. admit-refused e f (checked-refused (pair-in ed book ZERO) (length table) _ long (c .answer) refl);
-    left = zero-left _ c;
+    left = zero-left (PairChecked.Refused y x) c;
   }
 
 -- ---- all that is lent

@@ -78,11 +78,11 @@ module _ {ed : ℕ} {book : List ℕ} {l : Lent} where
   }
 
   -- a line has ended
-  pub line-grows : {s : State} {out out′ printed : List ℕ} {o : Outcome} → Admits ed book l granted → s .over ≡ false → s .sums .lines < LINES
+  pub line-grows : (s : State) (out out′ printed : List ℕ) (o : Outcome) → Admits ed book l granted → s .over ≡ false → s .sums .lines < LINES
       → ((bytes : List ℕ) → s .part ≡ longer-by no-part bytes → Shift.Comes ed book l (ended-line bytes) (outcome-meant o) printed)
       → out′ ≡ printed ++ drop (length printed) out → Grows ed book l (10 ∷ []) s out (summed-up s o) out′
   unfolding longer-by is-in-line
-  line-grows {s} {out} {out′} {printed} {o} ready h n c e output input a = record {
+  line-grows s out out′ printed o ready h n c e output input a = record {
     so-far = with-outcome (a .so-far) (outcome-meant o) printed;
     fed = stepped (a .fed) (step-feed (sym (a .keeps .over) ∙ h) few refl (c (a .so-far .part) (a .keeps .part)));
     keeps = record { part = refl; sums = added-stands _ (s .sums) o (a .keeps .sums) few ints; over = a .keeps .over };

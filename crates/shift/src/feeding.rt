@@ -24,7 +24,10 @@ fn paid(value: Value) -> Outcome
 {
     match value {
         Value::Int(pay) => Outcome::Paid(pay as i64),
-        _ => Outcome::Bad,
+        Value::Float(_) => Outcome::Bad,
+        Value::Flag(_) => Outcome::Bad,
+        Value::Nothing => Outcome::Bad,
+        Value::Cell(_) => Outcome::Bad,
     }
 }
 

@@ -1,36 +1,28 @@
-use native.Mathlib.Omega.{arith}
+-- `closing` goes by whether a line has begun.
 use borrow.Author.Needs.{needs}
+use Rattle.shift.proofs.Finishing.{closed-over, closed-begun, closed-still}
+use mathlib.Core.Path.{_∙_}
 use Rattle.shift.proofs.closing.Statement.{statement}
 use Rattle.shift.proofs.closing.Tie as tie
-use Rattle.shift.proofs.closing.Reads as reads
-use Rattle.shift.proofs.closing.Lts as lts
-use Rattle.tally.proofs.lines.begun.Reads as begun-reads
-use Rattle.tally.proofs.sums.add.Reads as add-reads
 
--- src/lib.rt:105:9
--- c@: result if1 start
 returns : tie.Need-returns
-returns c = ?
+returns c = closed-over _ (c .before .if1 .taken)
 
--- src/lib.rt:107:8
--- c@: if1 start
 begun-requires : tie.Need-begun-requires
 begun-requires c κs = search needs
 
--- src/lib.rt:108:9
--- c@: if2 begun if1 start
 add-requires : tie.Need-add-requires
 add-requires c κs = search needs
 
--- src/lib.rt:108:9
--- c@: add if2 begun if1 start
 returns-2 : tie.Need-returns-2
-returns-2 c = ?
+returns-2 c =
+    let at-begun = c .before .before in
+    c .add .ensures ∙ closed-begun _ _ (at-begun .before .if1 .left) (at-begun .begun .ensures) (c .before .if2 .taken)
 
--- src/lib.rt:101:1
--- c@: result2 if2 begun if1 start
 returns-3 : tie.Need-returns-3
-returns-3 c = ?
+returns-3 c =
+    let at-begun = c .before .before in
+    closed-still _ _ (at-begun .before .if1 .left) (at-begun .begun .ensures) (c .before .if2 .left)
 
 pub closing-spec : {M : Type 1} → statement M
 closing-spec = tie.close (tie.spec returns begun-requires add-requires returns-2 returns-3)

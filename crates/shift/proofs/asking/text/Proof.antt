@@ -1,5 +1,6 @@
 use native.Mathlib.Omega.{arith}
 use borrow.Author.Needs.{needs}
+use Rattle.shift.proofs.Learnt.{text-is-passed, text-is-refused}
 use Rattle.shift.proofs.asking.text.Statement.{statement}
 use Rattle.shift.proofs.asking.text.Tie as tie
 use Rattle.shift.proofs.asking.text.Reads as reads
@@ -7,50 +8,41 @@ use Rattle.shift.proofs.asking.text.Lts as lts
 use Rattle.grumpy.proofs.check_pair.Reads as check-pair-reads
 use Rattle.shift.proofs.asking.functions.Reads as functions-reads
 
--- src/asking.rt:55:45
--- c@: check-pair-arg slice-known shared-slice-known start
 slice-aggregate-check-pair : tie.Need-slice-aggregate-check-pair
 slice-aggregate-check-pair c = search needs
 
--- src/asking.rt:55:11
--- c@: check-pair-arg2 check-pair-arg slice-known shared-slice-known start
 check-pair-requires : tie.Need-check-pair-requires
 check-pair-requires c κs = search needs
 
--- src/asking.rt:56:60
--- c@: match slice-known2 table check-pair check-pair-arg2 check-pair-arg slice-known shared-slice-known start
 enum-told : tie.Need-enum-told
 enum-told c = search needs
 
--- src/asking.rt:56:35
--- c@: functions-arg enum-told match slice-known2 table check-pair check-pair-arg2 check-pair-arg slice-known shared-slice-known start
 functions-requires : tie.Need-functions-requires
 functions-requires c κs = search needs
 
--- src/asking.rt:57:30
--- c@: match slice-known2 table check-pair check-pair-arg2 check-pair-arg slice-known shared-slice-known start
 enum-known-why : tie.Need-enum-known-why
 enum-known-why c = search needs
 
--- src/asking.rt:51:1
--- c@: slice-known3 table2 functions functions-arg enum-told match slice-known2 table check-pair check-pair-arg2 check-pair-arg slice-known shared-slice-known start
 same-length : tie.Need-same-length
 same-length c = search needs
 
--- src/asking.rt:51:1
--- c@: slice-known3 table2 functions functions-arg enum-told match slice-known2 table check-pair check-pair-arg2 check-pair-arg slice-known shared-slice-known start
 returns : tie.Need-returns
-returns c = ?
+returns c =
+    let at-functions = c .before .before in
+    let at-told = at-functions .before .before in
+    let at-pair = at-told .before .before .before .before in
+    let start = at-pair .before .before .before .before .before in
+    text-is-passed _ _ _ _ (start .pre) (at-pair .check-pair .result) _ _ _ (at-pair .check-pair .ensures) (at-told .enum-told .given .1)
+    (at-functions .functions .ensures)
 
--- src/asking.rt:51:1
--- c@: known-told why match slice-known2 table check-pair check-pair-arg2 check-pair-arg slice-known shared-slice-known start
 same-length-2 : tie.Need-same-length-2
 same-length-2 c = search needs
 
--- src/asking.rt:51:1
--- c@: known-told why match slice-known2 table check-pair check-pair-arg2 check-pair-arg slice-known shared-slice-known start
 returns-2 : tie.Need-returns-2
-returns-2 c = ?
+returns-2 c =
+    let at-pair = c .before .before .before .before .before in
+    let start = at-pair .before .before .before .before .before in
+    text-is-refused _ _ _ _ (start .pre) (at-pair .check-pair .result) _ _ (at-pair .check-pair .ensures) (c .before .why .given .1)
 
 pub text-spec : {M : Type 1} → statement M
 text-spec =

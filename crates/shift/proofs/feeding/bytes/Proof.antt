@@ -1,66 +1,57 @@
 use borrow.Author.Needs.{needs}
+use Rattle.shift.proofs.Going.{SoFar, so-far-none, so-far-more, so-far-all, lends-on}
+use mathlib.Core.Path.{refl}
+use lib.ListN.{length}
+use Prim.Native.Nat.{_-_}
 use native.Mathlib.Omega.{arith}
 use Rattle.shift.proofs.feeding.bytes.Statement.{statement}
 use Rattle.shift.proofs.feeding.bytes.Tie as tie
-use Rattle.shift.proofs.feeding.bytes.Reads as reads
-use Rattle.shift.proofs.feeding.bytes.Lts as lts
-use Rattle.shift.proofs.feeding.byte.Reads as byte-reads
 
 abbrev Inv-loop : tie.InvT-loop
-Inv-loop edition book piece table₀ work₀ out₀ so-far₀ i₀ table work out so-far i = ?
+Inv-loop edition book piece table₀ work₀ out₀ so-far₀ i₀ table work out so-far i = SoFar edition book piece table₀ work₀ out₀ so-far₀ table work out so-far i
 
 abbrev μ-loop : tie.MeasureT-loop
-μ-loop edition book piece table₀ work₀ out₀ so-far₀ i₀ table work out so-far i = ?
+μ-loop edition book piece table₀ work₀ out₀ so-far₀ i₀ table work out so-far i = length piece - i
 
--- src/feeding.rt:187:5
--- c@: slice-known3 slice-known2 slice-known shared-slice-known2 shared-slice-known start
 loop-holds : tie.Need-loop-holds Inv-loop μ-loop
-loop-holds c = ?
+loop-holds c =
+    let a = c .before .before .before .before .before .args in so-far-none (a .edition) (a .book .now) (a .piece .now) (a .table .now) (a .work .now) (a .out .now) (a .state)
 
--- src/feeding.rt:188:38
--- c@: shared-slice-known3 loop-test loop slice-known3 slice-known2 slice-known shared-slice-known2 shared-slice-known start
 shared-slice-read-byte : tie.Need-shared-slice-read-byte Inv-loop μ-loop
-shared-slice-read-byte c = ?
+shared-slice-read-byte c = search needs
 
--- src/feeding.rt:188:9
--- c@: byte-arg3 byte-arg2 byte-arg shared-slice-known3 loop-test loop slice-known3 slice-known2 slice-known shared-slice-known2 shared-slice-known start
 byte-requires : tie.Need-byte-requires Inv-loop μ-loop
-byte-requires c κs = ?
+byte-requires c κs =
+    let a = c .before .before .before .before .before .before .before .before .before .before .before .args in
+    let h = c .before .before .before .before .before .loop .inv in
+    lends-on (a .edition) (a .book .now) (a .table .now) (a .work .now) (a .out .now) (a .state) _ _ _ _ _ (h .long) (c .before .before .before .before .before .before .before .before .before .before .before .pre) (h .goes)
 
--- src/feeding.rt:189:9
--- c@: slice-known6 out slice-known5 work slice-known4 table byte byte-arg3 byte-arg2 byte-arg shared-slice-known3 loop-test loop slice-known3 slice-known2 slice-known shared-slice-known2 shared-slice-known start
 add-i : tie.Need-add-i Inv-loop μ-loop
-add-i c = ?
+add-i c = omega (arith, c .before .before .before .before .before .before .before .before .before .before .before .loop-test .taken, c .before .before .before .before .before .before .before .before .before .before .before .before .before .before .before .before .before .before .good)
 
--- src/feeding.rt:187:5
--- c@: slice-known6 out slice-known5 work slice-known4 table byte byte-arg3 byte-arg2 byte-arg shared-slice-known3 loop-test loop slice-known3 slice-known2 slice-known shared-slice-known2 shared-slice-known start
 loop-less : tie.Need-loop-less Inv-loop μ-loop
-loop-less c = ?
+loop-less c = omega (arith, c .before .before .before .before .before .before .before .before .before .before .before .loop-test .taken)
 
--- src/feeding.rt:187:5
--- c@: slice-known6 out slice-known5 work slice-known4 table byte byte-arg3 byte-arg2 byte-arg shared-slice-known3 loop-test loop slice-known3 slice-known2 slice-known shared-slice-known2 shared-slice-known start
 loop-again : tie.Need-loop-again Inv-loop μ-loop
-loop-again c = ?
+loop-again c =
+    let a = c .before .before .before .before .before .before .before .before .before .before .before .before .before .before .before .before .before .before .args in
+    so-far-more (a .edition) (a .book .now) (a .piece .now) (a .table .now) (a .work .now) (a .out .now) (a .state) _ _ _ _ _ _ _ _ _ _
+    (c .before .before .before .before .before .before .before .before .before .before .before .before .loop .inv) (c .before .before .before .before .before .before .before .before .before .before .before .loop-test .taken) refl (search needs) (c .before .before .before .before .before .before .byte .ensures)
 
--- src/feeding.rt:171:1
--- c@: loop-test loop slice-known3 slice-known2 slice-known shared-slice-known2 shared-slice-known start
 same-length : tie.Need-same-length Inv-loop μ-loop
-same-length c = ?
+same-length c = search needs
 
--- src/feeding.rt:171:1
--- c@: loop-test loop slice-known3 slice-known2 slice-known shared-slice-known2 shared-slice-known start
 same-length-2 : tie.Need-same-length-2 Inv-loop μ-loop
-same-length-2 c = ?
+same-length-2 c = search needs
 
--- src/feeding.rt:171:1
--- c@: loop-test loop slice-known3 slice-known2 slice-known shared-slice-known2 shared-slice-known start
 same-length-3 : tie.Need-same-length-3 Inv-loop μ-loop
-same-length-3 c = ?
+same-length-3 c = c .before .loop .inv .long
 
--- src/feeding.rt:171:1
--- c@: loop-test loop slice-known3 slice-known2 slice-known shared-slice-known2 shared-slice-known start
 returns : tie.Need-returns Inv-loop μ-loop
-returns c = ?
+returns c =
+    let a = c .before .before .before .before .before .before .before .args in
+    so-far-all (a .edition) (a .book .now) (a .piece .now) (a .table .now) (a .work .now) (a .out .now) (a .state) _ _ _ _ _ (c .before .loop .inv)
+    (c .loop-test .left)
 
 pub bytes-spec : {M : Type 1} → statement M
 bytes-spec =
