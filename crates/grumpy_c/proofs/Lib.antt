@@ -1,3 +1,5 @@
 pub mod TwosComplement
 pub mod Told
 pub mod ToldPairs
+pub mod Fronts
+pub mod StateWords
