@@ -3,3 +3,4 @@ pub mod Told
 pub mod ToldPairs
 pub mod Fronts
 pub mod StateWords
+pub mod ToldShifts

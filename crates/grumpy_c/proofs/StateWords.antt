@@ -49,7 +49,7 @@ pub record Nine (n : List ℕ) : Type 0 where
   pub long : length n ≡ 9
   pub small : (i : ℕ) → getD n i 0 < 2 ^ 32
 
-nine-same : (n : List ℕ) → length n ≡ 9 → nine n ≡ n
+pub nine-same : (n : List ℕ) → length n ≡ 9 → nine n ≡ n
 nine-same (a ∷ b ∷ c ∷ d ∷ e ∷ f ∷ g ∷ h ∷ i ∷ []) z = refl
 nine-same [] z = absurd (omega arith)
 nine-same (a ∷ []) z = absurd (omega arith)
