@@ -4,3 +4,5 @@ pub mod ToldPairs
 pub mod Fronts
 pub mod StateWords
 pub mod ToldShifts
+pub mod ShiftWhole
+pub mod OneShift

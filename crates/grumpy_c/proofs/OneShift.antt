@@ -15,10 +15,10 @@ use Rattle.language.specs.Feeding.{Sofar}
 use Rattle.language.specs.Shift.{ShiftRefusal, Report}
 use Rattle.language.specs.Shift as Shift
 use Rattle.language.specs.Sizes.{TABLE, WORK}
-use Rattle.language.specs.State.{no-unit, too-deep, out-of-range, zero-divisor, cell-freed, cells-full, not-a-byte, output-full, zero-step}
+use Rattle.language.specs.State.{Stop, no-unit, too-deep, out-of-range, zero-divisor, cell-freed, cells-full, not-a-byte, output-full, zero-step}
 use Rattle.language.proofs.Shift.Cuts.{one-fed}
 use Rattle.language.proofs.Shift.OneReport.{one-admission, one-shift}
-use Rattle.tally.specs.Stands.{Stands, report-in}
+use Rattle.tally.specs.Stands.{Stands, stop-at}
 use Rattle.tally.specs.declared.lines.Part.{Part}
 use Rattle.tally.specs.declared.sums.Sums.{Sums}
 use Rattle.shift.specs.After.{After, Keeps}
@@ -27,17 +27,17 @@ use Rattle.shift.specs.Promises.{Feeds, feeds, turned, finished}
 use Rattle.shift.specs.Promises as Promises
 use Rattle.shift.specs.declared.Admission.{Admission}
 use Rattle.shift.specs.declared.State.{State}
-use Rattle.grumpy_c.specs.Words.{with-front}
+use Rattle.grumpy_c.specs.Words.{with-front, nine}
 use Rattle.grumpy_c.specs.States.{STATE, state-words, state-in}
-use Rattle.grumpy_c.specs.Shifts.{told-number, fed-number, report-words, Left, as-before, held, refuses, BeganC, begin-no-room, begin-told, FedC}
+use Rattle.grumpy_c.specs.Shifts.{BEGIN, FEED, FINISH, told-number, fed-number, report-words, Left, as-before, held, refuses, BeganC, begin-no-room, begin-told, FedC}
 use Rattle.grumpy_c.specs.Shifts.{feed-no-room, feed-told, FinishedC, finish-no-room, finish-told}
 use Rattle.grumpy_c.proofs.StateWords.{nine-same}
 
 -- ---- lengths
 
-short-long : {state report : List ℕ} {m n : ℕ} {A : Type 0} → (length state < m) ⊎ (length report < n) → m ≤ length state → n ≤ length report → A
-short-long (inl h) a b = absurd (omega arith)
-short-long (inr h) a b = absurd (omega arith)
+short-long : (a b m n : ℕ) {A : Type 0} → (a < m) ⊎ (b < n) → m ≤ a → n ≤ b → A
+short-long a b m n (inl h) k l = absurd (omega arith)
+short-long a b m n (inr h) k l = absurd (omega arith)
 
 -- ---- states
 
@@ -49,7 +49,7 @@ left-one {w} (held g) (held h) z y = g .written ∙ ap (λ (s : State). with-fro
 
 sums-made : {a b c d e f : ℕ} {m n : List ℕ} {u v w x y z : ℤ} → a ≡ b → c ≡ d → m ≡ n → e ≡ f → u ≡ v → w ≡ x → y ≡ z
     → _≡_ {A = Sums} record { lines = a; bad = c; stops = m; paid = e; sum = u; least = w; largest = y }
-        record { lines = b; bad = d; stops = n; paid = f; sum = v; least = x; largest = z }
+    record { lines = b; bad = d; stops = n; paid = f; sum = v; least = x; largest = z }
 sums-made i j k l o p q = rw (i, j, k, l, o, p, q) refl
 
 state-made : {a b : ℕ} {p q : Part} {s t : Sums} {x y : Bool} → a ≡ b → p ≡ q → s ≡ t → x ≡ y
@@ -58,10 +58,19 @@ state-made i j k l = rw (i, j, k, l) refl
 
 one-nine : {os : List Shift.Outcome} {s t : Sums} → Stands os s → Stands os t → s .stops ≡ t .stops
 one-nine {s = s} {t = t} a b =
-    let at = λ w. a .stops w ∙ sym (b .stops w) in
-    sym (nine-same (s .stops) (a .nine))
-    ∙ rw (at no-unit, at too-deep, at out-of-range, at zero-divisor, at cell-freed, at cells-full, at not-a-byte, at output-full, at zero-step) refl
-    ∙ nine-same (t .stops) (b .nine)
+    let at : (w : Stop) → getD (s .stops) (stop-at w) 0 ≡ getD (t .stops) (stop-at w) 0 = λ w. a .stops w ∙ sym (b .stops w) in
+    let all : nine (s .stops) ≡ nine (t .stops) = rw (
+      at no-unit,
+      at too-deep,
+      at out-of-range,
+      at zero-divisor,
+      at cell-freed,
+      at cells-full,
+      at not-a-byte,
+      at output-full,
+      at zero-step,
+    ) refl in
+    sym (nine-same (s .stops) (a .nine)) ∙ all ∙ nine-same (t .stops) (b .nine)
 
 one-sums : {os : List Shift.Outcome} {s t : Sums} → Stands os s → Stands os t → s ≡ t
 one-sums a b =
@@ -79,8 +88,8 @@ pub begin-determined : {edition : ℕ} {book table work : List ℕ} {allowance :
     → BeganC edition book table work allowance state report t′ w′ s′ r′ m → BeganC edition book table work allowance state report t″ w″ s″ r″ n
     → (m ≡ n) × (t′ ≡ t″) × (w′ ≡ w″) × (s′ ≡ s″) × (r′ ≡ r″)
 begin-determined (begin-no-room h a b c d e) (begin-no-room k f g i j l) = (a ∙ sym f, b ∙ sym g, c ∙ sym i, d ∙ sym j, e ∙ sym l)
-begin-determined (begin-no-room h a b c d e) (begin-told k l f g i j) = short-long h k l
-begin-determined (begin-told h i a b c d) (begin-no-room k f g j l e) = short-long k h i
+begin-determined {state = state} {report} (begin-no-room h a b c d e) (begin-told k l f g i j) = short-long (length state) (length report) STATE BEGIN h k l
+begin-determined {state = state} {report} (begin-told h i a b c d) (begin-no-room k f g j l e) = short-long (length state) (length report) STATE BEGIN k h i
 begin-determined {table = table} {work} {report = report} (begin-told h i a b c d) (begin-told k l e f g j) =
     let x = one-admission (a .admits 0) (e .admits 0) in
     let y = b ∙ ap (λ (z : Shift.Admission). told-number (z .told)) x ∙ sym f in (
@@ -129,8 +138,8 @@ module _ {edition : ℕ} {book piece table work out state report t′ w′ o′ 
       → (m ≡ n) × (t′ ≡ t″) × (w′ ≡ w″) × (o′ ≡ o″) × (s′ ≡ s″) × (r′ ≡ r″)
   feed-determined after (feed-no-room h a b c d e f) (feed-no-room k g i j l p q) =
       (a ∙ sym g, b ∙ sym i, c ∙ sym j, d ∙ sym l, e ∙ sym p, f ∙ sym q)
-  feed-determined after (feed-no-room h a b c d e f) (feed-told k l g i j p) = short-long h k l
-  feed-determined after (feed-told h i a b c d) (feed-no-room k g j l p q e) = short-long k h i
+  feed-determined after (feed-no-room h a b c d e f) (feed-told k l g i j p) = short-long (length state) (length report) STATE FEED h k l
+  feed-determined after (feed-told h i a b c d) (feed-no-room k g j l p q e) = short-long (length state) (length report) STATE FEED k h i
   feed-determined after (feed-told {x} h i a b c d) (feed-told {y} k l e f g j) =
       let z = one-admission (a .admits) (e .admits) in
       let q = one-feed output input after (a .tells) (e .tells) z in
@@ -152,8 +161,8 @@ module _ {edition : ℕ} {state report r′ r″ : List ℕ} {m n : ℕ} (ed : �
   pub finish-determined : After ed book l output input (state-in state) output′ → FinishedC edition state report r′ m
       → FinishedC edition state report r″ n → (m ≡ n) × (r′ ≡ r″)
   finish-determined after (finish-no-room h a b) (finish-no-room k c d) = (a ∙ sym c, b ∙ sym d)
-  finish-determined after (finish-no-room h a b) (finish-told k i c d e) = short-long h k i
-  finish-determined after (finish-told h i a b c) (finish-no-room k d e) = short-long k h i
+  finish-determined after (finish-no-room h a b) (finish-told k i c d e) = short-long (length state) (length report) STATE FINISH h k i
+  finish-determined after (finish-told h i a b c) (finish-no-room k d e) = short-long (length state) (length report) STATE FINISH k h i
   finish-determined after (finish-told h i (finished u f) b c) (finish-told k j (finished v g) d e) =
       let z = one-shift (f ed book l output input output′ after) (g ed book l output input output′ after) in
       let y = b ∙ ap told-number (z .0) ∙ sym d in

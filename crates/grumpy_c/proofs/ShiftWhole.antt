@@ -36,17 +36,17 @@ left-held false (held h) z = h
 
 -- all but 40 leave a new one
 not-kept : (t : Option ShiftRefusal) → (told-number t ≡ 40 → ⊥) → keeps-all t ≡ false
-not-kept none no = refl
-not-kept (some (sheet short-memory)) no = absurd (no refl)
-not-kept (some (sheet large-allowance)) no = refl
-not-kept (some (sheet no-edition)) no = refl
-not-kept (some (sheet long-source)) no = refl
-not-kept (some (sheet (text f))) no = refl
-not-kept (some (sheet no-reading)) no = refl
-not-kept (some (sheet (types r))) no = refl
-not-kept (some (sheet long-text)) no = refl
-not-kept (some no-book) no = refl
-not-kept (some many-lines) no = refl
+not-kept none other = refl
+not-kept (some (sheet short-memory)) other = absurd (other refl)
+not-kept (some (sheet large-allowance)) other = refl
+not-kept (some (sheet no-edition)) other = refl
+not-kept (some (sheet long-source)) other = refl
+not-kept (some (sheet (text f))) other = refl
+not-kept (some (sheet no-reading)) other = refl
+not-kept (some (sheet (types r))) other = refl
+not-kept (some (sheet long-text)) other = refl
+not-kept (some no-book) other = refl
+not-kept (some many-lines) other = refl
 
 not-granted : {y : ShiftRefusal} {A : Type 0} → _≡_ {A = Option ShiftRefusal} (some y) none → A
 not-granted e = let z : _≡_ {A = ℕ} 0 1 = cc in absurd (omega arith)
@@ -60,31 +60,33 @@ not-refused (Admission.Refused w x) e = not-granted e
 module _ {edition : ℕ} {book table work : List ℕ} {allowance : ℕ} {state report table′ work′ state′ report′ : List ℕ} {n : ℕ} where
   pub begin-stands : BeganC edition book table work allowance state report table′ work′ state′ report′ n → (n ≡ 40 → ⊥) → (l : Lent) (output : List ℕ)
       → After edition book l output [] (state-in state′) output
-  begin-stands (begin-no-room h e a b c d) no l output = absurd (no e)
-  begin-stands (begin-told {a} h k b e x t) no l output =
-      let z : Holds state (a .state) state′ = left-held _ x (not-kept (admission-meant (a .told) .told) (λ z. no (e ∙ z))) in
+  begin-stands (begin-no-room h e a b c d) other l output = absurd (other e)
+  begin-stands (begin-told {a} h k b e x t) other l output =
+      let z : Holds state (a .state) state′ = left-held _ x (not-kept (admission-meant (a .told) .told) (λ z. other (e ∙ z))) in
       subst (λ (s : State). After edition book l output [] s output) (sym (z .read ∙ b .state)) (after-start allowance output)
 
 -- ---- fed
 
+grown : {edition : ℕ} {book piece out out′ : List ℕ} {l : Lent} {s s′ : State} {a : Admission} → Feeds edition book piece out l s out′ a s′
+    → refuses a ≡ false → Grows edition book l piece s out s′ out′
+grown (feeds e g) z = g
+grown (turned e) z = absurd (false≢true (sym z))
+
+-- what is lent to a piece
+abbrev pub lent-with : List ℕ → List ℕ → List ℕ → List ℕ → Lent
+lent-with table work out state = lent table work (length out) (state-in state .allowance)
+
 module _ {edition : ℕ} {book piece table work out state report table′ work′ out′ state′ report′ : List ℕ} {n : ℕ} where
-  abbrev Own : Lent
-  Own = lent table work (length out) (state-in state .allowance)
-
-  grown : {l : Lent} {s s′ : State} {a : Admission} → Feeds edition book piece out l s out′ a s′ → refuses a ≡ false
-      → Grows edition book l piece s out s′ out′
-  grown (feeds e g) z = g
-  grown (turned e) z = absurd (false≢true (sym z))
-
   pub feed-stands : FedC edition book piece table work out state report table′ work′ out′ state′ report′ n → STATE ≤ length state
-      → FEED ≤ length report → Admits edition book Own granted → (output input : List ℕ)
-      → After edition book Own output input (state-in state) out → After edition book Own output (input ++ piece) (state-in state′) out′
+      → FEED ≤ length report → Admits edition book (lent-with table work out state) granted → (output input : List ℕ)
+      → After edition book (lent-with table work out state) output input (state-in state) out
+      → After edition book (lent-with table work out state) output (input ++ piece) (state-in state′) out′
   feed-stands (feed-no-room (inl h) a b c d e f) long room g output input s = absurd (omega arith)
   feed-stands (feed-no-room (inr h) a b c d e f) long room g output input s = absurd (omega arith)
   feed-stands (feed-told {a} h k f e x t) long room g output input s =
       let plain = not-refused (a .told) (ap (λ (z : Shift.Admission). z .told) (one-admission (f .admits) g)) in
       let z : Holds state (a .state) state′ = left-held _ x plain in
-      subst (λ (m : State). After edition book Own output (input ++ piece) m out′) (sym (z .read))
+      subst (λ (m : State). After edition book (lent-with table work out state) output (input ++ piece) m out′) (sym (z .read))
       (grown (f .tells) plain output input s)
 
 -- ---- finished
