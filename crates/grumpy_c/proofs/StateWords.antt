@@ -22,16 +22,16 @@ module _ (w : List ℕ) (lines bad paid : ℕ) (stops : List ℕ) (sum least lar
       → SFits w64 sum → sum ≡ toZ w64 (getD w 18 0) → SFits w64 least → least ≡ toZ w64 (getD w 19 0) → SFits w64 largest
       → largest ≡ toZ w64 (getD w 20 0)
       → _≡_ {A = Sums}
-          record {
-            lines = lines;
-            bad = bad;
-            stops = stops;
-            paid = paid;
-            sum = toZ w64 (ofZ w64 sum);
-            least = toZ w64 (ofZ w64 least);
-            largest = toZ w64 (ofZ w64 largest);
-          }
-          (sums-in w)
+      record {
+        lines = lines;
+        bad = bad;
+        stops = stops;
+        paid = paid;
+        sum = toZ w64 (ofZ w64 sum);
+        least = toZ w64 (ofZ w64 least);
+        largest = toZ w64 (ofZ w64 largest);
+      }
+      (sums-in w)
   sums-read a b c d x e y f z g = rw (toZ-ofZ {w = w64} x, toZ-ofZ {w = w64} y, toZ-ofZ {w = w64} z, a, b, c, d, e, f, g) refl
 
 -- ---- what was written is read again
@@ -49,7 +49,7 @@ pub record Nine (n : List ℕ) : Type 0 where
   pub long : length n ≡ 9
   pub small : (i : ℕ) → getD n i 0 < 2 ^ 32
 
-nine-same : (n : List ℕ) → length n ≡ 9 → nine n ≡ n
+pub nine-same : (n : List ℕ) → length n ≡ 9 → nine n ≡ n
 nine-same (a ∷ b ∷ c ∷ d ∷ e ∷ f ∷ g ∷ h ∷ i ∷ []) z = refl
 nine-same [] z = absurd (omega arith)
 nine-same (a ∷ []) z = absurd (omega arith)
@@ -78,13 +78,13 @@ made : (s : State) (over spoilt : Bool) (at lines bad paid : ℕ) (stops : List 
     → at ≡ s .part .at → lines ≡ s .sums .lines → bad ≡ s .sums .bad → paid ≡ s .sums .paid → stops ≡ s .sums .stops → sum ≡ s .sums .sum
     → least ≡ s .sums .least → largest ≡ s .sums .largest
     → _≡_ {A = State}
-        record {
-          allowance = s .allowance;
-          part = record { at = at; picks = s .part .picks; rate = s .part .rate; bad = spoilt };
-          sums = record { lines = lines; bad = bad; stops = stops; paid = paid; sum = sum; least = least; largest = largest };
-          over = over;
-        }
-        s
+    record {
+      allowance = s .allowance;
+      part = record { at = at; picks = s .part .picks; rate = s .part .rate; bad = spoilt };
+      sums = record { lines = lines; bad = bad; stops = stops; paid = paid; sum = sum; least = least; largest = largest };
+      over = over;
+    }
+    s
 made s over spoilt at lines bad paid stops sum least largest a b c d e f g h i j = rw (a, b, c, d, e, f, g, h, i, j) refl
 
 module _ (n : List ℕ) (h : Nine n) where
@@ -108,28 +108,28 @@ module _ (w w′ : List ℕ) (s : State) (over spoilt sum least largest : ℕ) (
   pub state-held : over ≡ flag-word (s .over) → spoilt ≡ flag-word (s .part .bad) → stops ≡ nine (s .sums .stops)
       → Signed (s .sums .sum) sum → Signed (s .sums .least) least → Signed (s .sums .largest) largest
       → w′ ≡ with-front w
-          (s .allowance
-          ∷ over
-          ∷ s .part .at
-          ∷ s .part .picks
-          ∷ s .part .rate
-          ∷ spoilt
-          ∷ s .sums .lines
-          ∷ s .sums .bad
-          ∷ getD stops 0 0
-          ∷ getD stops 1 0
-          ∷ getD stops 2 0
-          ∷ getD stops 3 0
-          ∷ getD stops 4 0
-          ∷ getD stops 5 0
-          ∷ getD stops 6 0
-          ∷ getD stops 7 0
-          ∷ getD stops 8 0
-          ∷ s .sums .paid
-          ∷ sum
-          ∷ least
-          ∷ largest
-          ∷ [])
+      (s .allowance
+      ∷ over
+      ∷ s .part .at
+      ∷ s .part .picks
+      ∷ s .part .rate
+      ∷ spoilt
+      ∷ s .sums .lines
+      ∷ s .sums .bad
+      ∷ getD stops 0 0
+      ∷ getD stops 1 0
+      ∷ getD stops 2 0
+      ∷ getD stops 3 0
+      ∷ getD stops 4 0
+      ∷ getD stops 5 0
+      ∷ getD stops 6 0
+      ∷ getD stops 7 0
+      ∷ getD stops 8 0
+      ∷ s .sums .paid
+      ∷ sum
+      ∷ least
+      ∷ largest
+      ∷ [])
       → Fit s → Holds w s w′
   unfolding state-words
   state-held a b c d e f h k =

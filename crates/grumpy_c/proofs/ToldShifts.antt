@@ -38,22 +38,22 @@ refused-told a w w′ y x n e m h = subst (λ (a : Admission). Told a w w′ n) 
 module _ (w w′ : List ℕ) (n : ℕ) (s : Sums) (stops : List ℕ) (sum least largest : ℕ) where
   pub report-told : stops ≡ nine (s .stops) → Signed (s .sum) sum → Signed (s .least) least → Signed (s .largest) largest
       → w′ ≡ with-front w
-          (n
-          ∷ s .lines
-          ∷ s .bad
-          ∷ getD stops 0 0
-          ∷ getD stops 1 0
-          ∷ getD stops 2 0
-          ∷ getD stops 3 0
-          ∷ getD stops 4 0
-          ∷ getD stops 5 0
-          ∷ getD stops 6 0
-          ∷ getD stops 7 0
-          ∷ getD stops 8 0
-          ∷ sum
-          ∷ least
-          ∷ largest
-          ∷ [])
+      (n
+      ∷ s .lines
+      ∷ s .bad
+      ∷ getD stops 0 0
+      ∷ getD stops 1 0
+      ∷ getD stops 2 0
+      ∷ getD stops 3 0
+      ∷ getD stops 4 0
+      ∷ getD stops 5 0
+      ∷ getD stops 6 0
+      ∷ getD stops 7 0
+      ∷ getD stops 8 0
+      ∷ sum
+      ∷ least
+      ∷ largest
+      ∷ [])
       → w′ ≡ with-front w (report-words n (report-in s))
   unfolding report-words
   report-told a b c d h = h ∙ ap (with-front w) (rw (a, signed b, signed c, signed d) refl)

@@ -27,11 +27,11 @@ state-words s =
     ∷ s .sums .lines
     ∷ s .sums .bad
     ∷ (nine (s .sums .stops)
-        ++ (s .sums .paid
-            ∷ ofZ w64 (s .sums .sum)
-            ∷ ofZ w64 (s .sums .least)
-            ∷ ofZ w64 (s .sums .largest)
-            ∷ []))
+    ++ (s .sums .paid
+    ∷ ofZ w64 (s .sums .sum)
+    ∷ ofZ w64 (s .sums .least)
+    ∷ ofZ w64 (s .sums .largest)
+    ∷ []))
 
 abbrev pub part-in : List ℕ → Part
 part-in w = record {

@@ -38,8 +38,15 @@ same-length-4 c = search needs
 
 returns-3 : tie.Need-returns-3
 returns-3 c =
-    began-c _ _ _ _ _ _ _ _ _ _ _ (c .before .before .before .before .before .before .before .before .before .before .before .before .before .begin .result) (c .before .before .before .before .before .before .before .keeps-all .result) _ (c .before .before .before .before .before .before .before .before .before .before .before .before .before .before .before .before .before .if1 .left) (c .before .before .before .before .before .before .before .before .before .before .before .before .before .before .before .before .if2 .left) (c .before .before .before .before .before .before .before .before .before .before .before .before .before .begin .ensures) (c .before .before .before .before .before .before .before .keeps-all .ensures)
-    (c .before .before .before .before .before .before .leave .ensures) (c .before .before .tell-begun .ensures)
+    let at-tell-begun = c .before .before in
+    let at-leave = at-tell-begun .before .before .before .before in
+    let at-keeps-all = at-leave .before in
+    let at-begin = at-keeps-all .before .before .before .before .before .before in
+    let at-if2 = at-begin .before .before .before in
+    let at-if1 = at-if2 .before in
+    began-c _ _ _ _ _ _ _ _ _ _ _ (at-begin .begin .result) (at-keeps-all .keeps-all .result) _ (at-if1 .if1 .left) (at-if2 .if2 .left)
+    (at-begin .begin .ensures) (at-keeps-all .keeps-all .ensures)
+    (at-leave .leave .ensures) (at-tell-begun .tell-begun .ensures)
 
 pub grumpy-shift-begin-spec : {M : Type 1} → statement M
 grumpy-shift-begin-spec =

@@ -53,8 +53,17 @@ same-length-5 c = search needs
 
 returns-3 : tie.Need-returns-3
 returns-3 c =
-    fed-c _ _ _ _ _ _ _ _ _ _ _ _ _ (c .before .before .before .before .before .before .before .before .before .before .before .before .before .before .before .before .before .before .feed .result) (c .before .before .before .before .before .before .before .before .before .before .before .before .before .before .before .before .before .before .before .before .before .before .read-state .result) (c .before .before .before .before .before .before .before .before .before .is-refusal .result) _ (c .before .before .before .before .before .before .before .before .before .before .before .before .before .before .before .before .before .before .before .before .before .before .before .before .before .if1 .left) (c .before .before .before .before .before .before .before .before .before .before .before .before .before .before .before .before .before .before .before .before .before .before .before .before .if2 .left) (c .before .before .before .before .before .before .before .before .before .before .before .before .before .before .before .before .before .before .before .before .before .before .read-state .ensures)
-    (c .before .before .before .before .before .before .before .before .before .before .before .before .before .before .before .before .before .before .feed .ensures) (c .before .before .before .before .before .before .before .before .before .is-refusal .ensures) (c .before .before .before .before .before .before .before .before .leave .ensures) (c .before .before .before .before .before .fed-number .ensures) (c .before .before .put .ensures)
+    let at-put = c .before .before in
+    let at-fed-number = at-put .before .before .before in
+    let at-leave = at-fed-number .before .before .before in
+    let at-is-refusal = at-leave .before in
+    let at-feed = at-is-refusal .before .before .before .before .before .before .before .before .before in
+    let at-read-state = at-feed .before .before .before .before in
+    let at-if2 = at-read-state .before .before in
+    let at-if1 = at-if2 .before in
+    fed-c _ _ _ _ _ _ _ _ _ _ _ _ _ (at-feed .feed .result) (at-read-state .read-state .result) (at-is-refusal .is-refusal .result) _
+    (at-if1 .if1 .left) (at-if2 .if2 .left) (at-read-state .read-state .ensures)
+    (at-feed .feed .ensures) (at-is-refusal .is-refusal .ensures) (at-leave .leave .ensures) (at-fed-number .fed-number .ensures) (at-put .put .ensures)
 
 pub grumpy-shift-feed-spec : {M : Type 1} → statement M
 grumpy-shift-feed-spec =

@@ -29,8 +29,15 @@ same-length c = search needs
 
 returns-3 : tie.Need-returns-3
 returns-3 c =
-    finished-c _ _ _ _ (c .before .before .before .before .before .finish .result .told) (c .before .before .before .before .before .finish .result .sums) (c .before .before .before .before .before .before .read-state .result) _ (c .before .before .before .before .before .before .before .before .if1 .left) (c .before .before .before .before .before .before .before .if2 .left) (c .before .before .before .before .before .before .read-state .ensures)
-    (c .before .before .before .before .before .finish .ensures) (c .before .before .before .before .ending-number .ensures) (c .before .before .tell-finished .ensures)
+    let at-tell-finished = c .before .before in
+    let at-ending-number = at-tell-finished .before .before in
+    let at-finish = at-ending-number .before in
+    let at-read-state = at-finish .before in
+    let at-if2 = at-read-state .before in
+    let at-if1 = at-if2 .before in
+    finished-c _ _ _ _ (at-finish .finish .result .told) (at-finish .finish .result .sums) (at-read-state .read-state .result) _ (at-if1 .if1 .left)
+    (at-if2 .if2 .left) (at-read-state .read-state .ensures)
+    (at-finish .finish .ensures) (at-ending-number .ending-number .ensures) (at-tell-finished .tell-finished .ensures)
 
 pub grumpy-shift-finish-spec : {M : Type 1} → statement M
 grumpy-shift-finish-spec =

@@ -24,7 +24,10 @@ returns : tie.Need-returns
 returns c = search needs
 
 returns-2 : tie.Need-returns-2
-returns-2 c = rw (c .before .before .before .before .before .told .given .1, c .before .before .why .given .1) (c .keeps .ensures)
+returns-2 c =
+    let at-why = c .before .before in
+    let at-told = at-why .before .before .before in
+    rw (at-told .told .given .1, at-why .why .given .1) (c .keeps .ensures)
 
 returns-3 : tie.Need-returns-3
 returns-3 c = search needs

@@ -14,7 +14,10 @@ same-length : tie.Need-same-length
 same-length c = search needs
 
 returns-2 : tie.Need-returns-2
-returns-2 c = rw (c .before .before .before .before .if1 .left) (held (c .before .before .write-state .ensures))
+returns-2 c =
+    let at-write-state = c .before .before in
+    let at-if1 = at-write-state .before .before in
+    rw (at-if1 .if1 .left) (held (at-write-state .write-state .ensures))
 
 pub leave-spec : {M : Type 1} → statement M
 leave-spec = tie.close (tie.spec returns write-state-requires same-length returns-2)

@@ -31,13 +31,22 @@ same-length : tie.Need-same-length
 same-length c = search needs
 
 returns : tie.Need-returns
-returns c = granted-told (c .before .before .before .before .before .before .before .before .args .told) _ _ (c .before .before .before .before .before .enum-told .given .1) (c .before .before .put .ensures)
+returns c =
+    let at-put = c .before .before in
+    let at-enum-told = at-put .before .before .before in
+    let start = at-enum-told .before .before .before in
+    granted-told (start .args .told) _ _ (at-enum-told .enum-told .given .1) (at-put .put .ensures)
 
 same-length-2 : tie.Need-same-length-2
 same-length-2 c = search needs
 
 returns-2 : tie.Need-returns-2
-returns-2 c = refused-told (c .before .before .before .before .before .before .before .before .before .before .args .told) _ _ _ _ _ (c .before .before .before .before .before .before .before .told .given .1) (c .before .before .before .before .before .number-of .ensures) (c .before .before .put2 .ensures)
+returns-2 c =
+    let at-put2 = c .before .before in
+    let at-number-of = at-put2 .before .before .before in
+    let at-told = at-number-of .before .before in
+    let start = at-told .before .before .before in
+    refused-told (start .args .told) _ _ _ _ _ (at-told .told .given .1) (at-number-of .number-of .ensures) (at-put2 .put2 .ensures)
 
 pub tell-begun-spec : {M : Type 1} → statement M
 tell-begun-spec =

@@ -71,9 +71,16 @@ same-length c = search needs
 
 returns : tie.Need-returns
 returns c =
-    let s = c .before .before .before .before .before .before .before .before .before .before .before .before .before .before .before .before in
-    report-told (c .before .before .before .before .before .before .before .before .before .before .before .before .before .before .before .before .args .report .now) _ _ (c .before .before .before .before .before .before .before .before .before .before .before .before .before .before .before .before .args .sums) _ _ _ _ (c .before .before .before .before .before .before .before .before .before .before .before .before .before .wide .ensures) record { fits = sum s; word = c .before .before .before .before .before .before .before .before .before .complement .ensures }
-    record { fits = least s; word = c .before .before .before .before .before .before .before .complement2 .ensures } record { fits = largest s; word = c .before .before .before .before .before .complement3 .ensures } (c .before .before .put .ensures)
+    let at-put = c .before .before in
+    let at-complement3 = at-put .before .before .before in
+    let at-complement2 = at-complement3 .before .before in
+    let at-complement = at-complement2 .before .before in
+    let at-wide = at-complement .before .before .before .before in
+    let start = at-wide .before .before .before in
+    report-told (start .args .report .now) _ _ (start .args .sums) _ _ _ _ (at-wide .wide .ensures)
+    record { fits = sum start; word = at-complement .complement .ensures }
+    record { fits = least start; word = at-complement2 .complement2 .ensures }
+    record { fits = largest start; word = at-complement3 .complement3 .ensures } (at-put .put .ensures)
 
 pub tell-finished-spec : {M : Type 1} → statement M
 tell-finished-spec =

@@ -46,11 +46,19 @@ number-requires-3 c κs = search needs
 
 returns : tie.Need-returns
 returns c =
-    let sum : SFits w64 (c .before .before .before .before .number .result) = search needs in
-    let least : SFits w64 (c .before .before .number2 .result) = search needs in
+    let at-number2 = c .before .before in
+    let at-number = at-number2 .before .before in
+    let at-narrow3 = at-number .before .before in
+    let at-read-stops = at-narrow3 .before .before in
+    let at-narrow2 = at-read-stops .before in
+    let at-narrow = at-narrow2 .before .before in
+    let start = at-narrow .before .before .before in
+    let sum : SFits w64 (at-number .number .result) = search needs in
+    let least : SFits w64 (at-number2 .number2 .result) = search needs in
     let largest : SFits w64 (c .number3 .result) = search needs in
-    sums-read (c .before .before .before .before .before .before .before .before .before .before .before .before .before .before .args .words .now) _ _ _ _ _ _ _ (c .before .before .before .before .before .before .before .before .before .before .before .narrow .ensures) (c .before .before .before .before .before .before .before .before .before .narrow2 .ensures) (c .before .before .before .before .before .before .before .before .read-stops .ensures) (c .before .before .before .before .before .before .narrow3 .ensures)
-    sum (c .before .before .before .before .number .ensures) least (c .before .before .number2 .ensures) largest (c .number3 .ensures)
+    sums-read (start .args .words .now) _ _ _ _ _ _ _ (at-narrow .narrow .ensures) (at-narrow2 .narrow2 .ensures)
+    (at-read-stops .read-stops .ensures) (at-narrow3 .narrow3 .ensures)
+    sum (at-number .number .ensures) least (at-number2 .number2 .ensures) largest (c .number3 .ensures)
 
 pub read-sums-spec : {M : Type 1} → statement M
 read-sums-spec =

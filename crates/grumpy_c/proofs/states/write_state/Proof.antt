@@ -109,17 +109,27 @@ slice-aggregate-put : tie.Need-slice-aggregate-put
 slice-aggregate-put c = search needs
 
 put-requires : tie.Need-put-requires
-put-requires c κs = c .before .before .before .before .before .before .before .before .before .before .before .before .before .before .before .before .before .before .before .pre
+put-requires c κs =
+    let at-complement = c .before .before .before .before .before .before in
+    let at-wide = at-complement .before .before .before .before .before .before .before .before in
+    at-wide .before .before .before .before .before .pre
 
 same-length : tie.Need-same-length
 same-length c = search needs
 
 returns : tie.Need-returns
 returns c =
-    let s = c .before .before .before .before .before .before .before .before .before .before .before .before .before .before .before .before .before .before .before .before .before .before in
-    state-held (c .before .before .before .before .before .before .before .before .before .before .before .before .before .before .before .before .before .before .before .before .before .before .args .words .now) _ (c .before .before .before .before .before .before .before .before .before .before .before .before .before .before .before .before .before .before .before .before .before .before .args .state) _ _ _ _ _ _ (c .before .before .before .before .before .before .before .before .before .before .before .before .before .before .before .before .flag .ensures) (c .before .before .before .before .before .before .before .before .before .before .before .before .before .before .flag2 .ensures) (c .before .before .before .before .before .before .before .before .before .before .before .before .before .before .before .before .before .wide .ensures)
-    record { fits = sum s; word = c .before .before .before .before .before .before .before .before .before .complement .ensures } record { fits = least s; word = c .before .before .before .before .before .before .before .complement2 .ensures }
-    record { fits = largest s; word = c .before .before .before .before .before .complement3 .ensures } (c .before .before .put .ensures) (fit s)
+    let at-put = c .before .before in
+    let at-complement3 = at-put .before .before .before in
+    let at-complement2 = at-complement3 .before .before in
+    let at-complement = at-complement2 .before .before in
+    let at-flag2 = at-complement .before .before .before .before .before in
+    let at-flag = at-flag2 .before .before in
+    let at-wide = at-flag .before in
+    let start = at-wide .before .before .before .before .before in
+    state-held (start .args .words .now) _ (start .args .state) _ _ _ _ _ _ (at-flag .flag .ensures) (at-flag2 .flag2 .ensures) (at-wide .wide .ensures)
+    record { fits = sum start; word = at-complement .complement .ensures } record { fits = least start; word = at-complement2 .complement2 .ensures }
+    record { fits = largest start; word = at-complement3 .complement3 .ensures } (at-put .put .ensures) (fit start)
 
 pub write-state-spec : {M : Type 1} → statement M
 write-state-spec =
