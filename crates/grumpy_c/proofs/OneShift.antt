@@ -30,8 +30,8 @@ use Rattle.shift.specs.declared.Admission.{Admission}
 use Rattle.shift.specs.declared.State.{State}
 use Rattle.grumpy_c.specs.Words.{with-front, nine}
 use Rattle.grumpy_c.specs.States.{STATE, state-words, state-in}
-use Rattle.grumpy_c.specs.Shifts.{BEGIN, FEED, FINISH, told-number, fed-number, report-words, Left, as-before, held, refuses, BeganC, begin-no-room, begin-told, FedC}
-use Rattle.grumpy_c.specs.Shifts.{feed-no-room, feed-told, FinishedC, finish-no-room, finish-told}
+use Rattle.grumpy_c.specs.Shifts.{BEGIN, FEED, FINISH, told-number, fed-number, report-words, Left, as-before, held, refuses, BeganC}
+use Rattle.grumpy_c.specs.Shifts.{begin-no-room, begin-told, FedC, feed-no-room, feed-told, FinishedC, finish-no-room, finish-told}
 use Rattle.grumpy_c.proofs.StateWords.{nine-same}
 
 -- ---- lengths
