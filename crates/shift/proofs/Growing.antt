@@ -17,13 +17,12 @@ use Rattle.language.proofs.Shift.Cuts.{fed-joined}
 use Rattle.tally.specs.Parts.{no-part, longer-by}
 use Rattle.tally.specs.Parts as Tally
 use Rattle.tally.specs.Stands.{outcome-meant}
-use Rattle.tally.specs.Sums.{added}
 use Rattle.tally.specs.declared.sums.Outcome.{Outcome}
 use Rattle.tally.proofs.Reported.{added-stands, none-stands}
 use Rattle.shift.specs.declared.State.{State}
 use Rattle.shift.specs.Meanings.{granted, new-state}
 use Rattle.shift.specs.After.{Keeps, After, Grows}
-use Rattle.shift.specs.Feeding.{with-byte, overfull}
+use Rattle.shift.specs.Feeding.{with-byte, overfull, summed-up}
 use Rattle.shift.proofs.Kept.{longer-last}
 use Rattle.shift.proofs.Sound as Sound
 use Rattle.shift.proofs.Sound.{begun-ints, fed-ints}
@@ -79,14 +78,11 @@ module _ {ed : ℕ} {book : List ℕ} {l : Lent} where
   }
 
   -- a line has ended
-  abbrev pub summed-up : State → Outcome → State
-  summed-up s o = record { allowance = s .allowance; part = no-part; sums = added (s .sums) o; over = s .over }
-
-  pub line-grows : {s : State} {out out′ printed : List ℕ} {o : Outcome} → Admits ed book l granted → s .over ≡ false → s .sums .lines < LINES
+  pub line-grows : (s : State) (out out′ printed : List ℕ) (o : Outcome) → Admits ed book l granted → s .over ≡ false → s .sums .lines < LINES
       → ((bytes : List ℕ) → s .part ≡ longer-by no-part bytes → Shift.Comes ed book l (ended-line bytes) (outcome-meant o) printed)
       → out′ ≡ printed ++ drop (length printed) out → Grows ed book l (10 ∷ []) s out (summed-up s o) out′
   unfolding longer-by is-in-line
-  line-grows {s} {out} {out′} {printed} {o} ready h n c e output input a = record {
+  line-grows s out out′ printed o ready h n c e output input a = record {
     so-far = with-outcome (a .so-far) (outcome-meant o) printed;
     fed = stepped (a .fed) (step-feed (sym (a .keeps .over) ∙ h) few refl (c (a .so-far .part) (a .keeps .part)));
     keeps = record { part = refl; sums = added-stands _ (s .sums) o (a .keeps .sums) few ints; over = a .keeps .over };

@@ -3,3 +3,8 @@ pub mod Kept
 pub mod Growing
 pub mod Finishing
 pub mod Admitting
+pub mod Running
+pub mod Going
+pub mod Learnt
+pub mod Pieces
+pub mod InPieces

@@ -9,7 +9,7 @@ use Rattle.language.specs.Trees.{Ty, Program}
 use Rattle.language.specs.Answers.{Lent, Enough, Passes, cleared}
 use Rattle.language.specs.Edition.{pair-in}
 use Rattle.language.specs.Shift.{Admits, Book, ZERO}
-use Rattle.shift.specs.declared.admission.Admission.{Admission}
+use Rattle.shift.specs.declared.Admission.{Admission}
 use Rattle.shift.specs.Meanings.{admission-meant, lent, left-by}
 
 module _ (edition : ℕ) (book : List ℕ) where

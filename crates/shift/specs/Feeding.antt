@@ -13,7 +13,7 @@ use Rattle.layout.specs.declared.values.Value.{Value}
 use Rattle.grumpy.specs.declared.answers.PairRan.{PairRan}
 use Rattle.tally.specs.Parts.{no-part, longer, longer-by}
 use Rattle.tally.specs.Stands.{outcome-meant}
-use Rattle.tally.specs.Sums.{Small}
+use Rattle.tally.specs.Sums.{Small, added}
 use Rattle.tally.specs.declared.lines.Part.{Part}
 use Rattle.tally.specs.declared.sums.Outcome.{Outcome}
 use Rattle.shift.specs.declared.State.{State}
@@ -23,8 +23,8 @@ use Rattle.shift.specs.After.{Grows}
 -- a book that was admitted, and memory whose required words are zero
 pub record Lends (edition : ℕ) (book table work out : List ℕ) (allowance : ℕ) : Type 0 where
   pub admits : Admits edition book (lent table work (length out) allowance) granted
-  pub table : cleared TABLE table ≡ table
-  pub work : cleared WORK work ≡ work
+  pub table-clear : cleared TABLE table ≡ table
+  pub work-clear : cleared WORK work ≡ work
 
 -- what the end of a run is counted as; a book that was admitted has an int or a stop
 abbrev pub paid-as : Value → Outcome
@@ -41,8 +41,8 @@ ended-as (PairRan.Refused y x) = Outcome.Bad
 
 -- memory is as before, and the output has the bytes printed at its front
 pub record Leaves (table work out printed table′ work′ out′ : List ℕ) : Type 0 where
-  pub table : table′ ≡ table
-  pub work : work′ ≡ work
+  pub table-same : table′ ≡ table
+  pub work-same : work′ ≡ work
   pub output : out′ ≡ printed ++ drop (length printed) out
 
 -- a job was run
@@ -74,9 +74,13 @@ with-byte s b = record { allowance = s .allowance; part = longer (s .part) b; su
 abbrev pub overfull : State → State
 overfull s = record { allowance = s .allowance; part = s .part; sums = s .sums; over = true }
 
+-- a line has ended
+abbrev pub summed-up : State → Outcome → State
+summed-up s o = record { allowance = s .allowance; part = no-part; sums = added (s .sums) o; over = s .over }
+
 -- so many bytes more
 pub record Goes (edition : ℕ) (book bytes table work out : List ℕ) (state r : State) (table′ work′ out′ : List ℕ) : Type 0 where
   pub grows : Grows edition book (lent table work (length out) (state .allowance)) bytes state out r out′
   pub allowance : r .allowance ≡ state .allowance
-  pub table : table′ ≡ table
-  pub work : work′ ≡ work
+  pub table-same : table′ ≡ table
+  pub work-same : work′ ≡ work

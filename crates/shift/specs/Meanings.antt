@@ -15,7 +15,7 @@ use Rattle.tally.specs.Sums.{no-sums, with-bad}
 use Rattle.tally.specs.declared.sums.Sums.{Sums}
 use Rattle.shift.specs.declared.State.{State}
 use Rattle.shift.specs.declared.Why.{Why}
-use Rattle.shift.specs.declared.admission.Admission.{Admission}
+use Rattle.shift.specs.declared.Admission.{Admission}
 
 abbrev pub why-meant : Why → ShiftRefusal
 why-meant (Why.Sheet r) = sheet (refusal-meant r)

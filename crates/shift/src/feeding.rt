@@ -24,7 +24,10 @@ fn paid(value: Value) -> Outcome
 {
     match value {
         Value::Int(pay) => Outcome::Paid(pay as i64),
-        _ => Outcome::Bad,
+        Value::Float(_) => Outcome::Bad,
+        Value::Flag(_) => Outcome::Bad,
+        Value::Nothing => Outcome::Bad,
+        Value::Cell(_) => Outcome::Bad,
     }
 }
 
@@ -70,16 +73,9 @@ fn run(
         (now (table .exit)) (now (work .exit)) (now (out .exit)) ⌝ }
 {
     let call = calls::call(picks, rate);
-    let length = call.len;
-    ended(grumpy::run_pair(
-        edition,
-        book,
-        &call.text[..length],
-        table,
-        work,
-        out,
-        allowance,
-    ))
+    let text = call.text;
+    let n = call.len;
+    ended(grumpy::run_pair(edition, book, &text[..n], table, work, out, allowance))
 }
 
 // A line that has ended, of which so much was kept.

@@ -7,10 +7,9 @@ ghost use mathlib.Core.Path.{_≡_};
 ghost use Rattle.shift.specs.Meanings.{new-state, closed-sums};
 ghost use Rattle.shift.specs.Promises.{Begin, Feed, Finish};
 
-mod admission;
+mod asking;
 mod feeding;
 
-use crate::admission::Admission;
 use numbers::Refusal;
 use pairs::Spot;
 use tally::lines;
@@ -35,15 +34,27 @@ pub enum Why {
     ManyLines,
 }
 
-pub enum Answer {
-    Ready(State),
+// What is told of a book before any line.
+pub enum Admission {
+    Granted,
     Refused(Why, Spot),
 }
 
-// What is told in the end: the sums, and whether there was a line too many.
-pub enum Finished {
-    Report { over: bool, sums: Sums },
+// The state stands beside what is told, since it holds an array: after a refusal it is as it was.
+pub struct Answer {
+    pub told: Admission,
+    pub state: State,
+}
+
+// What is told in the end: a report, and whether there was a line too many; or a refusal, and no sums.
+pub enum Ending {
+    Report { over: bool },
     Refused(Refusal),
+}
+
+pub struct Finished {
+    pub told: Ending,
+    pub sums: Sums,
 }
 
 // A shift before its first line.
@@ -69,10 +80,9 @@ pub fn begin(
         ⌜ Begin edition (now (book .entry)) (now (table .entry)) (now (work .entry)) allowance r (now (table .exit))
         (now (work .exit)) ⌝ }
 {
-    match admission::asked(edition, book, table, work, allowance) {
-        Admission::Granted => Answer::Ready(fresh(allowance)),
-        Admission::Refused(why, spot) => Answer::Refused(why, spot),
-    }
+    let told = asking::asked(edition, book, table, work, allowance);
+    let state = fresh(allowance);
+    Answer { told, state }
 }
 
 // One piece more; `out` is what each line prints to, from its front on.
@@ -89,11 +99,18 @@ pub fn feed(
         ⌜ Feed edition (now (book .entry)) (now (piece .entry)) (now (table .entry)) (now (work .entry))
         (now (out .entry)) state r (now (table .exit)) (now (work .exit)) (now (out .exit)) ⌝ }
 {
-    match admission::asked(edition, book, table, work, state.allowance) {
+    match asking::asked(edition, book, table, work, state.allowance) {
         Admission::Granted => {
-            Answer::Ready(feeding::bytes(edition, book, piece, table, work, out, state))
+            let after = feeding::bytes(edition, book, piece, table, work, out, state);
+            Answer {
+                told: Admission::Granted,
+                state: after,
+            }
         }
-        Admission::Refused(why, spot) => Answer::Refused(why, spot),
+        Admission::Refused(why, spot) => Answer {
+            told: Admission::Refused(why, spot),
+            state,
+        },
     }
 }
 
@@ -111,14 +128,18 @@ fn closing(state: State) -> Sums
 }
 
 pub fn finish(edition: u32, state: State) -> Finished
-    ensures { λ r. ⌜ Finish edition state r ⌝ }
+    ensures { λ r. ⌜ Finish edition state (r .told) (r .sums) ⌝ }
 {
     if grumpy::knows(edition) {
         let sums = closing(state);
-        return Finished::Report {
-            over: state.over,
+        return Finished {
+            told: Ending::Report { over: state.over },
             sums,
         };
     }
-    Finished::Refused(Refusal::NoEdition)
+    let sums = sums::none();
+    Finished {
+        told: Ending::Refused(Refusal::NoEdition),
+        sums,
+    }
 }

@@ -4,6 +4,7 @@ ghost use Prim.Native.Nat.{_≤_};
 ghost use lib.ListN.{length};
 ghost use Rattle.language.specs.Sizes.{TABLE};
 ghost use Rattle.shift.specs.Admitting.{Asked, AskedOfText, AskedOfBook, AskedOfRoom};
+use crate::Admission;
 use crate::Why;
 use grumpy::answers::PairChecked;
 use language::ALLOWANCE;
@@ -12,13 +13,7 @@ use language::WORK;
 use layout::memory;
 use numbers::Refusal;
 use outlines::Outlined;
-use pairs::Spot;
 use pairs::front;
-
-pub enum Admission {
-    Granted,
-    Refused(Why, Spot),
-}
 
 // The call with the largest numbers under the book.
 fn room(edition: u32, book: &[u8], table: &mut [u32]) -> Admission
