@@ -1,6 +1,6 @@
 /* The box: reads, checks, runs and rewrites a rate sheet written in Grumpy.
  *
- * Five functions. They keep nothing between calls, ask for no memory of their own but the stack, of which
+ * Eight functions. They keep nothing between calls, ask for no memory of their own but the stack, of which
  * GRUMPY_STACK bytes are enough, and call nothing from outside but memset. They may be called from several
  * threads at once, each with memory of its own.
  *
@@ -57,6 +57,32 @@
  *
  * A report that is too short is answered with GRUMPY_SHORT_MEMORY, and nothing is changed. Words of the
  * report past these are left alone.
+ *
+ * A shift. grumpy_shift_begin, then grumpy_shift_feed as often as there is a piece of the input, then
+ * grumpy_shift_finish: they call the function `pay` of a rule book once for each line, and sum up. What is
+ * known so far lies in the caller's `state`, GRUMPY_SHIFT_STATE words of 64 bits, which has to be handed on as
+ * it was left; there may be any number of shifts at once, each with its own. Words that no function here left
+ * are read as some state, so they do no harm, and make no promised report either.
+ *
+ * A line is a loom in four digits, picks and rate in eight each, in hexadecimal with capitals, then a line
+ * feed. A line of another shape, one without its line feed at the end, and one with picks or rate above
+ * 2147483647 are bad: they are counted, and nothing is run for them. Pieces may be cut anywhere, and have any
+ * length, 0 too.
+ *
+ *     grumpy_shift_begin     report[0] the number, report[1] the place, a byte of the book
+ *     grumpy_shift_feed      report[0] the number
+ *     grumpy_shift_finish    report[0] the number, [1] lines, [2] bad lines, [3] to [11] lines that stopped with
+ *                            50 to 58, and of all other lines [12] the sum, [13] the least and [14] the largest
+ *                            pay, each an (int64_t); 0 where there is none
+ *
+ * The book is functions only, `pay` from two ints to int among them; otherwise the answer is GRUMPY_NO_BOOK. Feed
+ * asks the book anew, so book, edition and memories have to be those of begin. After a refusal of feed the state
+ * is as it was; after one of begin it is that of a shift without lines, but for GRUMPY_SHORT_MEMORY, which changes
+ * nothing. With more than GRUMPY_SHIFT_LINES lines the number of feed and finish is GRUMPY_MANY_LINES; the
+ * report is then that of the lines up to there, and no byte more changes anything. `out` is what each line
+ * prints to, from its front on, over what the line before it left.
+ *
+ * A state or report that is too short is answered with GRUMPY_SHORT_MEMORY, and nothing is changed.
  */
 #ifndef GRUMPY_H
 #define GRUMPY_H
@@ -76,6 +102,10 @@ extern "C" {
 #define GRUMPY_WRITE_REPORT 3
 #define GRUMPY_CHECK_PAIR_REPORT 6
 #define GRUMPY_RUN_PAIR_REPORT 9
+#define GRUMPY_SHIFT_STATE 21
+#define GRUMPY_SHIFT_BEGIN_REPORT 2
+#define GRUMPY_SHIFT_FEED_REPORT 1
+#define GRUMPY_SHIFT_FINISH_REPORT 15
 
 /* the editions */
 #define GRUMPY_EDITION_1 1
@@ -88,6 +118,9 @@ extern "C" {
 /* the largest source in bytes, and the largest allowance in units */
 #define GRUMPY_SOURCE 8192
 #define GRUMPY_ALLOWANCE 1000000
+
+/* the most lines of a shift */
+#define GRUMPY_SHIFT_LINES 65536
 
 /* the numbers */
 #define GRUMPY_OK 0               /* passed, or run to a value */
@@ -110,6 +143,8 @@ extern "C" {
 #define GRUMPY_LARGE_ALLOWANCE 41 /* the allowance is too large */
 #define GRUMPY_NO_EDITION 42      /* the edition is neither 1 nor 2 */
 #define GRUMPY_LONG_TEXT 44       /* the text is longer than `out` or than a source; nothing is written */
+#define GRUMPY_MANY_LINES 46      /* a shift of more than 65,536 lines */
+#define GRUMPY_NO_BOOK 47         /* no `pay` from two ints to int, or something outside the functions */
 #define GRUMPY_OUT_OF_UNITS 50    /* the allowance is used up */
 #define GRUMPY_TOO_DEEP 51        /* more than 512 nodes active at once */
 #define GRUMPY_OVERFLOW 52        /* an int outside 32 bits */
@@ -166,6 +201,30 @@ uint32_t grumpy_run_pair(uint32_t edition,
                          uint8_t *out, size_t out_length,
                          uint64_t allowance,
                          uint64_t *report, size_t report_length);
+
+/* Begins a shift: asks whether the book will do, and sets the state. `allowance` is what each line may use. */
+uint32_t grumpy_shift_begin(uint32_t edition,
+                            const uint8_t *book, size_t book_length,
+                            uint32_t *table, size_t table_length,
+                            uint32_t *work, size_t work_length,
+                            uint64_t allowance,
+                            uint64_t *state, size_t state_length,
+                            uint64_t *report, size_t report_length);
+
+/* One piece more of the input. */
+uint32_t grumpy_shift_feed(uint32_t edition,
+                           const uint8_t *book, size_t book_length,
+                           const uint8_t *piece, size_t piece_length,
+                           uint32_t *table, size_t table_length,
+                           uint32_t *work, size_t work_length,
+                           uint8_t *out, size_t out_length,
+                           uint64_t *state, size_t state_length,
+                           uint64_t *report, size_t report_length);
+
+/* The report of what was fed. The state stays as it is: what is fed after it goes on from there. */
+uint32_t grumpy_shift_finish(uint32_t edition,
+                             const uint64_t *state, size_t state_length,
+                             uint64_t *report, size_t report_length);
 
 #ifdef __cplusplus
 }

@@ -5,11 +5,11 @@
  * which nothing can be written. With `paint` the stack is filled with a pattern before each call, to see
  * afterwards how far down it was written.
  *
- * A request is nine words of 64 bits (the service, as in the enum below; the edition; the lengths of source,
- * second source, table, work, output and report; the allowance), then these six memories as they are. The
- * answer is four words (the number returned; how many bytes were changed that were not lent; with `paint` the
- * bytes of stack that the call took and those left below it, else 0 and 0), then the four memories that may
- * be written. All in the machine's own order of bytes.
+ * A request is ten words of 64 bits (the service, as in the enum below; the edition; the lengths of source,
+ * second source, table, work, output, state and report; the allowance), then these seven memories as they are.
+ * The answer is four words (the number returned; how many bytes were changed that were not lent; with `paint`
+ * the bytes of stack that the call took and those left below it, else 0 and 0), then the five memories that
+ * may be written. All in the machine's own order of bytes.
  */
 #define _GNU_SOURCE
 #include <pthread.h>
@@ -20,11 +20,12 @@
 
 #include "../../include/grumpy.h"
 
-enum { CHECK, RUN, WRITE, CHECK_PAIR, RUN_PAIR };
+/* the last one asks only how many words of state a shift needs */
+enum { CHECK, RUN, WRITE, CHECK_PAIR, RUN_PAIR, SHIFT_BEGIN, SHIFT_FEED, SHIFT_FINISH, STATE_WORDS };
 
-enum { SOURCE, SECOND, TABLE, WORK, OUT, REPORT, MEMORIES };
+enum { SOURCE, SECOND, TABLE, WORK, OUT, STATE, REPORT, MEMORIES };
 
-static const size_t width[MEMORIES] = {1, 1, 4, 4, 1, 8};
+static const size_t width[MEMORIES] = {1, 1, 4, 4, 1, 8, 8};
 
 /* a request: the service, the edition, the length of each memory, the allowance */
 enum { SERVICE, EDITION, LENGTHS, ALLOWANCE = LENGTHS + MEMORIES, ASKED };
@@ -81,7 +82,7 @@ static uint64_t call(const uint64_t *asked, struct memory *m) {
   uint8_t *source = m[SOURCE].all + MARGIN, *second = m[SECOND].all + MARGIN;
   uint32_t *table = (uint32_t *)(m[TABLE].all + MARGIN), *work = (uint32_t *)(m[WORK].all + MARGIN);
   uint8_t *out = m[OUT].all + MARGIN;
-  uint64_t *report = (uint64_t *)(m[REPORT].all + MARGIN);
+  uint64_t *state = (uint64_t *)(m[STATE].all + MARGIN), *report = (uint64_t *)(m[REPORT].all + MARGIN);
 #define LENT(memory, which) memory, length[which]
   switch (asked[SERVICE]) {
     case CHECK: return grumpy_check(edition, LENT(source, SOURCE), LENT(table, TABLE), LENT(report, REPORT));
@@ -97,6 +98,14 @@ static uint64_t call(const uint64_t *asked, struct memory *m) {
     case RUN_PAIR:
       return grumpy_run_pair(edition, LENT(source, SOURCE), LENT(second, SECOND), LENT(table, TABLE),
                              LENT(work, WORK), LENT(out, OUT), allowance, LENT(report, REPORT));
+    case SHIFT_BEGIN:
+      return grumpy_shift_begin(edition, LENT(source, SOURCE), LENT(table, TABLE), LENT(work, WORK), allowance,
+                                LENT(state, STATE), LENT(report, REPORT));
+    case SHIFT_FEED:
+      return grumpy_shift_feed(edition, LENT(source, SOURCE), LENT(second, SECOND), LENT(table, TABLE),
+                               LENT(work, WORK), LENT(out, OUT), LENT(state, STATE), LENT(report, REPORT));
+    case SHIFT_FINISH: return grumpy_shift_finish(edition, LENT(state, STATE), LENT(report, REPORT));
+    case STATE_WORDS: return GRUMPY_SHIFT_STATE;
   }
   fail("no such service");
   return 0;

@@ -1,13 +1,13 @@
 //! Holds another implementation against this one: its report, and every word
 //! and byte it was lent, and a margin around each loan that it was not lent.
 
-use crate::answer::{Left, TABLE_WORDS, WORK_WORDS};
+use crate::answer::{TABLE_WORDS, WORK_WORDS};
 use crate::chance::Chance;
+use crate::memory::Memory;
 use crate::promise;
 use crate::services::{wanted, Service};
 use crate::trial::Trial;
 use crate::write::write;
-use std::fmt::Debug;
 
 /// A call with all that is lent for it.
 pub struct Call<'a> {
@@ -20,7 +20,27 @@ pub struct Call<'a> {
     pub work: &'a mut [u32],
     pub output: &'a mut [u8],
     pub allowance: u64,
+    /// What a shift keeps from call to call.
+    pub state: &'a mut [u64],
     pub report: &'a mut [u64],
+}
+
+impl Call<'_> {
+    /// A call with nothing lent at all.
+    pub fn bare(service: Service, edition: u32) -> Call<'static> {
+        Call {
+            service,
+            edition,
+            source: &[],
+            second: &[],
+            table: &mut [],
+            work: &mut [],
+            output: &mut [],
+            allowance: 0,
+            state: &mut [],
+            report: &mut [],
+        }
+    }
 }
 
 /// The number returned, or why there is none to be trusted.
@@ -28,55 +48,6 @@ pub type Told = Result<u32, String>;
 
 pub trait Other {
     fn call(&self, call: Call) -> Told;
-}
-
-const MARGIN: usize = 16;
-
-/// A memory filled at random, of which only the middle is lent.
-struct Memory<T> {
-    all: Vec<T>,
-    /// What all of it must be in the end.
-    wanted: Vec<T>,
-}
-
-impl<T: Copy + PartialEq + Debug> Memory<T> {
-    fn new(length: usize, mut fill: impl FnMut() -> T) -> Memory<T> {
-        let all: Vec<T> = (0..length + 2 * MARGIN).map(|_| fill()).collect();
-        Memory {
-            wanted: all.clone(),
-            all,
-        }
-    }
-
-    fn lent(&mut self) -> &mut [T] {
-        let end = self.all.len() - MARGIN;
-        &mut self.all[MARGIN..end]
-    }
-
-    /// Demands these values at the start of the lent part.
-    fn want(&mut self, start: &[T]) {
-        self.wanted[MARGIN..MARGIN + start.len()].copy_from_slice(start);
-    }
-
-    fn compare(&self, name: &str) -> Result<(), String> {
-        match (0..self.all.len()).find(|i| self.all[*i] != self.wanted[*i]) {
-            None => Ok(()),
-            Some(i) => Err(format!(
-                "{name}[{}] is {:?}, not {:?}",
-                i as i64 - MARGIN as i64,
-                self.all[i],
-                self.wanted[i]
-            )),
-        }
-    }
-}
-
-impl Memory<u32> {
-    fn want_left(&mut self, left: Left, required: usize) {
-        if left == Left::RequiredZero {
-            self.want(&vec![0; required]);
-        }
-    }
 }
 
 /// Holds every service on this trial, and some on the sheet written out again.
@@ -120,8 +91,6 @@ fn differs(other: &dyn Other, trial: &Trial, service: Service) -> Result<(), Str
     let mut report = Memory::new(trial.report(service), || chance.next_word());
     let (source, second) = service.sources(trial);
     let number = other.call(Call {
-        service,
-        edition: trial.lent.edition,
         source,
         second,
         table: table.lent(),
@@ -129,6 +98,7 @@ fn differs(other: &dyn Other, trial: &Trial, service: Service) -> Result<(), Str
         output: output.lent(),
         allowance: trial.lent.allowance,
         report: report.lent(),
+        ..Call::bare(service, trial.lent.edition)
     })?;
     // A report that is too short is all that matters then.
     let mut due = 40;
@@ -152,7 +122,7 @@ fn differs(other: &dyn Other, trial: &Trial, service: Service) -> Result<(), Str
 #[cfg(test)]
 mod tests {
     use super::*;
-    use crate::answer::Lent;
+    use crate::answer::{Left, Lent};
     use crate::{on_big_stack, trial};
 
     /// This interpreter behind the other's interface, with a fault at will.

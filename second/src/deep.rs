@@ -22,6 +22,8 @@ struct Candidate {
 pub struct Found {
     pub sheet: String,
     pub taken: u64,
+    /// The same as a rule book, if it is one that calls itself.
+    pub book: Option<String>,
 }
 
 /// Candidates that are made worse, and how many sheets may be tried in all.
@@ -36,6 +38,8 @@ pub struct Search<'a> {
     order: Vec<usize>,
     measure: &'a mut dyn FnMut(&str) -> u64,
     tried: HashMap<String, u64>,
+    /// Rule books by the sheets they were made of.
+    books: HashMap<String, String>,
 }
 
 /// All sheets that were tried, the worst first. The measure is of one sheet in
@@ -56,9 +60,15 @@ pub fn search(service: Service, measure: &mut dyn FnMut(&str) -> u64) -> Vec<Fou
         layers,
         measure,
         tried: HashMap::new(),
+        books: HashMap::new(),
     };
     search.all();
-    let found = |(sheet, taken)| Found { sheet, taken };
+    let books = search.books;
+    let found = |(sheet, taken)| Found {
+        book: books.get(&sheet).cloned(),
+        sheet,
+        taken,
+    };
     let mut all: Vec<Found> = search.tried.into_iter().map(found).collect();
     all.sort_by(|a, b| (b.taken, &a.sheet).cmp(&(a.taken, &b.sheet)));
     all
@@ -157,8 +167,13 @@ impl Search<'_> {
     }
 
     fn try_out(&mut self, candidate: &Candidate) -> u64 {
-        let sheet = self.sheet(candidate);
-        self.measure(sheet)
+        let walk: Vec<&Layer> = candidate.walk.iter().map(|l| &self.layers[*l]).collect();
+        let text = sheet(&walk, candidate.shape);
+        if let Shape::Body { parameters, times } = candidate.shape {
+            let book = sheet(&walk, Shape::Book { parameters, times });
+            self.books.insert(text.clone(), book);
+        }
+        self.measure(text)
     }
 
     fn measure(&mut self, sheet: String) -> u64 {
@@ -168,11 +183,6 @@ impl Search<'_> {
         let taken = (self.measure)(&sheet);
         self.tried.insert(sheet, taken);
         taken
-    }
-
-    fn sheet(&self, candidate: &Candidate) -> String {
-        let walk: Vec<&Layer> = candidate.walk.iter().map(|l| &self.layers[*l]).collect();
-        sheet(&walk, candidate.shape)
     }
 }
 

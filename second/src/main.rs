@@ -21,8 +21,10 @@ use second::answer::{self, Answer, Lent};
 use second::cases;
 use second::compare::compare;
 use second::piped::Piped;
+use second::shift_trial::{self, ShiftTrial};
 use second::trial::Trial;
-use second::{casefile, follows, laws, near, neighbours, on_big_stack, paper, shrink, trial};
+use second::{casefile, follows, laws, near, neighbours, on_big_stack, paper};
+use second::{shift_file, shifts, shrink, trial};
 use std::collections::BTreeMap;
 use std::io::Write;
 use std::process::ExitCode;
@@ -61,6 +63,9 @@ fn usage() -> u64 {
     1
 }
 
+/// Of so many trials one is a shift too.
+const SHIFTS: u64 = 10;
+
 /// The stack of the other implementation, where none is asked for.
 const STACK: usize = 1 << 23;
 
@@ -85,6 +90,12 @@ fn series(count: u64, seed: u64, start: u64, trace: bool) -> u64 {
             }
             let trial = trial::make(seed, index);
             tally.add(&format!("seed {seed} trial {index}"), trial);
+            if index.is_multiple_of(SHIFTS) {
+                tally.add_shift(
+                    &format!("seed {seed} shift {index}"),
+                    &shifts::make(seed, index),
+                );
+            }
             if (index + 1 - start).is_multiple_of(20_000) {
                 println!("{} of {count}, {} failed", index + 1 - start, tally.failed);
             }
@@ -120,6 +131,21 @@ impl Tally {
         println!("# FAILED {title}: {difference}");
         println!("# made smaller: {now}; {}", reports(&small));
         println!("{}", cases::show_case(title, &small));
+    }
+
+    fn add_shift(&mut self, title: &str, trial: &ShiftTrial) {
+        let verdict = match &*OTHER {
+            Some(other) => shift_trial::hold(other, trial),
+            None => shift_file::laws(trial),
+        };
+        match verdict {
+            Ok(()) => self.passed += 1,
+            Err(difference) => {
+                self.failed += 1;
+                println!("# FAILED {title}: {difference}");
+                println!("{}", shift_file::show(title, trial));
+            }
+        }
     }
 
     fn close(self) -> u64 {
@@ -171,7 +197,26 @@ fn all_cases() -> u64 {
     for edition in [1, 2] {
         systematic(&mut tally, edition);
     }
+    shift_cases(&mut tally);
     tally.close()
+}
+
+/// Each shift as a whole, and cut into pieces of every small size.
+fn shift_cases(tally: &mut Tally) {
+    let cases = shift_file::read_folder(&casefile::folder()).unwrap_or_else(|e| panic!("{e}"));
+    for case in cases {
+        if let Err(difference) = case.try_own() {
+            println!("# FAILED {difference}");
+            tally.failed += 1;
+            continue;
+        }
+        for size in [usize::MAX, 1, 2, 7, 20, 21, 22] {
+            let mut trial = case.trial.clone();
+            trial.cuts = (1..40).map(|piece| size.saturating_mul(piece)).collect();
+            trial.cuts.retain(|cut| *cut < trial.input.len());
+            tally.add_shift(&case.title, &trial);
+        }
+    }
 }
 
 /// What is tried by a system, not by hand.

@@ -13,6 +13,8 @@ pub enum Shape {
     /// The walk this many times in the body of a function around a call of the
     /// function itself, which is never over.
     Body { parameters: usize, times: usize },
+    /// The same called by `pay` in a rule book.
+    Book { parameters: usize, times: usize },
 }
 
 impl Shape {
@@ -26,7 +28,8 @@ pub fn sheet(walk: &[&Layer], shape: Shape) -> String {
     match shape {
         Shape::Nested => nested(walk, false),
         Shape::Open => nested(walk, true),
-        Shape::Body { parameters, times } => body(walk, parameters, times),
+        Shape::Body { parameters, times } => body(walk, parameters, times, false),
+        Shape::Book { parameters, times } => body(walk, parameters, times, true),
     }
 }
 
@@ -77,7 +80,7 @@ fn nested(walk: &[&Layer], open: bool) -> String {
     definitions + &around(&befores(walk), &shut(walk), times, &inside)
 }
 
-fn body(walk: &[&Layer], parameters: usize, times: usize) -> String {
+fn body(walk: &[&Layer], parameters: usize, times: usize, book: bool) -> String {
     let result = walk[0].outer;
     // Where the function itself will do for a call of the walk, no other is
     // defined.
@@ -88,11 +91,18 @@ fn body(walk: &[&Layer], parameters: usize, times: usize) -> String {
     let definitions = definitions(walk, own);
     let head = head(&name, parameters, result);
     let again = format!("{name}({})", vec!["1"; parameters].join(","));
-    let fixed = count(&format!("{definitions}{head}{again}}}{again}"));
+    let (last, call) = match book {
+        true => (
+            format!("def pay(p:int,r:int):int{{let x={again} in 1}}"),
+            "pay(1,1)",
+        ),
+        false => (again.clone(), ""),
+    };
+    let fixed = count(&format!("{definitions}{head}{again}}}{last}{call}"));
     let size = count(&befores(walk)) + count(&afters(walk));
     let times = times.min((MOST_TOKENS - fixed) / size);
     let inside = around(&befores(walk), &afters(walk), times, &again);
-    format!("{definitions}{head}{inside}}}{again}")
+    format!("{definitions}{head}{inside}}}{last}")
 }
 
 /// What is long without being a nest of nodes.

@@ -20,12 +20,21 @@ struct Pipes {
     stack: Stack,
 }
 
-/// What the last call did with its stack, if that was painted before. A call
-/// that never came back may have taken all of it.
-#[derive(Clone, Copy, Debug, Default, PartialEq, Eq)]
+/// The most that a call took of its stack, if that was painted before, and the
+/// least that was left. A call that never came back may have taken all of it.
+#[derive(Clone, Copy, Debug, PartialEq, Eq)]
 pub struct Stack {
     pub taken: u64,
     pub left: u64,
+}
+
+impl Default for Stack {
+    fn default() -> Stack {
+        Stack {
+            taken: 0,
+            left: u64::MAX,
+        }
+    }
 }
 
 /// The variable that names the program, its words apart by blanks.
@@ -51,9 +60,10 @@ impl Piped {
         Some(Piped { words, pipes })
     }
 
-    /// What the last call did with its painted stack.
+    /// What was done with the painted stack since this was last asked.
     pub fn stack(&self) -> Stack {
-        self.pipes.lock().expect("one call at a time").stack
+        let mut pipes = self.pipes.lock().expect("one call at a time");
+        std::mem::take(&mut pipes.stack)
     }
 }
 
@@ -100,6 +110,7 @@ impl Pipes {
             call.table.len(),
             call.work.len(),
             call.output.len(),
+            call.state.len(),
             call.report.len(),
         ];
         self.send_long(&[call.service.code(), u64::from(call.edition)])?;
@@ -110,6 +121,7 @@ impl Pipes {
         self.send_short(call.table)?;
         self.send_short(call.work)?;
         self.asked.write_all(call.output)?;
+        self.send_long(call.state)?;
         self.send_long(call.report)?;
         self.asked.flush()
     }
@@ -119,10 +131,14 @@ impl Pipes {
         let mut told = [0; 4];
         self.hear_long(&mut told)?;
         let [number, spilt, taken, left] = told;
-        self.stack = Stack { taken, left };
+        self.stack = Stack {
+            taken: taken.max(self.stack.taken),
+            left: left.min(self.stack.left),
+        };
         self.hear_short(call.table)?;
         self.hear_short(call.work)?;
         self.told.read_exact(call.output)?;
+        self.hear_long(call.state)?;
         self.hear_long(call.report)?;
         Ok([number, spilt])
     }

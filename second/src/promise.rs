@@ -37,15 +37,13 @@ fn call(other: &dyn Other, service: Service, trial: &Trial, lent: &Lent) -> Resu
     let mut output = vec![0; lent.output];
     let mut report = vec![0; service.words()];
     other.call(Call {
-        service,
-        edition: lent.edition,
         source: &trial.sheet,
-        second: &[],
         table: &mut table,
         work: &mut work,
         output: &mut output,
         allowance: lent.allowance,
         report: &mut report,
+        ..Call::bare(service, lent.edition)
     })?;
     Ok((report, output))
 }

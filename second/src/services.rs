@@ -12,11 +12,17 @@ pub enum Service {
     Write,
     CheckPair,
     RunPair,
+    ShiftBegin,
+    ShiftFeed,
+    ShiftFinish,
+    /// No service, but how many words of state a shift needs.
+    StateWords,
 }
 
 use Service::{Check, CheckPair, Run, RunPair, Write};
 
 impl Service {
+    /// Those that serve one sheet, or one that is cut in two.
     pub const ALL: [Service; 5] = [Check, Run, Write, CheckPair, RunPair];
 
     /// Its number in what is asked of the bridge.
@@ -38,6 +44,10 @@ impl Service {
             Check | Write => 3,
             Run | CheckPair => 6,
             RunPair => 9,
+            Service::ShiftBegin => 2,
+            Service::ShiftFeed => 1,
+            Service::ShiftFinish => 15,
+            Service::StateWords => 0,
         }
     }
 
@@ -62,7 +72,7 @@ impl Service {
         match self {
             Run | RunPair => trial.lent.output,
             Write => trial.room,
-            Check | CheckPair => 0,
+            _ => 0,
         }
     }
 }
@@ -87,6 +97,7 @@ pub fn wanted(service: Service, trial: &Trial) -> Wanted {
         Write => written(trial),
         CheckPair => of_pair(checked(trial), trial),
         RunPair => of_pair(ran(trial), trial),
+        _ => unreachable!("a shift has trials of its own"),
     }
 }
 

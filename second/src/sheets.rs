@@ -107,7 +107,7 @@ impl<'a> Writer<'a> {
         }
     }
 
-    fn function(&mut self, index: usize) {
+    pub fn function(&mut self, index: usize) {
         let counts_down = self.chance.one_in(3);
         let mut parameters: Vec<(String, Type)> = Vec::new();
         if counts_down {

@@ -3,9 +3,10 @@
 use second::answer::Lent;
 use second::compare::hold;
 use second::deep::{search, Found};
-use second::piped::Piped;
+use second::piped::{Piped, Stack};
 use second::quote;
 use second::services::Service;
+use second::shift_trial::{self, ShiftTrial};
 use second::trial::Trial;
 
 /// Failures shown; later ones are only counted.
@@ -43,6 +44,7 @@ pub fn worst(bytes: usize) -> u64 {
             tell(service, &found);
         }
     }
+    tally.shifts(&other, &worst);
     println!("{} passed, {} failed", tally.passed, tally.failed);
     tally.failed
 }
@@ -57,6 +59,11 @@ impl Tally {
     /// How much stack this sheet takes.
     fn measure(&mut self, other: &Piped, service: Service, sheet: &str) -> u64 {
         let (verdict, taken) = one(other, service, sheet);
+        self.count(verdict, sheet);
+        taken
+    }
+
+    fn count(&mut self, verdict: Result<(), String>, sheet: &str) {
         match verdict {
             Ok(()) => self.passed += 1,
             Err(difference) => {
@@ -66,24 +73,44 @@ impl Tally {
                 }
             }
         }
-        taken
+    }
+
+    /// The worst sheets as rule books, with one line.
+    fn shifts(&mut self, other: &Piped, worst: &[Found]) {
+        let mut most = (0, "");
+        for book in worst.iter().filter_map(|found| found.book.as_deref()) {
+            let bytes = quote::decode(book).expect("a sheet in the spelling of the case files");
+            let line = b"00010000000100000001\n";
+            let trial = ShiftTrial::of(&bytes, line, lent());
+            let (verdict, taken) = enough(shift_trial::hold(other, &trial), other.stack());
+            self.count(verdict, book);
+            most = most.max((taken, book));
+        }
+        println!("Shift: the worst takes {} bytes\n| {}", most.0, most.1);
     }
 }
 
 /// Whether this sheet is as it should be, and how much stack it took.
 fn one(other: &Piped, service: Service, sheet: &str) -> (Result<(), String>, u64) {
     let bytes = quote::decode(sheet).expect("a sheet in the spelling of the case files");
-    let lent = Lent {
-        edition: 2,
-        ..Lent::default()
-    };
     // Of two sheets the second is the sheet, and the first is empty.
     let trial = match service {
-        Service::CheckPair | Service::RunPair => Trial::of_pair(b"", &bytes, lent),
-        _ => Trial::of(&bytes, lent),
+        Service::CheckPair | Service::RunPair => Trial::of_pair(b"", &bytes, lent()),
+        _ => Trial::of(&bytes, lent()),
     };
-    let verdict = hold(other, &trial, service);
-    let stack = other.stack();
+    enough(hold(other, &trial, service), other.stack())
+}
+
+/// Edition 2 has all that edition 1 has.
+fn lent() -> Lent {
+    Lent {
+        edition: 2,
+        ..Lent::default()
+    }
+}
+
+/// The verdict, or that too little of the stack was left; and what was taken.
+fn enough(verdict: Result<(), String>, stack: Stack) -> (Result<(), String>, u64) {
     match verdict {
         Ok(()) if stack.left < MARGIN => {
             let why = format!("only {} bytes of stack are left", stack.left);

@@ -35,6 +35,7 @@ CommandIs t Task.Check = t ≡ spell "check"
 CommandIs t Task.CheckWhole = ⊥
 CommandIs t Task.Run = t ≡ spell "run"
 CommandIs t Task.Write = t ≡ spell "write"
+CommandIs t Task.Shift = t ≡ spell "shift"
 CommandIs t Task.Help = t ≡ spell "--help"
 CommandIs t Task.Version = t ≡ spell "--version"
 
@@ -47,7 +48,8 @@ Means t Word.Report = t ≡ spell "--report"
 Means t Word.Edition = t ≡ spell "--edition"
 Means t Word.Rest = t ≡ spell "--"
 Means t Word.Strange = looks-optional t ≡ true
-Means t Word.Plain = Not t (spell "check") × Not t (spell "run") × Not t (spell "write") × (looks-optional t ≡ false)
+Means t Word.Plain =
+    Not t (spell "check") × Not t (spell "run") × Not t (spell "write") × Not t (spell "shift") × (looks-optional t ≡ false)
 
 -- ---- one word more, which is the word with the number i
 
@@ -194,6 +196,7 @@ first-word Task.Check a t i = with-plain (a .plain) a i
 first-word Task.CheckWhole a t i = with-plain (a .plain) a i
 first-word Task.Run a t i = with-plain (a .plain) a i
 first-word Task.Write a t i = with-plain (a .plain) a i
+first-word Task.Shift a t i = with-plain (a .plain) a i
 first-word Task.Help a t i = a
 first-word Task.Version a t i = a
 
@@ -210,6 +213,7 @@ with-whole Task.CheckWhole a i = a
 with-whole Task.Pay a i = with-strange a i
 with-whole Task.Run a i = with-strange a i
 with-whole Task.Write a i = with-strange a i
+with-whole Task.Shift a i = with-strange a i
 with-whole Task.Help a i = a
 with-whole Task.Version a i = a
 
@@ -252,12 +256,20 @@ three-words Count.Two = false
 three-words Count.Three = true
 three-words Count.More = false
 
+abbrev pub two-or-three : Count → Bool
+two-or-three Count.None = false
+two-or-three Count.One = false
+two-or-three Count.Two = true
+two-or-three Count.Three = true
+two-or-three Count.More = false
+
 abbrev pub fitting : Task → Count → Bool
 fitting Task.Pay n = three-words n
 fitting Task.Check n = one-word n
 fitting Task.CheckWhole n = one-word n
 fitting Task.Run n = two-words n
 fitting Task.Write n = one-word n
+fitting Task.Shift n = two-or-three n
 fitting Task.Help n = true
 fitting Task.Version n = true
 

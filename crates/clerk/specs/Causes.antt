@@ -2,10 +2,11 @@
 use mathlib.Core.Bool.{Bool, true, false}
 use Prim.Native.Nat.{ℕ}
 use Rattle.language.specs.Numbers as Numbers
+use Rattle.language.specs.Shift.{shift-number, no-book, many-lines}
 use Rattle.numbers.specs.Meanings.{refusal-meant, stop-meant}
 use Rattle.numbers.specs.declared.Refusal.{Refusal}
 use Rattle.clerk.specs.declared.causes.Cause.{Cause}
-use Rattle.clerk.specs.declared.causes.Cause.the-variants.{Refused, Called, Stopped, Complete, NoWage}
+use Rattle.clerk.specs.declared.causes.Cause.the-variants.{Refused, Called, Stopped, Complete, NoWage, NoBook, ManyLines}
 
 -- 0 where the box has none
 abbrev pub cause-number : Cause → ℕ
@@ -14,6 +15,8 @@ cause-number (Called r) = Numbers.refusal-number (refusal-meant r)
 cause-number (Stopped s) = Numbers.stop-number (stop-meant s)
 cause-number Complete = Numbers.refusal-number (refusal-meant Refusal.NoReading)
 cause-number (NoWage k) = 0
+cause-number NoBook = shift-number no-book
+cause-number ManyLines = shift-number many-lines
 
 abbrev pub refusal-placed : Refusal → Bool
 refusal-placed Refusal.ShortMemory = false
@@ -32,3 +35,5 @@ cause-placed (Called r) = false
 cause-placed (Stopped s) = true
 cause-placed Complete = false
 cause-placed (NoWage k) = false
+cause-placed NoBook = false
+cause-placed ManyLines = false

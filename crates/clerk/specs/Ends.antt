@@ -8,6 +8,7 @@ use Rattle.grumpy.specs.declared.answers.PairRan as pair-ran
 use Rattle.grumpy.specs.declared.answers.Ran as ran
 use Rattle.numbers.specs.declared.Refusal.{Refusal}
 use Rattle.pairs.specs.declared.Spot.{Spot}
+use Rattle.shift.specs.declared.Why.{Why}
 use Rattle.clerk.specs.declared.causes.Cause as cause
 use Rattle.clerk.specs.declared.ends.End.{End}
 use Rattle.clerk.specs.declared.ends.End.the-variants.{Passed, Value, Refused, Stopped}
@@ -67,6 +68,18 @@ unread-under (pair-checked.the-variants.Refused r s) = is-unread r
 abbrev pub completed-if : (unread : Bool) → End → End
 completed-if unread end = cond unread end (Refused cause.the-variants.Complete 0)
 
+-- ---- a shift that is refused
+
+abbrev pub shift-end : Why → Spot → End
+shift-end (Why.Sheet r) s = refused-under r s
+shift-end Why.NoBook s = Refused cause.the-variants.NoBook 0
+shift-end Why.ManyLines s = Refused cause.the-variants.ManyLines 0
+
+abbrev pub unread-shift : Why → Bool
+unread-shift (Why.Sheet r) = is-unread r
+unread-shift Why.NoBook = false
+unread-shift Why.ManyLines = false
+
 -- ---- a sheet as it stands
 
 abbrev pub checked-end : checked.Checked → End
@@ -90,6 +103,10 @@ status-of (Passed k) = 0
 status-of (Value k v u n) = 0
 status-of (Refused w p) = 1
 status-of (Stopped w p k u n) = 1
+
+-- of a shift that was told; 1 where there was a line too many
+abbrev pub told-status : (over : Bool) → ℕ
+told-status over = cond over 1 0
 
 -- how many bytes were printed
 abbrev pub printed-of : End → ℕ

@@ -9,10 +9,13 @@ use Rattle.language.specs.Tokens.{spell}
 use Rattle.page.specs.Floats.{float-text, bits-text}
 use Rattle.page.specs.Text.{decimal-of}
 
--- `negsuc n` is -(n + 1)
-unfoldable pub signed-words : ℤ → List ℕ
-signed-words (pos n) = decimal-of n
-signed-words (negsuc n) = spell "-" ++ decimal-of (suc n)
+-- a number in the words that f has for its distance from 0, and a dash before it where it is below; `negsuc n` is -(n + 1)
+unfoldable pub signed-by : (ℕ → List ℕ) → ℤ → List ℕ
+signed-by f (pos n) = f n
+signed-by f (negsuc n) = spell "-" ++ f (suc n)
+
+abbrev pub signed-words : ℤ → List ℕ
+signed-words z = signed-by decimal-of z
 
 unfoldable pub truth-words : Bool → List ℕ
 truth-words true = spell "true"

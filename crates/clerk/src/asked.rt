@@ -14,6 +14,7 @@ pub enum Task {
     CheckWhole,
     Run,
     Write,
+    Shift,
     Help,
     Version,
 }
@@ -101,6 +102,9 @@ pub fn meaning(text: &[u8]) -> Word
     }
     if same(text, b"write") {
         return Word::Command(Task::Write);
+    }
+    if same(text, b"shift") {
+        return Word::Command(Task::Shift);
     }
     if same(text, b"--whole") {
         return Word::Whole;
@@ -226,6 +230,7 @@ fn first(asked: Asked, task: Task, i: usize) -> Asked
         Task::CheckWhole => plain(asked, i),
         Task::Run => plain(asked, i),
         Task::Write => plain(asked, i),
+        Task::Shift => plain(asked, i),
         Task::Help => asked,
         Task::Version => asked,
     }
@@ -255,6 +260,7 @@ fn whole(asked: Asked, i: usize) -> Asked
         Task::Pay => unknown(asked, i),
         Task::Run => unknown(asked, i),
         Task::Write => unknown(asked, i),
+        Task::Shift => unknown(asked, i),
         Task::Help => asked,
         Task::Version => asked,
     }

@@ -15,6 +15,10 @@ pub enum Cause {
     Complete,
     // What the call gives is no int, but of the type with this number.
     NoWage(u32),
+    // The book of a shift is none.
+    NoBook,
+    // The shift has a line too many.
+    ManyLines,
 }
 
 // Its number; 0 where the box has none for it.
@@ -27,6 +31,8 @@ pub fn number(why: Cause) -> u32
         Cause::Stopped(stop) => numbers::of_stop(stop),
         Cause::Complete => numbers::of_refusal(Refusal::NoReading),
         Cause::NoWage(_) => 0,
+        Cause::NoBook => 47,
+        Cause::ManyLines => 46,
     }
 }
 
@@ -55,5 +61,7 @@ pub fn is_placed(why: Cause) -> bool
         Cause::Stopped(_) => true,
         Cause::Complete => false,
         Cause::NoWage(_) => false,
+        Cause::NoBook => false,
+        Cause::ManyLines => false,
     }
 }

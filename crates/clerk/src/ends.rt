@@ -2,7 +2,7 @@
 ghost use mathlib.Core.Path.{_≡_};
 ghost use Rattle.clerk.specs.Ends.{is-long, is-unread, sided, refused-under, passed-under, checked-end};
 ghost use Rattle.clerk.specs.Ends.{checked-under, own-place, ran-under, unread-under, ran-end, unread-end};
-ghost use Rattle.clerk.specs.Ends.{completed-if, status-of, printed-of};
+ghost use Rattle.clerk.specs.Ends.{completed-if, shift-end, unread-shift, status-of, told-status, printed-of};
 use crate::causes::Cause;
 use grumpy::answers::Checked;
 use grumpy::answers::PairChecked;
@@ -11,6 +11,7 @@ use grumpy::answers::Ran;
 use layout::values::Value;
 use numbers::Refusal;
 use pairs::Spot;
+use shift::Why;
 
 pub enum End {
     // It passed, and has the type with this number.
@@ -227,6 +228,28 @@ pub fn completed(end: End, unread: bool) -> End
     }
 }
 
+// What came of a shift that is refused, with a call under its book.
+pub fn of_shift(why: Why, spot: Spot) -> End
+    ensures { λ r. ⌜ r ≡ shift-end why spot ⌝ }
+{
+    match why {
+        Why::Sheet(refusal) => refused(refusal, spot),
+        Why::NoBook => End::Refused(Cause::NoBook, 0),
+        Why::ManyLines => End::Refused(Cause::ManyLines, 0),
+    }
+}
+
+// Is this book, with a call under it, no program?
+pub fn unread_shift(why: Why) -> bool
+    ensures { λ r. ⌜ r ≡ unread-shift why ⌝ }
+{
+    match why {
+        Why::Sheet(refusal) => is_unread(refusal),
+        Why::NoBook => false,
+        Why::ManyLines => false,
+    }
+}
+
 // The status that the program ends with: 0 where all is well, and else 1.
 pub fn status(end: End) -> u32
     ensures { λ r. ⌜ r ≡ status-of end ⌝ }
@@ -248,6 +271,13 @@ pub fn status(end: End) -> u32
             printed: _,
         } => 1,
     }
+}
+
+// The same of a shift that was told: 1 where there was a line too many.
+pub fn shift_status(over: bool) -> u32
+    ensures { λ r. ⌜ r ≡ told-status over ⌝ }
+{
+    if over { 1 } else { 0 }
 }
 
 // How many bytes the sheet printed.

@@ -7,6 +7,7 @@ pub mod fields;
 pub mod machines;
 pub mod mistakes;
 pub mod people;
+pub mod shifts;
 pub mod tasks;
 mod types;
 mod words;

@@ -5,9 +5,13 @@ use crate::causes::Cause;
 use crate::ends::End;
 use crate::fields;
 use crate::fields::field;
+use crate::shifts;
+use crate::types;
 use crate::words;
+use numbers::Stop;
 use page::put;
 use page::spot;
+use tally::sums::Sums;
 
 fn sheet(out: &mut [u8], at: usize, file: &[u8]) -> usize
     ensures { λ r. ⌜ Counts r (now (out .exit)) ⌝ }
@@ -113,4 +117,101 @@ pub fn report(
             ran(out, d, units, allowance, printed)
         }
     }
+}
+
+// A name and a number that may be below 0.
+fn amount(out: &mut [u8], at: usize, name: &[u8], n: i64) -> usize
+    ensures { λ r. ⌜ Counts r (now (out .exit)) ⌝ }
+{
+    let a = put(out, at, name);
+    let b = put(out, a, b" ");
+    let c = types::signed(out, b, n);
+    put(out, c, b"\n")
+}
+
+// How many lines came to a stop; those that came to none are told too.
+fn stop(out: &mut [u8], at: usize, name: &[u8], sums: Sums, why: Stop) -> usize
+    ensures { λ r. ⌜ Counts r (now (out .exit)) ⌝ }
+{
+    let lines = shifts::stopped(sums, why);
+    field(out, at, name, lines as u64)
+}
+
+// The stops from 50, from 53 and from 56 on.
+fn first_stops(out: &mut [u8], at: usize, sums: Sums) -> usize
+    ensures { λ r. ⌜ Counts r (now (out .exit)) ⌝ }
+{
+    let a = stop(out, at, b"stopped-50", sums, Stop::NoUnit);
+    let b = stop(out, a, b"stopped-51", sums, Stop::TooDeep);
+    stop(out, b, b"stopped-52", sums, Stop::OutOfRange)
+}
+
+fn second_stops(out: &mut [u8], at: usize, sums: Sums) -> usize
+    ensures { λ r. ⌜ Counts r (now (out .exit)) ⌝ }
+{
+    let a = stop(out, at, b"stopped-53", sums, Stop::ZeroDivisor);
+    let b = stop(out, a, b"stopped-54", sums, Stop::CellFreed);
+    stop(out, b, b"stopped-55", sums, Stop::CellsFull)
+}
+
+fn third_stops(out: &mut [u8], at: usize, sums: Sums) -> usize
+    ensures { λ r. ⌜ Counts r (now (out .exit)) ⌝ }
+{
+    let a = stop(out, at, b"stopped-56", sums, Stop::NotAByte);
+    let b = stop(out, a, b"stopped-57", sums, Stop::OutputFull);
+    stop(out, b, b"stopped-58", sums, Stop::ZeroStep)
+}
+
+fn stops(out: &mut [u8], at: usize, sums: Sums) -> usize
+    ensures { λ r. ⌜ Counts r (now (out .exit)) ⌝ }
+{
+    let a = first_stops(out, at, sums);
+    let b = second_stops(out, a, sums);
+    third_stops(out, b, sums)
+}
+
+fn counts(out: &mut [u8], at: usize, sums: Sums) -> usize
+    ensures { λ r. ⌜ Counts r (now (out .exit)) ⌝ }
+{
+    let a = field(out, at, b"lines", sums.lines as u64);
+    let b = field(out, a, b"bad", sums.bad as u64);
+    let c = stops(out, b, sums);
+    field(out, c, b"paid", sums.paid as u64)
+}
+
+fn amounts(out: &mut [u8], at: usize, sums: Sums) -> usize
+    ensures { λ r. ⌜ Counts r (now (out .exit)) ⌝ }
+{
+    let a = amount(out, at, b"sum", sums.sum);
+    let b = amount(out, a, b"least", sums.least);
+    amount(out, b, b"largest", sums.largest)
+}
+
+// Whether all is well: `over` where there was a line too many.
+fn outcome(out: &mut [u8], at: usize, over: bool) -> usize
+    ensures { λ r. ⌜ Counts r (now (out .exit)) ⌝ }
+{
+    if over {
+        return meaning(out, at, Cause::ManyLines);
+    }
+    well(out, at)
+}
+
+// The whole report of a shift.
+pub fn shift(
+    out: &mut [u8],
+    status: u32,
+    file: &[u8],
+    allowance: u64,
+    over: bool,
+    sums: Sums,
+) -> usize
+    ensures { λ r. ⌜ Counts r (now (out .exit)) ⌝ }
+{
+    let a = field(out, 0, b"status", status as u64);
+    let b = sheet(out, a, file);
+    let c = outcome(out, b, over);
+    let d = field(out, c, b"allowance", allowance);
+    let e = counts(out, d, sums);
+    amounts(out, e, sums)
 }

@@ -1,7 +1,7 @@
 // Whether as many plain words stand there as a task takes; and which edition is asked for.
 ghost use mathlib.Core.Path.{_≡_};
-ghost use Rattle.clerk.specs.Asked.{one-word, two-words, three-words, fitting, wanted-if, wanted-of};
-ghost use Rattle.clerk.specs.Asked.{edition-of};
+ghost use Rattle.clerk.specs.Asked.{one-word, two-words, three-words, two-or-three, fitting};
+ghost use Rattle.clerk.specs.Asked.{wanted-if, wanted-of, edition-of};
 use crate::asked::Asked;
 use crate::asked::Count;
 use crate::asked::Task;
@@ -52,7 +52,20 @@ fn three(plain: Count) -> bool
     }
 }
 
-// The rows: a sheet and two numbers; a sheet; a sheet, and an allowance if it is wanted.
+fn two_or_three(plain: Count) -> bool
+    ensures { λ r. ⌜ r ≡ two-or-three plain ⌝ }
+{
+    match plain {
+        Count::None => false,
+        Count::One => false,
+        Count::Two => true,
+        Count::Three => true,
+        Count::More => false,
+    }
+}
+
+// The rows: a sheet and two numbers; a sheet; a sheet, and an allowance if it is wanted; the same with a file of
+// lines behind the sheet.
 fn fits(task: Task, plain: Count) -> bool
     ensures { λ r. ⌜ r ≡ fitting task plain ⌝ }
 {
@@ -62,6 +75,7 @@ fn fits(task: Task, plain: Count) -> bool
         Task::CheckWhole => one(plain),
         Task::Run => two(plain),
         Task::Write => one(plain),
+        Task::Shift => two_or_three(plain),
         Task::Help => true,
         Task::Version => true,
     }

@@ -48,7 +48,7 @@ pub fn name(out: &mut [u8], at: usize, type_number: u32) -> usize
     refs(out, a, type_number)
 }
 
-fn signed(out: &mut [u8], at: usize, n: i64) -> usize
+pub fn signed(out: &mut [u8], at: usize, n: i64) -> usize
     ensures { λ r. ⌜ Counts r (now (out .exit)) ⌝ }
     ensures { λ r. ⌜ Adds (signed-words n) (now (out .entry)) (now (out .exit)) at r ⌝ }
 {

@@ -141,5 +141,15 @@ pub fn words(out: &mut [u8], at: usize, why: Cause) -> usize
             b"the sheet is whole already: slip run and slip check --whole take it as it stands",
         ),
         Cause::NoWage(type_number) => no_wage(out, at, type_number),
+        Cause::NoBook => put(
+            out,
+            at,
+            b"no function pay from two ints to int, or something outside the functions",
+        ),
+        Cause::ManyLines => put(
+            out,
+            at,
+            b"more than 65536 lines; the report is of the first 65536",
+        ),
     }
 }

@@ -7,3 +7,4 @@ pub mod Rewriting
 pub mod HeadOffice
 pub mod Moves
 pub mod TwoSheets
+pub mod Knowing

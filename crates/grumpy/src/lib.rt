@@ -3,9 +3,12 @@
 // loom's, and read them as one. All take the number of an edition first, any number, any bytes, any lent
 // memory and any allowance, and tell what the table of numbers has; what they leave in lent memory follows
 // from that.
+ghost use mathlib.Core.Path.{_≡_};
 ghost use Rattle.language.specs.Answers.{Check, Run};
-ghost use Rattle.language.specs.Edition.{text-in, pair-in};
+ghost use Rattle.language.specs.Edition.{text-in, pair-in, is-known};
+ghost use Rattle.language.specs.Outline.{Outline};
 ghost use Rattle.language.specs.Writing.{Write};
+ghost use Rattle.outlines.specs.Reports.{wanted, outlined-report};
 ghost use Rattle.pairs.specs.Spots.{Shows};
 ghost use Rattle.tokens.specs.Shown.{text-of};
 ghost use Rattle.grumpy.specs.Reports.{checked-report, ran-report, wrote-report};
@@ -26,8 +29,11 @@ use language::TABLE;
 use language::WORK;
 use layout::memory;
 use numbers::Refusal;
+use outlines::Outlined;
 use pairs::Spot;
 use sheets::Seen;
+use tokens::edition::Known;
+use tokens::edition::named;
 use tokens::view::View;
 
 // What check answers for the text that a view shows.
@@ -170,6 +176,34 @@ pub fn write(edition: u32, source: &[u8], table: &mut [u32], out: &mut [u8]) -> 
     let answer = writings::write_or_refuse(source, table, out, seen);
     memory::clear(table, 0, TABLE);
     answer
+}
+
+// Whether a number names an edition.
+pub fn knows(edition: u32) -> bool
+    ensures { λ r. ⌜ r ≡ is-known edition ⌝ }
+{
+    match named(edition) {
+        Known::Is(_) => true,
+        Known::None => false,
+    }
+}
+
+// What two sheets have, without running them: whether their last expression is a number alone, and whether
+// there is a function of this name that takes and gives these types, told by their numbers.
+pub fn outline(
+    edition: u32,
+    first: &[u8],
+    second: &[u8],
+    table: &mut [u32],
+    name: &[u8],
+    takes: &[u32],
+    gives: u32,
+) -> Outlined
+    ensures { λ r. ⌜ Outline (pair-in edition (now (first .entry)) (now (second .entry)))
+        (wanted (now (name .entry)) (now (takes .entry)) gives) (now (table .entry)) (outlined-report r)
+        (now (table .exit)) ⌝ }
+{
+    outlines::outline(edition, first, second, table, name, takes, gives)
 }
 
 // The line that a spot shows, as a part of its sheet.

@@ -9,6 +9,8 @@ ghost use Rattle.grumpy_c.specs.Reports.{ToldChecked, ToldRan, ToldWrote
 ghost use Rattle.grumpy_c.specs.Pairs.{ToldPairChecked, ToldPairRan, PairCheckedC, PairRanC};
 
 mod reports;
+mod shifts;
+mod states;
 mod words;
 
 use crate::reports::write_pair_check_report;

@@ -10,6 +10,7 @@ pub mod FewNodes
 pub mod OwnTokens
 pub mod OwnOnce
 pub mod Prefixes
+pub mod SameTokens
 pub mod FirstWrong
 pub mod WrongPlaces
 pub mod BeforeFloats

@@ -6,3 +6,4 @@ pub mod Meaning
 pub mod Answers
 pub mod Writing
 pub mod Pairs
+pub mod Shift

@@ -1,6 +1,6 @@
 -- The editions of the language: each is a vocabulary, which a caller names by a number (R12.2). An origin that reads by
 -- a vocabulary is one that reads by the caller's number; places are told alike in every edition.
-use mathlib.Core.Bool.{cond}
+use mathlib.Core.Bool.{Bool, true, false, cond}
 use mathlib.Core.List.{List}
 use mathlib.Core.Option.{Option, none, some}
 use mathlib.Core.Path.{_≡_}
@@ -14,6 +14,14 @@ use Rattle.language.specs.Pairs.{Place, from-pair}
 -- the vocabulary that a number names
 unfoldable pub edition : ℕ → Option Vocabulary
 edition n = cond (eqb n 1) (some EDITION-1) (cond (eqb n 2) (some EDITION-2) none)
+
+abbrev pub is-some : {A : Type 0} → Option A → Bool
+is-some none = false
+is-some (some a) = true
+
+-- whether it names one
+unfoldable pub is-known : ℕ → Bool
+is-known n = is-some (edition n)
 
 module _ {P : Type 0} (n : ℕ) (o : Vocabulary → Origin P) where
   -- a number that names none is told before all that the origin denies

@@ -14,3 +14,6 @@ pub mod Answers
 pub mod Writing
 pub mod Pairs
 pub mod Edition
+pub mod Outline
+pub mod Shift
+pub mod Feeding

@@ -49,3 +49,7 @@ DIGITS = 15
 -- the largest value of a byte
 abbrev pub BYTE : ℕ
 BYTE = 255
+
+-- lines of a shift (R14.6)
+abbrev pub LINES : ℕ
+LINES = 65536

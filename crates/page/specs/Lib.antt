@@ -2,5 +2,6 @@ pub mod Amounts
 pub mod Characters
 pub mod Floats
 pub mod Lines
+pub mod Money
 pub mod Sheet
 pub mod Text

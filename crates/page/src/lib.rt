@@ -1,6 +1,6 @@
 // What the program around the box does with bytes: it reads a number among its arguments, spells the call
 // of a shift, finds the line and the column of a place, puts text behind text so that it can be seen, writes a
-// float for who reads it, and takes a number's sign off.
+// float or pence for who reads it, and takes a number's sign off.
 ghost use mathlib.Core.Path.{_≡_};
 ghost use Prim.Native.Nat.{min};
 ghost use lib.IntN.{natAbs};
@@ -12,6 +12,7 @@ mod bytes;
 mod characters;
 mod floats;
 pub mod lines;
+mod money;
 mod sheet;
 mod text;
 
@@ -26,6 +27,7 @@ pub use characters::readable;
 pub use floats::bits;
 pub use floats::float;
 pub use lines::trimmed;
+pub use money::pounds;
 pub use sheet::call;
 pub use text::blanks;
 pub use text::decimal;

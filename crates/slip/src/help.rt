@@ -21,22 +21,26 @@ fn written(done: bool) -> u32 {
 // What `--help` is answered.
 pub fn help() -> u32 {
     let done = say(
-        b"slip RATE-SHEET PICKS RATE     sets pay(PICKS,RATE) under the sheet and runs it
-slip check RATE-SHEET          checks a rate sheet, with a call under it, and runs nothing
-slip check --whole SHEET       checks a whole sheet as it stands
-slip run SHEET [ALLOWANCE]     runs a whole sheet as it stands, by default with 1000000 units
-slip write SHEET               writes a whole sheet out again, its tokens with one space between them
-slip --help                    this text
-slip --version                 editions and sizes
-./slip --prove [WORDS]         proves the program first, and from then on uses the proved one
+        b"slip RATE-SHEET PICKS RATE         sets pay(PICKS,RATE) under the sheet and runs it
+slip check RATE-SHEET              checks a rate sheet, with a call under it, and runs nothing
+slip check --whole SHEET           checks a whole sheet as it stands
+slip run SHEET [ALLOWANCE]         runs a whole sheet as it stands, by default with 1000000 units
+slip write SHEET                   writes a whole sheet out again, its tokens with one space between them
+slip shift BOOK LINES [ALLOWANCE]  pays each line of a shift by the book, and tells what they come to
+slip --help                        this text
+slip --version                     editions and sizes
+./slip --prove [WORDS]             proves the program first, and from then on uses the proved one
 
---edition NUMBER               the edition of the language that the sheet is written in, 1 or 2; 1 without it
---report FILE                  writes the report for machines too, a name and a value on each line
---                             no word behind it is an option
+--edition NUMBER                   the edition of the language that the sheet is written in, 1 or 2; 1 without it
+--report FILE                      writes the report for machines too, a name and a value on each line
+--                                 no word behind it is an option
 
 A sheet is a file; - is standard input. PICKS and RATE are 0 to 2147483647, ALLOWANCE is 0 to 1000000.
-What the sheet prints goes to standard output, the report to standard error. Status: 0 paid or passed,
-1 refused or stopped, 2 where the words do not serve, or a file cannot be read or an output written.
+A book is a sheet of functions, pay among them. A line of a shift is a loom in 4 digits of hexadecimal, then
+picks and rate in 8 each, in capitals, and a line feed; there may be 65536 of them. ALLOWANCE is for each.
+What the sheet prints goes to standard output, the report to standard error; the report of a shift goes to
+standard output, and what the book prints is dropped. Status: 0 paid or passed, 1 refused or stopped, 2 where
+the words do not serve, or a file cannot be read or an output written.
 ",
     );
     written(done)

@@ -90,6 +90,17 @@ pub fn number(word: usize, what: &[u8], most: u32) -> Number {
     numbered(found, what, &name[..length], most)
 }
 
+// The largest allowance, which is the usual one.
+const UNITS: u32 = language::ALLOWANCE as u32;
+
+// The allowance that a word says, if there is one; where it is no number, that was told.
+pub fn allowance(word: usize) -> Number {
+    if word == 0 {
+        return Number::Of(UNITS);
+    }
+    number(word, b"allowance", UNITS)
+}
+
 // The edition that the words name; where the word for it is no number, that was told.
 pub fn edition(asked: Asked) -> Number {
     let mut name = io::buffer();

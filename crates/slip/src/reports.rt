@@ -1,11 +1,14 @@
 // The two reports, written.
 use crate::output;
 use clerk::asked::Asked;
+use clerk::causes::Cause;
 use clerk::ends;
 use clerk::ends::End;
 use clerk::machines;
 use clerk::people;
+use clerk::shifts;
 use language::SOURCE;
+use tally::sums::Sums;
 
 // Room for a line of a sheet in which every byte takes four, the blanks under it, and a file's name.
 const TEXT: usize = 8 * SOURCE + 40000;
@@ -81,6 +84,49 @@ pub fn report(asked: Asked, sheet: &[u8], printed: &[u8], allowance: u64, end: E
         status = 2;
     }
     if !record(asked, status, &file[..length], sheet, allowance, end) {
+        status = 2;
+    }
+    status
+}
+
+fn record_shift(
+    asked: Asked,
+    status: u32,
+    file: &[u8],
+    allowance: u64,
+    over: bool,
+    sums: Sums,
+) -> bool {
+    let mut text = [0u8; TEXT];
+    let n = machines::shift(&mut text, status, file, allowance, over, sums);
+    keep(asked, &text[..n])
+}
+
+// What is to be said behind the report of a shift: nothing, or that its file has a line too many. True if that could
+// be done.
+fn warn(asked: Asked, over: bool) -> bool {
+    if over {
+        let mut file = io::buffer();
+        let length = os::arg(asked.second, &mut file);
+        return tell(&file[..length], b"", 0, End::Refused(Cause::ManyLines, 0));
+    }
+    true
+}
+
+// Tells what came of a shift, on standard output, and answers the status.
+pub fn shift(asked: Asked, allowance: u64, over: bool, sums: Sums) -> u32 {
+    let mut file = io::buffer();
+    let length = os::arg(asked.sheet, &mut file);
+    let mut text = io::buffer();
+    let n = shifts::report(&mut text, sums);
+    if !output::say(&text[..n]) {
+        return failed(asked);
+    }
+    let mut status = ends::shift_status(over);
+    if !warn(asked, over) {
+        status = 2;
+    }
+    if !record_shift(asked, status, &file[..length], allowance, over, sums) {
         status = 2;
     }
     status

@@ -4,6 +4,7 @@ use crate::input;
 use crate::input::Sheet;
 use crate::output;
 use crate::reports;
+use crate::shifts;
 use clerk::asked::Asked;
 use clerk::asked::Task;
 use clerk::asked::Wanted;
@@ -21,10 +22,7 @@ use language::TABLE;
 use language::WORK;
 use page::Number;
 
-// The largest allowance.
-const UNITS: u32 = language::ALLOWANCE as u32;
-
-fn examine(edition: u32, source: &[u8]) -> Checked {
+pub fn examine(edition: u32, source: &[u8]) -> Checked {
     let mut words = [0u32; TABLE];
     let table: &mut [u32] = &mut words;
     grumpy::check(edition, source, table)
@@ -84,18 +82,14 @@ fn check_whole(asked: Asked, edition: u32) -> u32 {
 
 fn run(asked: Asked, edition: u32) -> u32 {
     let mut bytes = [0u8; SOURCE + 1];
-    let mut allowance = ALLOWANCE;
-    if asked.second != 0 {
-        let Number::Of(n) = input::number(asked.second, b"allowance", UNITS) else {
-            return reports::failed(asked);
-        };
-        allowance = n as u64;
-    }
+    let Number::Of(allowance) = input::allowance(asked.second) else {
+        return reports::failed(asked);
+    };
     let Sheet::Bytes(length) = input::load(asked.sheet, &mut bytes) else {
         return reports::failed(asked);
     };
     let n = input::within(length, &bytes);
-    run_whole(asked, edition, &bytes[..n], allowance)
+    run_whole(asked, edition, &bytes[..n], allowance as u64)
 }
 
 // Tells what came of writing; what was written stands first in `out`.
@@ -192,6 +186,7 @@ fn perform(asked: Asked, task: Task, edition: u32) -> u32 {
         Task::CheckWhole => check_whole(asked, edition),
         Task::Run => run(asked, edition),
         Task::Write => write(asked, edition),
+        Task::Shift => shifts::shift(asked, edition),
         Task::Help => help::help(),
         Task::Version => help::version(),
     }
@@ -220,7 +215,9 @@ pub fn serve(asked: Asked) -> u32 {
         Wanted::NoEdition => unclear(asked, b"slip: --edition wants a number behind it, 1 or 2\n"),
         Wanted::Unclear => unclear(
             asked,
-            b"use: slip RATE-SHEET PICKS RATE, slip check [--whole] SHEET, slip run SHEET [ALLOWANCE], slip write SHEET\n",
+            b"use: slip RATE-SHEET PICKS RATE, slip check [--whole] SHEET, slip run SHEET [ALLOWANCE],
+     slip write SHEET, slip shift BOOK LINES [ALLOWANCE]
+",
         ),
     }
 }

@@ -23,7 +23,7 @@ use Rattle.language.proofs.Answers.Pairs.{pair-lawful}
 
 -- ---- the numbers
 
-none-some : {v : Vocabulary} → _≡_ {A = Option Vocabulary} none (some v) → ⊥
+pub none-some : {v : Vocabulary} → _≡_ {A = Option Vocabulary} none (some v) → ⊥
 none-some e = let z : _≡_ {A = ℕ} 0 1 = cc in omega arith
 
 -- a number names one vocabulary, whose laws hold

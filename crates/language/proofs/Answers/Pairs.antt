@@ -119,10 +119,10 @@ module _ (n : ℕ) (first second : List ℕ) where
   denied-joined (unknown e) = unknown e
   denied-joined (known e d) = known e (denied first second d)
 
-  passes-joined : {ts : List Token} {p : Program} {t : Ty} → Passes (text-in n (joined first second)) ts p t → Passes (pair-in n first second) ts p t
+  pub passes-joined : {ts : List Token} {p : Program} {t : Ty} → Passes (text-in n (joined first second)) ts p t → Passes (pair-in n first second) ts p t
   passes-joined x = record { given = given-joined (x .given); proper = x .proper }
 
-  refused-joined : {r : Refusal} {p : ℕ} → Refused (text-in n (joined first second)) r p
+  pub refused-joined : {r : Refusal} {p : ℕ} → Refused (text-in n (joined first second)) r p
       → Refused (pair-in n first second) r (moved first second (refused r) p)
   refused-joined (by-origin d) = by-origin (denied-joined d)
   refused-joined (by-tokens g (unread w)) = by-tokens (given-joined g) (unread w)

@@ -110,7 +110,7 @@ IsToken unclosed = ⊥
 IsToken overlong = Unit {0}
 IsToken (token k v) = Unit {0}
 
-float-token : (n : ℕ) → IsToken (float-content n)
+pub float-token : (n : ℕ) → IsToken (float-content n)
 float-token n = by (leb n 16)
   where
     by : (b : Bool) → IsToken (cond b (token FLOAT-NUMBER 0) overlong)

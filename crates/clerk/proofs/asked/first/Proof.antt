@@ -39,8 +39,14 @@ plain-requires-4 c κs = search needs
 enum-told-6 : tie.Need-enum-told-6
 enum-told-6 c = search needs
 
+plain-requires-5 : tie.Need-plain-requires-5
+plain-requires-5 c κs = search needs
+
 enum-told-7 : tie.Need-enum-told-7
 enum-told-7 c = search needs
+
+enum-told-8 : tie.Need-enum-told-8
+enum-told-8 c = search needs
 
 returns : tie.Need-returns
 returns c = rw (c .before .enum-told .given .1) (c .tasked .ensures)
@@ -66,10 +72,15 @@ returns-5 c =
     c .plain4 .ensures ∙ ap (λ (x : Task). first-word x (a .asked) (a .task) (a .i)) (sym (c .before .enum-told5 .given .1))
 
 returns-6 : tie.Need-returns-6
-returns-6 c = search needs
+returns-6 c =
+    let a = c .before .before .before .args in
+    c .plain5 .ensures ∙ ap (λ (x : Task). first-word x (a .asked) (a .task) (a .i)) (sym (c .before .enum-told6 .given .1))
 
 returns-7 : tie.Need-returns-7
 returns-7 c = search needs
+
+returns-8 : tie.Need-returns-8
+returns-8 c = search needs
 
 pub first-spec : {M : Type 1} → statement M
 first-spec =
@@ -86,11 +97,14 @@ first-spec =
     enum-told-5
     plain-requires-4
     enum-told-6
+    plain-requires-5
     enum-told-7
+    enum-told-8
     returns
     returns-2
     returns-3
     returns-4
     returns-5
     returns-6
-    returns-7)
+    returns-7
+    returns-8)

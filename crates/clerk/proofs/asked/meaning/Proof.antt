@@ -91,27 +91,38 @@ same-requires-9 c κs = search needs
 returns-9 : tie.Need-returns-9
 returns-9 c = c .before .same9 .ensures .0 (c .if9 .taken)
 
+slice-aggregate-same-10 : tie.Need-slice-aggregate-same-10
+slice-aggregate-same-10 c = search needs
+
+same-requires-10 : tie.Need-same-requires-10
+same-requires-10 c κs = search needs
+
+returns-10 : tie.Need-returns-10
+returns-10 c = c .before .same10 .ensures .0 (c .if10 .taken)
+
 is-option-requires : tie.Need-is-option-requires
 is-option-requires c κs = search needs
 
-returns-10 : tie.Need-returns-10
-returns-10 c = sym (c .before .is-option .ensures) ∙ (c .if10 .taken)
-
 returns-11 : tie.Need-returns-11
-returns-11 c =
+returns-11 c = sym (c .before .is-option .ensures) ∙ (c .if11 .taken)
+
+returns-12 : tie.Need-returns-12
+returns-12 c =
     let at-rest = c .before .before in
     let at-version = at-rest .before .before .before in
     let at-help = at-version .before .before .before in
     let at-edition = at-help .before .before .before in
     let at-report = at-edition .before .before .before in
     let at-whole = at-report .before .before .before in
-    let at-write = at-whole .before .before .before in
+    let at-shift = at-whole .before .before .before in
+    let at-write = at-shift .before .before .before in
     let at-run = at-write .before .before .before in
     let at-check = at-run .before .before .before in (
       apart (at-check .before .same .ensures .1) (at-check .if1 .left),
       apart (at-run .before .same2 .ensures .1) (at-run .if2 .left),
       apart (at-write .before .same3 .ensures .1) (at-write .if3 .left),
-      sym (c .before .is-option .ensures) ∙ (c .if10 .left),
+      apart (at-shift .before .same4 .ensures .1) (at-shift .if4 .left),
+      sym (c .before .is-option .ensures) ∙ (c .if11 .left),
     )
 
 pub meaning-spec : {M : Type 1} → statement M
@@ -145,6 +156,9 @@ meaning-spec =
     slice-aggregate-same-9
     same-requires-9
     returns-9
-    is-option-requires
+    slice-aggregate-same-10
+    same-requires-10
     returns-10
-    returns-11)
+    is-option-requires
+    returns-11
+    returns-12)

@@ -36,8 +36,14 @@ unknown-requires-3 c κs = search needs
 enum-told-6 : tie.Need-enum-told-6
 enum-told-6 c = search needs
 
+unknown-requires-4 : tie.Need-unknown-requires-4
+unknown-requires-4 c κs = search needs
+
 enum-told-7 : tie.Need-enum-told-7
 enum-told-7 c = search needs
+
+enum-told-8 : tie.Need-enum-told-8
+enum-told-8 c = search needs
 
 returns : tie.Need-returns
 returns c = rw (c .before .enum-told .given .1) (c .tasked .ensures)
@@ -61,10 +67,15 @@ returns-5 c =
     c .unknown3 .ensures ∙ ap (λ (x : Task). with-whole x (a .asked) (a .i)) (sym (c .before .enum-told5 .given .1))
 
 returns-6 : tie.Need-returns-6
-returns-6 c = search needs
+returns-6 c =
+    let a = c .before .before .before .args in
+    c .unknown4 .ensures ∙ ap (λ (x : Task). with-whole x (a .asked) (a .i)) (sym (c .before .enum-told6 .given .1))
 
 returns-7 : tie.Need-returns-7
 returns-7 c = search needs
+
+returns-8 : tie.Need-returns-8
+returns-8 c = search needs
 
 pub whole-spec : {M : Type 1} → statement M
 whole-spec =
@@ -80,11 +91,14 @@ whole-spec =
     enum-told-5
     unknown-requires-3
     enum-told-6
+    unknown-requires-4
     enum-told-7
+    enum-told-8
     returns
     returns-2
     returns-3
     returns-4
     returns-5
     returns-6
-    returns-7)
+    returns-7
+    returns-8)

@@ -1,32 +1,16 @@
 -- `signed` puts a dash before what is below 0.
-use borrow.Author.Tests.{ltb-true}
-use lib.Dec.{T}
-use native.Mathlib.Omega.{arith}
-use lib.IntN.{ℤ, pos, negsuc, natAbs}
+use lib.IntN.{ℤ, pos, natAbs}
 use lib.Signed.{ltZ}
 use mathlib.Core.Bool.{true, false}
-use mathlib.Core.List.{_++_}
 use mathlib.Core.Path.{_≡_, _∙_, ap, subst}
 use mir.Facts.{toZ-ofZ}
 use mir.Syntax.{w64}
-use Prim.Native.Nat.{ℕ, _<_}
-use Rattle.language.specs.Tokens.{spell}
 use Rattle.page.specs.Text.{decimal-of}
 use Rattle.page.proofs.Adding.{being, both}
-use Rattle.clerk.specs.Values.{signed-words}
+use Rattle.clerk.proofs.Signs.{below, above}
 use borrow.Author.Needs.{needs}
 use Rattle.clerk.proofs.types.signed.Statement.{statement}
 use Rattle.clerk.proofs.types.signed.Tie as tie
-
-below : (z : ℤ) → ltZ z (pos 0) ≡ true → {m : ℕ} → m ≡ natAbs z → spell "-" ++ decimal-of m ≡ signed-words z
-unfolding signed-words
-below (pos n) h e = let l : n < 0 = ltb-true n 0 h in absurd (omega arith)
-below (negsuc n) h e = rw e
-
-above : (z : ℤ) → ltZ z (pos 0) ≡ false → {m : ℕ} → m ≡ natAbs z → decimal-of m ≡ signed-words z
-unfolding signed-words
-above (pos n) h e = rw e
-above (negsuc n) h e = absurd (subst T h tt)
 
 magnitude-requires : tie.Need-magnitude-requires
 magnitude-requires c κs = search needs
@@ -51,7 +35,7 @@ returns c =
     let start = at-magnitude .before .before in
     let f = start .fits .n in
     being
-    (below (start .args .n) (subst (λ (x : ℤ). ltZ x (pos 0) ≡ true) (toZ-ofZ {w = w64} f) (at-if1 .if1 .taken))
+    (below decimal-of (start .args .n) (subst (λ (x : ℤ). ltZ x (pos 0) ≡ true) (toZ-ofZ {w = w64} f) (at-if1 .if1 .taken))
     (at-magnitude .magnitude .ensures ∙ ap natAbs (toZ-ofZ {w = w64} f))) (both (at-put .put .ensures) (c .before .before .decimal .ensures))
 
 decimal-requires-2 : tie.Need-decimal-requires-2
@@ -67,7 +51,7 @@ returns-2 c =
     let start = at-magnitude .before .before in
     let f = start .fits .n in
     being
-    (above (start .args .n) (subst (λ (x : ℤ). ltZ x (pos 0) ≡ false) (toZ-ofZ {w = w64} f) (at-if1 .if1 .left))
+    (above decimal-of (start .args .n) (subst (λ (x : ℤ). ltZ x (pos 0) ≡ false) (toZ-ofZ {w = w64} f) (at-if1 .if1 .left))
     (at-magnitude .magnitude .ensures ∙ ap natAbs (toZ-ofZ {w = w64} f))) (c .before .before .decimal2 .ensures)
 
 pub signed-spec : {M : Type 1} → statement M

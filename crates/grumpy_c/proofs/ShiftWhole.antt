@@ -1,0 +1,116 @@
+-- The three functions of a shift for C, one after the other: what the words of a state stand for, from an empty input on to the
+-- written report of the whole one, wherever it was cut (R14.6, R14.8).
+use mathlib.Core.Bool.{Bool, true, false, false≢true}
+use mathlib.Core.List.{List, [], _++_}
+use mathlib.Core.Logic.{_⊎_, inl, inr}
+use mathlib.Core.Option.{Option, none, some}
+use mathlib.Core.Path.{_≡_, refl, sym, ap, subst, _∙_}
+use native.Mathlib.Omega.{arith}
+use Prim.Native.Nat.{ℕ, _≤_, _<_}
+use lib.ListN.{length}
+use Rattle.language.specs.Answers.{Lent}
+use Rattle.language.specs.Edition as Edition
+use Rattle.language.specs.Numbers.{short-memory, large-allowance, no-edition, long-source, text, no-reading, types, long-text}
+use Rattle.language.specs.Shift.{ShiftRefusal, sheet, no-book, many-lines, turned-away, Admits, Report}
+use Rattle.language.specs.Shift as Shift
+use Rattle.language.specs.Tokens.{Vocabulary}
+use Rattle.language.proofs.Shift.OneReport.{one-admission}
+use Rattle.tally.specs.Stands.{report-in}
+use Rattle.shift.specs.After.{After, Grows}
+use Rattle.shift.specs.Meanings.{admission-meant, granted, keeps-all, lent, over-told}
+use Rattle.shift.specs.Promises.{Feeds, feeds, turned, finished}
+use Rattle.shift.specs.Promises as Promises
+use Rattle.shift.specs.declared.Admission.{Admission}
+use Rattle.shift.specs.declared.State.{State}
+use Rattle.shift.proofs.Growing.{after-start}
+use Rattle.grumpy_c.specs.Words.{with-front}
+use Rattle.grumpy_c.specs.States.{STATE, state-in, Holds}
+use Rattle.grumpy_c.specs.Shifts.{BEGIN, FEED, FINISH, told-number, report-words, Left, as-before, held, refuses, BeganC, begin-no-room}
+use Rattle.grumpy_c.specs.Shifts.{begin-told, FedC, feed-no-room, feed-told, FinishedC, finish-no-room, finish-told}
+
+-- ---- which state there is
+
+left-held : {w w′ : List ℕ} {s : State} (b : Bool) → Left w s w′ b → b ≡ false → Holds w s w′
+left-held true (as-before e) z = absurd (false≢true (sym z))
+left-held false (held h) z = h
+
+-- all but 40 leave a new one
+not-kept : (t : Option ShiftRefusal) → (told-number t ≡ 40 → ⊥) → keeps-all t ≡ false
+not-kept none other = refl
+not-kept (some (sheet short-memory)) other = absurd (other refl)
+not-kept (some (sheet large-allowance)) other = refl
+not-kept (some (sheet no-edition)) other = refl
+not-kept (some (sheet long-source)) other = refl
+not-kept (some (sheet (text f))) other = refl
+not-kept (some (sheet no-reading)) other = refl
+not-kept (some (sheet (types r))) other = refl
+not-kept (some (sheet long-text)) other = refl
+not-kept (some no-book) other = refl
+not-kept (some many-lines) other = refl
+
+not-granted : {y : ShiftRefusal} {A : Type 0} → _≡_ {A = Option ShiftRefusal} (some y) none → A
+not-granted e = let z : _≡_ {A = ℕ} 0 1 = cc in absurd (omega arith)
+
+not-refused : (a : Admission) → admission-meant a .told ≡ none → refuses a ≡ false
+not-refused Admission.Granted e = refl
+not-refused (Admission.Refused w x) e = not-granted e
+
+-- ---- begun
+
+module _ {edition : ℕ} {book table work : List ℕ} {allowance : ℕ} {state report table′ work′ state′ report′ : List ℕ} {n : ℕ} where
+  pub begin-stands : BeganC edition book table work allowance state report table′ work′ state′ report′ n → (n ≡ 40 → ⊥) → (l : Lent) (output : List ℕ)
+      → After edition book l output [] (state-in state′) output
+  begin-stands (begin-no-room h e a b c d) other l output = absurd (other e)
+  begin-stands (begin-told {a} h k b e x t) other l output =
+      let z : Holds state (a .state) state′ = left-held _ x (not-kept (admission-meant (a .told) .told) (λ z. other (e ∙ z))) in
+      subst (λ (s : State). After edition book l output [] s output) (sym (z .read ∙ b .state)) (after-start allowance output)
+
+-- ---- fed
+
+grown : {edition : ℕ} {book piece out out′ : List ℕ} {l : Lent} {s s′ : State} {a : Admission} → Feeds edition book piece out l s out′ a s′
+    → refuses a ≡ false → Grows edition book l piece s out s′ out′
+grown (feeds e g) z = g
+grown (turned e) z = absurd (false≢true (sym z))
+
+-- what is lent to a piece
+abbrev pub lent-with : List ℕ → List ℕ → List ℕ → List ℕ → Lent
+lent-with table work out state = lent table work (length out) (state-in state .allowance)
+
+module _ {edition : ℕ} {book piece table work out state report table′ work′ out′ state′ report′ : List ℕ} {n : ℕ} where
+  pub feed-stands : FedC edition book piece table work out state report table′ work′ out′ state′ report′ n → STATE ≤ length state
+      → FEED ≤ length report → Admits edition book (lent-with table work out state) granted → (output input : List ℕ)
+      → After edition book (lent-with table work out state) output input (state-in state) out
+      → After edition book (lent-with table work out state) output (input ++ piece) (state-in state′) out′
+  feed-stands (feed-no-room (inl h) a b c d e f) long room g output input s = absurd (omega arith)
+  feed-stands (feed-no-room (inr h) a b c d e f) long room g output input s = absurd (omega arith)
+  feed-stands (feed-told {a} h k f e x t) long room g output input s =
+      let plain = not-refused (a .told) (ap (λ (z : Shift.Admission). z .told) (one-admission (f .admits) g)) in
+      let z : Holds state (a .state) state′ = left-held _ x plain in
+      subst (λ (m : State). After edition book (lent-with table work out state) output (input ++ piece) m out′) (sym (z .read))
+      (grown (f .tells) plain output input s)
+
+-- ---- finished
+
+-- the written report of the input that the state stands for, in words
+pub record Reported (edition : ℕ) (book : List ℕ) (l : Lent) (input output report report′ : List ℕ) (n : ℕ) (output′ : List ℕ) : Type 0 where
+  pub told : Option ShiftRefusal
+  pub written : Report
+  pub shift : Shift.Shift edition book l input output told written output′
+  pub number : n ≡ told-number told
+  pub words : report′ ≡ with-front report (report-words n written)
+
+module _ {edition : ℕ} {state report report′ : List ℕ} {n : ℕ} where
+  pub finish-stands : FinishedC edition state report report′ n → STATE ≤ length state → FINISH ≤ length report → (v : Vocabulary)
+      → Edition.edition edition ≡ some v → (ed : ℕ) (book : List ℕ) (l : Lent) (output input output′ : List ℕ)
+      → After ed book l output input (state-in state) output′ → Reported ed book l input output report report′ n output′
+  finish-stands (finish-no-room (inl h) a b) long room v known ed book l output input output′ s = absurd (omega arith)
+  finish-stands (finish-no-room (inr h) a b) long room v known ed book l output input output′ s = absurd (omega arith)
+  finish-stands (finish-told h k (finished {over} {sums} z r) m t) long room v known ed book l output input output′ s = record {
+    told = over-told over;
+    written = report-in sums;
+    shift = r ed book l output input output′ s;
+    number = m;
+    words = t;
+  }
+  finish-stands (finish-told h k (Promises.no-edition z) m t) long room v known ed book l output input output′ s =
+      let z : _≡_ {A = ℕ} 0 1 = cc in absurd (omega arith)

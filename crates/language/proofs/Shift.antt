@@ -1,0 +1,15 @@
+-- What follows from the written shift report.
+pub mod Alike
+pub mod Decimals
+pub mod CallText
+pub mod CallReads
+pub mod CallTypes
+pub mod BookText
+pub mod NeverRefused
+pub mod LineOutcomes
+pub mod OneReport
+pub mod Cuts
+pub mod Whole
+pub mod Totals
+pub mod Books
+pub mod Examples

@@ -1,0 +1,10 @@
+pub mod Sound
+pub mod Kept
+pub mod Growing
+pub mod Finishing
+pub mod Admitting
+pub mod Running
+pub mod Going
+pub mod Learnt
+pub mod Pieces
+pub mod InPieces

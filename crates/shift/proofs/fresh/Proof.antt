@@ -1,0 +1,16 @@
+-- `fresh` is a shift before its first line.
+use borrow.Author.Needs.{needs}
+use Rattle.shift.proofs.fresh.Statement.{statement}
+use Rattle.shift.proofs.fresh.Tie as tie
+
+none-requires : tie.Need-none-requires
+none-requires c κs = search needs
+
+none-requires-2 : tie.Need-none-requires-2
+none-requires-2 c κs = search needs
+
+returns : tie.Need-returns
+returns c = cc
+
+pub fresh-spec : {M : Type 1} → statement M
+fresh-spec = tie.close (tie.spec none-requires none-requires-2 returns)

@@ -1,0 +1,5 @@
+pub mod Meanings
+pub mod After
+pub mod Admitting
+pub mod Feeding
+pub mod Promises

@@ -1,0 +1,5 @@
+-- Laws that the proofs of `tally` cite.
+pub mod Laws
+pub mod Reported
+pub mod Jobs
+pub mod CallText
