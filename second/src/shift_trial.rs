@@ -131,7 +131,8 @@ impl Lending<'_> {
         Ok((number != 0).then_some(number))
     }
 
-    /// The same call with a memory too short, which changes nothing at all.
+    /// The same call with a memory too short, which changes nothing at all; of a state or a report that is too short
+    /// not even the report tells.
     fn at_times_short(
         &mut self,
         service: Service,
@@ -145,7 +146,7 @@ impl Lending<'_> {
             _ => return Ok(()),
         };
         let report = match short {
-            Short::Report => vec![],
+            Short::Report | Short::State => vec![],
             _ => vec![Some(0); words],
         };
         let due = Due {
@@ -219,7 +220,10 @@ impl Lending<'_> {
         }
         let number = self.other.call(call)?;
         // After a refusal it is open whether finish tells it once more.
-        let retold = service == Service::ShiftFinish && short == Short::Nothing && number == 0;
+        // So it is with an edition that is none, which finish may tell by itself.
+        let unknown = number == 42 && !(1..=2).contains(&lent.edition);
+        let retold =
+            service == Service::ShiftFinish && short == Short::Nothing && (number == 0 || unknown);
         if number != due.number && !retold {
             return Err(format!("returned {number}, not {}", due.number));
         }
@@ -260,7 +264,7 @@ struct Loans {
 
 impl Loans {
     fn compare(&mut self, number: u32, due: &Due, short: Short) -> Result<(), String> {
-        if short != Short::Report {
+        if short != Short::Report && short != Short::State {
             let told = self.report.lent().to_vec();
             let words = due.report.iter().zip(&told[1..]);
             let words = words.map(|(due, told)| due.unwrap_or(*told));
