@@ -25,6 +25,8 @@ is-long Refusal.LongText = false
 is-long Refusal.NotHexadecimal = false
 is-long Refusal.WrongCount = false
 is-long Refusal.NotOneToken = false
+is-long Refusal.EndlessNode = false
+is-long Refusal.ManyUnits = false
 
 abbrev pub is-unread : Refusal → Bool
 is-unread Refusal.ShortMemory = false
@@ -38,6 +40,8 @@ is-unread Refusal.LongText = false
 is-unread Refusal.NotHexadecimal = false
 is-unread Refusal.WrongCount = false
 is-unread Refusal.NotOneToken = false
+is-unread Refusal.EndlessNode = false
+is-unread Refusal.ManyUnits = false
 
 -- ---- a rate sheet, with a call under it as the second sheet
 
