@@ -5,6 +5,9 @@ use crate::output;
 use crate::reports;
 use crate::serve;
 use clerk::asked::Asked;
+use clerk::counts::Limits;
+use clerk::counts::Most;
+use clerk::counts::unlimited;
 use clerk::ends;
 use grumpy::answers::Checked;
 use language::SOURCE;
@@ -57,7 +60,7 @@ pub fn check(asked: Asked, edition: u32) -> u32 {
     };
     let n = input::within(length, &bytes);
     let end = ends::of_check(examine(edition, &bytes[..n]));
-    reports::report_stored(asked, b"", 0, end)
+    reports::report_stored(asked, b"", unlimited(), end)
 }
 
 // Runs it, and reports; what was printed stands first in `out`.
@@ -71,7 +74,11 @@ fn run_lines(asked: Asked, edition: u32, stored: &[u8], allowance: u64) -> u32 {
     let answer = grumpy::run_stored(edition, stored, table, work, out, allowance);
     let end = ends::of_run(answer);
     let n = input::within(ends::printed(end), out);
-    reports::report_stored(asked, &out[..n], allowance, end)
+    let limits = Limits {
+        allowance,
+        most: Most::Unknown,
+    };
+    reports::report_stored(asked, &out[..n], limits, end)
 }
 
 pub fn run(asked: Asked, edition: u32) -> u32 {
