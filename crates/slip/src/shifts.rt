@@ -55,7 +55,7 @@ fn progress(before: u32, after: u32) {
 }
 
 // A piece was fed; behind a line too many no byte changes anything.
-fn fed(state: State) -> Fed {
+fn after(state: State) -> Fed {
     if state.over {
         return Fed {
             reading: Reading::End,
@@ -84,7 +84,7 @@ fn feed(
     match told {
         Admission::Granted => {
             progress(state.sums.lines, next.sums.lines);
-            fed(next)
+            after(next)
         }
         Admission::Refused(why, spot) => Fed {
             reading: Reading::Refused(why, spot),
@@ -147,7 +147,8 @@ fn pieces(
     let mut left = PIECES;
     while 0 < left {
         let fed = read(fd, edition, book, bytes, table, work, out, state);
-        if !goes_on(fed.reading) {
+        let reading = fed.reading;
+        if !goes_on(reading) {
             return fed;
         }
         let next = fed.state;
