@@ -33,7 +33,7 @@ int main(int count, char **words) {
     return 2;
   uint32_t number =
       grumpy_profile(GRUMPY_EDITION_1, sheet, length, table, GRUMPY_TABLE, report, GRUMPY_PROFILE_REPORT);
-  printf("number %" PRIu64 "\nplace %" PRIu64 "\ntype %" PRIu64 "\ncount %" PRIu64 "\n", report[0], report[1], report[2],
-         report[3]);
+  printf("number %" PRIu64 "\nplace %" PRIu64 "\n", report[0], report[1]);
+  printf("type %" PRIu64 "\ncount %" PRIu64 "\n", report[2], report[3]);
   return number == GRUMPY_OK ? 0 : 1;
 }
