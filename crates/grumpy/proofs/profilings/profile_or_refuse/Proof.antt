@@ -7,13 +7,16 @@ enum-known-seen : tie.Need-enum-known-seen
 enum-known-seen c = search needs
 
 profile-requires : tie.Need-profile-requires
-profile-requires c κs = payable-sheet _ _ _ _ (c .before .before .before .before .before .before .pre) (c .before .before .seen .given .1)
+profile-requires c κs =
+    let at-seen = c .before .before in
+    let start = at-seen .before .before .before .before .before in
+    payable-sheet _ _ _ _ (start .pre) (at-seen .seen .given .1)
 
 answer-requires : tie.Need-answer-requires
 answer-requires c κs =
     let at-profile = c .before .before .before in
     let at-seen = at-profile .before .before .before in
-    let start = at-seen .before .before .before .before in
+    let start = at-seen .before .before .before .before .before in
     counted-long (payable-sheet _ _ _ _ (start .pre) (at-seen .seen .given .1)) (at-profile .profile .ensures)
 
 enum-known-seen-2 : tie.Need-enum-known-seen-2
