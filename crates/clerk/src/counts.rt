@@ -48,7 +48,7 @@ pub fn of_called_profile(answer: PairProfiled) -> End
 }
 
 // What is known of a whole sheet.
-pub fn most(answer: Profiled) -> Most
+pub fn known(answer: Profiled) -> Most
     ensures { λ r. ⌜ r ≡ most-of answer ⌝ }
 {
     match answer {
@@ -58,7 +58,7 @@ pub fn most(answer: Profiled) -> Most
 }
 
 // And of a rate sheet, with a call under it.
-pub fn called_most(answer: PairProfiled) -> Most
+pub fn called_known(answer: PairProfiled) -> Most
     ensures { λ r. ⌜ r ≡ most-under answer ⌝ }
 {
     match answer {

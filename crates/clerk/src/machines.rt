@@ -87,9 +87,10 @@ fn bound(out: &mut [u8], at: usize, most: Most) -> usize
 fn ran(out: &mut [u8], at: usize, units: u32, limits: Limits, printed: usize) -> usize
     ensures { λ r. ⌜ Counts r (now (out .exit)) ⌝ }
 {
+    let most = limits.most;
     let a = field(out, at, b"units", units as u64);
     let b = field(out, a, b"allowance", limits.allowance);
-    let c = bound(out, b, limits.most);
+    let c = bound(out, b, most);
     field(out, c, b"printed", printed as u64)
 }
 

@@ -149,11 +149,12 @@ fn bound(out: &mut [u8], at: usize, most: Most) -> usize
 fn units(out: &mut [u8], at: usize, used: u32, limits: Limits) -> usize
     ensures { λ r. ⌜ Counts r (now (out .exit)) ⌝ }
 {
+    let most = limits.most;
     let a = put(out, at, b"units ");
     let b = decimal(out, a, used as u64);
     let c = put(out, b, b" of ");
     let d = decimal(out, c, limits.allowance);
-    let e = bound(out, d, limits.most);
+    let e = bound(out, d, most);
     put(out, e, b"\n")
 }
 

@@ -54,7 +54,7 @@ fn run_whole(asked: Asked, edition: u32, sheet: &[u8], allowance: u64) -> u32 {
     let work: &mut [u32] = &mut cells;
     let out: &mut [u8] = &mut bytes;
     let answer = grumpy::run(edition, sheet, table, work, out, allowance);
-    let most = counts::most(grumpy::profile(edition, sheet, table));
+    let most = counts::known(grumpy::profile(edition, sheet, table));
     ran(
         asked,
         sheet,
@@ -73,7 +73,7 @@ fn run_called(asked: Asked, edition: u32, sheet: &[u8], call: &[u8]) -> u32 {
     let work: &mut [u32] = &mut cells;
     let out: &mut [u8] = &mut bytes;
     let answer = grumpy::run_pair(edition, sheet, call, table, work, out, ALLOWANCE);
-    let most = counts::called_most(grumpy::profile_pair(edition, sheet, call, table));
+    let most = counts::called_known(grumpy::profile_pair(edition, sheet, call, table));
     let allowance = ALLOWANCE;
     let end = ends::of_called_run(sheet.len(), answer);
     ran(asked, sheet, out, Limits { allowance, most }, end)

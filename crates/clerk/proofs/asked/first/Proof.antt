@@ -132,10 +132,14 @@ returns-11 c =
     c .plain10 .ensures ∙ ap (λ (x : Task). first-word x (a .asked) (a .task) (a .i)) (sym (c .before .enum-told11 .given .1))
 
 returns-12 : tie.Need-returns-12
-returns-12 c = search needs
+returns-12 c =
+    let a = c .before .before .args in
+    ap (λ (x : Task). first-word x (a .asked) (a .task) (a .i)) (sym (c .enum-told12 .given .1))
 
 returns-13 : tie.Need-returns-13
-returns-13 c = search needs
+returns-13 c =
+    let a = c .before .before .args in
+    ap (λ (x : Task). first-word x (a .asked) (a .task) (a .i)) (sym (c .enum-told13 .given .1))
 
 pub first-spec : {M : Type 1} → statement M
 first-spec =

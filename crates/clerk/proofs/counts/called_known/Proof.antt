@@ -1,9 +1,9 @@
--- `called_most` goes by the answer.
+-- `called_known` goes by the answer.
 use mathlib.Core.Path.{sym, ap}
 use Rattle.clerk.specs.Counts.{most-under}
 use borrow.Author.Needs.{needs}
-use Rattle.clerk.proofs.counts.called_most.Statement.{statement}
-use Rattle.clerk.proofs.counts.called_most.Tie as tie
+use Rattle.clerk.proofs.counts.called_known.Statement.{statement}
+use Rattle.clerk.proofs.counts.called_known.Tie as tie
 
 enum-known-answer : tie.Need-enum-known-answer
 enum-known-answer c = search needs
@@ -17,5 +17,5 @@ returns c = ap most-under (sym (c .before .answer .given .1))
 returns-2 : tie.Need-returns-2
 returns-2 c = search needs
 
-pub called-most-spec : {M : Type 1} → statement M
-called-most-spec = tie.close (tie.spec enum-known-answer enum-told returns returns-2)
+pub called-known-spec : {M : Type 1} → statement M
+called-known-spec = tie.close (tie.spec enum-known-answer enum-told returns returns-2)
