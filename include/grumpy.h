@@ -1,6 +1,6 @@
-/* The box: reads, checks, runs and rewrites a rate sheet written in Grumpy.
+/* The box: reads, checks, runs, rewrites and stores a rate sheet written in Grumpy, and pays a shift by one.
  *
- * Eight functions. They keep nothing between calls, ask for no memory of their own but the stack, of which
+ * Eleven functions. They keep nothing between calls, ask for no memory of their own but the stack, of which
  * GRUMPY_STACK bytes are enough, and call nothing from outside but memset. They may be called from several
  * threads at once, each with memory of its own.
  *
@@ -21,9 +21,10 @@
  * All functions return the number, and write the report:
  *
  *     report[0]  the number, one of the constants below
- *     report[1]  the place: a byte of the source, counted from 0; 0 where the number has none
+ *     report[1]  the place: a byte of the source, counted from 0; of a stored sheet a line, counted from 1;
+ *                0 where the number has none
  *     report[2]  the type of the sheet, if it passed: GRUMPY_INT, GRUMPY_BOOL, ... ; else 0.
- *                Of grumpy_write the bytes written
+ *                Of grumpy_write and grumpy_store the bytes written
  *
  * and those that run also
  *
@@ -40,6 +41,13 @@
  *
  * The calling thread has to have the usual control of floats (MXCSR): rounding to nearest, no exception
  * trapped, subnormal numbers kept. C programs have it unless they change it.
+ *
+ * Stored sheets. grumpy_store writes a sheet's stored form, lines of hexadecimal, and grumpy_check_stored and
+ * grumpy_run_stored take such lines in the source's stead: any bytes, in any memory. They answer what the sheet
+ * that was stored is answered, in the same edition, which the stored form does not name, but for places: the
+ * count's line is 1, that of the first token 2, and the end of the sheet is one past the last line. What is no
+ * stored form is answered with GRUMPY_NOT_HEXADECIMAL, GRUMPY_WRONG_COUNT or GRUMPY_NOT_ONE_TOKEN; a count that is
+ * too large with GRUMPY_MANY_TOKENS at line 1, and tokens of too many bytes in all with GRUMPY_LONG_SOURCE at 0.
  *
  * Two sheets. grumpy_check_pair and grumpy_run_pair take a rule book and a loom's sheet, and read them as the
  * first, one line feed, then the second; the limits hold for the whole. They tell besides, behind the words
@@ -115,8 +123,9 @@ extern "C" {
  * (tools/stack) and tried on the worst sheets that a search has found, not proved */
 #define GRUMPY_STACK 786432
 
-/* the largest source in bytes, and the largest allowance in units */
+/* the largest source in bytes, the longest stored form of one, and the largest allowance in units */
 #define GRUMPY_SOURCE 8192
+#define GRUMPY_STORED 17413
 #define GRUMPY_ALLOWANCE 1000000
 
 /* the most lines of a shift */
@@ -142,7 +151,7 @@ extern "C" {
 #define GRUMPY_SHORT_MEMORY 40    /* a lent memory or the report is too short */
 #define GRUMPY_LARGE_ALLOWANCE 41 /* the allowance is too large */
 #define GRUMPY_NO_EDITION 42      /* the edition is neither 1 nor 2 */
-#define GRUMPY_LONG_TEXT 44       /* the text is longer than `out` or than a source; nothing is written */
+#define GRUMPY_LONG_TEXT 44       /* longer than `out`, or a text longer than a source; nothing is written */
 #define GRUMPY_MANY_LINES 46      /* a shift of more than 65,536 lines */
 #define GRUMPY_NO_BOOK 47         /* no `pay` from two ints to int, or something outside the functions */
 #define GRUMPY_OUT_OF_UNITS 50    /* the allowance is used up */
@@ -154,6 +163,9 @@ extern "C" {
 #define GRUMPY_NOT_A_BYTE 56      /* putchar of something outside 0 to 255 */
 #define GRUMPY_OUTPUT_FULL 57     /* no room for another byte */
 #define GRUMPY_ZERO_STEP 58       /* a counted loop with a step of zero */
+#define GRUMPY_NOT_HEXADECIMAL 60 /* a line of a stored sheet is not whole hexadecimal; the place is the line */
+#define GRUMPY_WRONG_COUNT 61     /* the count of a stored sheet is not that of its lines */
+#define GRUMPY_NOT_ONE_TOKEN 62   /* a line of a stored sheet is not exactly one token */
 
 /* the types; 8 more for each ref around one of them: 12 is a float ref, 124 the largest */
 #define GRUMPY_INT 1
@@ -185,6 +197,29 @@ uint32_t grumpy_write(uint32_t edition,
                       uint32_t *table, size_t table_length,
                       uint8_t *out, size_t out_length,
                       uint64_t *report, size_t report_length);
+
+/* Reads and checks a sheet, and writes its stored form if it passes: lines of hexadecimal, capitals, each with
+ * its line feed, first the count of its tokens in four digits and then each token as it is spelled. An `out` of
+ * GRUMPY_STORED bytes is as much as is ever of use. */
+uint32_t grumpy_store(uint32_t edition,
+                      const uint8_t *source, size_t source_length,
+                      uint32_t *table, size_t table_length,
+                      uint8_t *out, size_t out_length,
+                      uint64_t *report, size_t report_length);
+
+/* Check and run of a stored sheet. */
+uint32_t grumpy_check_stored(uint32_t edition,
+                             const uint8_t *stored, size_t stored_length,
+                             uint32_t *table, size_t table_length,
+                             uint64_t *report, size_t report_length);
+
+uint32_t grumpy_run_stored(uint32_t edition,
+                           const uint8_t *stored, size_t stored_length,
+                           uint32_t *table, size_t table_length,
+                           uint32_t *work, size_t work_length,
+                           uint8_t *out, size_t out_length,
+                           uint64_t allowance,
+                           uint64_t *report, size_t report_length);
 
 /* Check and run of two sheets, read as one. */
 uint32_t grumpy_check_pair(uint32_t edition,

@@ -21,7 +21,20 @@
 #include "../../include/grumpy.h"
 
 /* the last one asks only how many words of state a shift needs */
-enum { CHECK, RUN, WRITE, CHECK_PAIR, RUN_PAIR, SHIFT_BEGIN, SHIFT_FEED, SHIFT_FINISH, STATE_WORDS };
+enum {
+  CHECK,
+  RUN,
+  WRITE,
+  CHECK_PAIR,
+  RUN_PAIR,
+  SHIFT_BEGIN,
+  SHIFT_FEED,
+  SHIFT_FINISH,
+  STORE,
+  CHECK_STORED,
+  RUN_STORED,
+  STATE_WORDS
+};
 
 enum { SOURCE, SECOND, TABLE, WORK, OUT, STATE, REPORT, MEMORIES };
 
@@ -105,6 +118,14 @@ static uint64_t call(const uint64_t *asked, struct memory *m) {
       return grumpy_shift_feed(edition, LENT(source, SOURCE), LENT(second, SECOND), LENT(table, TABLE),
                                LENT(work, WORK), LENT(out, OUT), LENT(state, STATE), LENT(report, REPORT));
     case SHIFT_FINISH: return grumpy_shift_finish(edition, LENT(state, STATE), LENT(report, REPORT));
+    case STORE:
+      return grumpy_store(edition, LENT(source, SOURCE), LENT(table, TABLE), LENT(out, OUT),
+                          LENT(report, REPORT));
+    case CHECK_STORED:
+      return grumpy_check_stored(edition, LENT(source, SOURCE), LENT(table, TABLE), LENT(report, REPORT));
+    case RUN_STORED:
+      return grumpy_run_stored(edition, LENT(source, SOURCE), LENT(table, TABLE), LENT(work, WORK),
+                               LENT(out, OUT), allowance, LENT(report, REPORT));
     case STATE_WORDS: return GRUMPY_SHIFT_STATE;
   }
   fail("no such service");

@@ -1,4 +1,4 @@
-//! What the two services must report, and in which state each lent memory
+//! What Check and Run must report, and in which state each lent memory
 //! must be afterwards.
 
 use crate::{begins, grammar, run as runner, text, tree, types, Refusal};
@@ -52,13 +52,28 @@ pub struct Answer {
     pub work: Left,
 }
 
+/// A program and its type, or why there is none.
+pub type Prepared = Result<(tree::Program, types::Type), Refusal>;
+
+/// How the bytes of a sheet become a program in an edition: as a source, or as a
+/// stored sheet.
+pub type Prepare = fn(&[u8], u32) -> Prepared;
+
+pub fn check(source: &[u8], lent: &Lent) -> Answer {
+    check_by(prepare, source, lent)
+}
+
+pub fn run(source: &[u8], lent: &Lent) -> Answer {
+    run_by(prepare, source, lent)
+}
+
 /// The answer of Check: value, units and printed are of no meaning there and
 /// stay 0, and so does the work memory, which Check is never lent.
-pub fn check(source: &[u8], lent: &Lent) -> Answer {
+pub fn check_by(prepare: Prepare, sheet: &[u8], lent: &Lent) -> Answer {
     if lent.table < TABLE_WORDS {
         return refused(Refusal::new(40, 0), Left::AsBefore);
     }
-    let answer = match prepare(source, lent.edition) {
+    let answer = match prepare(sheet, lent.edition) {
         Ok((_, kind)) => Answer {
             kind: kind.code(),
             ..refused(Refusal::new(0, 0), Left::RequiredZero)
@@ -71,14 +86,14 @@ pub fn check(source: &[u8], lent: &Lent) -> Answer {
     }
 }
 
-pub fn run(source: &[u8], lent: &Lent) -> Answer {
+pub fn run_by(prepare: Prepare, sheet: &[u8], lent: &Lent) -> Answer {
     if lent.table < TABLE_WORDS || lent.work < WORK_WORDS {
         return refused(Refusal::new(40, 0), Left::AsBefore);
     }
     if lent.allowance > MOST_UNITS {
         return refused(Refusal::new(41, 0), Left::RequiredZero);
     }
-    let (program, kind) = match prepare(source, lent.edition) {
+    let (program, kind) = match prepare(sheet, lent.edition) {
         Ok(prepared) => prepared,
         Err(refusal) => return refused(refusal, Left::RequiredZero),
     };
@@ -99,26 +114,33 @@ pub fn run(source: &[u8], lent: &Lent) -> Answer {
     }
 }
 
-/// Everything the services share once the loans are known to be long enough
-/// and the allowance is not too large.
-pub fn prepare(source: &[u8], edition: u32) -> Result<(tree::Program, types::Type), Refusal> {
-    if ![1, 2].contains(&edition) {
+pub fn is_edition(edition: u32) -> bool {
+    [1, 2].contains(&edition)
+}
+
+/// Everything the services share of a source once the loans are known to be long
+/// enough and the allowance is not too large.
+pub fn prepare(source: &[u8], edition: u32) -> Prepared {
+    if !is_edition(edition) {
         return Err(Refusal::new(42, 0));
     }
     if source.len() > MOST_BYTES {
         return Err(Refusal::new(10, 0));
     }
-    let tokens = text::tokens(source, edition)?;
-    let program = grammar::read(&tokens).ok_or_else(|| no_reading(source, &tokens))?;
-    let kind = types::check(&program)?;
-    Ok((program, kind))
+    understand(&text::tokens(source, edition)?, source.len())
 }
 
-/// 20 is told at the token that no program begins with; where only the end is
-/// wrong, at the end of the source, behind blanks and comments too.
-fn no_reading(source: &[u8], tokens: &[text::Token]) -> Refusal {
-    let wrong = begins::first_wrong(tokens).map(|index| tokens[index].place);
-    Refusal::new(20, wrong.unwrap_or(source.len()))
+/// The program that the tokens are. 20 is told at the token that no program
+/// begins with; where only the end is wrong, at the end, which for a source is
+/// behind blanks and comments too.
+pub fn understand(tokens: &[text::Token], end: usize) -> Prepared {
+    let no_reading = || {
+        let wrong = begins::first_wrong(tokens).map(|index| tokens[index].place);
+        Refusal::new(20, wrong.unwrap_or(end))
+    };
+    let program = grammar::read(tokens).ok_or_else(no_reading)?;
+    let kind = types::check(&program)?;
+    Ok((program, kind))
 }
 
 fn refused(refusal: Refusal, left: Left) -> Answer {

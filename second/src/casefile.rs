@@ -8,12 +8,16 @@
 //! table 12288
 //! work 16384
 //! room 8192
+//! buffer 131072
 //! | the sheet, one line
 //! | and another, with an LF between the two
 //! & the second sheet, of two
 //! & and its second line
+//! % a line of a stored sheet, in the sheet's stead, with its LF
+//! %- more of it, without an LF
 //! ? number place type
 //! > number place "text"
+//! >> number place "stored sheet"
 //! @ sheet place begin end
 //! = number place type value units printed "bytes"
 //! ```
@@ -21,12 +25,14 @@
 //! The value of a float is told by its bits, as `0x3FF0000000000000`.
 //!
 //! The loans may be left out where they are the usual ones, and so may edition
-//! 1; `room` is what is lent to Write. The `?` line is the answer of Check and
-//! may be left out where it follows from the `=` line, which is the answer of Run
-//! and ends the case. The `>` line is the answer of Write, if that is laid down.
-//! Of two sheets these answers are those of the whole, and the `@` line says where
-//! the place is among the two, and where the line around it begins and ends. Lines
-//! that start with `#` and empty lines are nothing. See `quote` for the escapes.
+//! 1; `room` is what is lent to Write, `buffer` what is lent to Store. The `?`
+//! line is the answer of Check and may be left out where it follows from the `=`
+//! line, which is the answer of Run and ends the case. The `>` line is the answer
+//! of Write and the `>>` line that of Store, if they are laid down. Of two sheets
+//! these answers are those of the whole, and the `@` line says where the place is
+//! among the two, and where the line around it begins and ends. Of a stored sheet
+//! they are those of Check and Run for such. Lines that start with `#` and empty
+//! lines are nothing. See `quote` for the escapes.
 
 use crate::answer::Lent;
 use crate::cases::{check_from_run, in_pair, ran, told, Case};
@@ -112,19 +118,23 @@ impl Draft {
     /// Takes in one line; says if it was the last line of a case.
     fn line(&mut self, line: &str) -> Result<bool, String> {
         let (word, rest) = line.split_once(' ').unwrap_or((line, ""));
-        let Trial { lent, room, .. } = &mut self.trial;
+        let Trial { lent, stored, .. } = &mut self.trial;
         match word {
             "|" => add_line(&mut self.sheet, rest)?,
             "&" => add_line(&mut self.second, rest)?,
             "@" => self.place = Some(four(rest)?),
+            "%" => add_stored(stored, rest, b"\n")?,
+            "%-" => add_stored(stored, rest, b"")?,
             "edition" => lent.edition = number(rest)?,
             "allowance" => lent.allowance = number(rest)?,
             "output" => lent.output = number(rest)?,
             "table" => lent.table = number(rest)?,
             "work" => lent.work = number(rest)?,
-            "room" => *room = number(rest)?,
+            "room" => self.trial.room = number(rest)?,
+            "buffer" => self.trial.buffer = number(rest)?,
             "?" => self.wanted.push((Service::Check, check_line(rest)?)),
             ">" => self.wanted.push((Service::Write, write_line(rest)?)),
+            ">>" => self.wanted.push((Service::Store, write_line(rest)?)),
             "=" => self.wanted.push((Service::Run, run_line(rest)?)),
             _ => return Err(format!("unknown line: {line}")),
         }
@@ -132,24 +142,27 @@ impl Draft {
     }
 
     fn close(mut self) -> Result<Case, String> {
-        let sheet = self.sheet.take().ok_or("the case has no sheet")?;
         let run = self.answer(Service::Run).ok_or("the case has no answer")?;
         let check = self.answer(Service::Check).or_else(|| check_from_run(&run));
         if let (Some(check), None) = (&check, self.answer(Service::Check)) {
             self.wanted.push((Service::Check, check.clone()));
         }
-        self.trial.sheet = sheet;
-        match (self.second.take(), self.place) {
-            (None, None) => {}
-            (Some(second), Some(place)) => {
-                self.trial.cut = Some(self.trial.sheet.len());
-                self.trial.sheet = whole(&self.trial.sheet, &second);
+        match (self.sheet.take(), self.second.take(), self.place) {
+            (Some(sheet), None, None) => self.trial.sheet = sheet,
+            (Some(sheet), Some(second), Some(place)) => {
+                self.trial.cut = Some(sheet.len());
+                self.trial.sheet = whole(&sheet, &second);
                 let pair = |told: &Wanted| in_pair(told, place);
                 self.wanted.push((Service::RunPair, pair(&run)));
                 let check = check.iter().map(|told| (Service::CheckPair, pair(told)));
                 self.wanted.extend(check);
             }
-            _ => return Err("two sheets and a place among them go together".to_string()),
+            (None, None, None) if self.trial.stored.is_some() => {
+                for (service, _) in &mut self.wanted {
+                    *service = of_stored(*service)?;
+                }
+            }
+            _ => return Err("it is no case of one sheet, of two, or a stored one".to_string()),
         }
         Ok(Case {
             title: self.title,
@@ -171,6 +184,22 @@ fn add_line(sheet: &mut Option<Vec<u8>>, text: &str) -> Result<(), String> {
         None => bytes,
     });
     Ok(())
+}
+
+fn add_stored(stored: &mut Option<Vec<u8>>, text: &str, end: &[u8]) -> Result<(), String> {
+    let stored = stored.get_or_insert_default();
+    stored.extend(quote::decode(text)?);
+    stored.extend(end);
+    Ok(())
+}
+
+/// The service that does the same for a stored sheet.
+fn of_stored(service: Service) -> Result<Service, String> {
+    match service {
+        Service::Check => Ok(Service::CheckStored),
+        Service::Run => Ok(Service::RunStored),
+        _ => Err("no such answer of a stored sheet".to_string()),
+    }
 }
 
 fn number<T: std::str::FromStr>(text: &str) -> Result<T, String> {

@@ -48,7 +48,7 @@ pub fn check_from_run(run: &Wanted) -> Option<Wanted> {
     let [place, kind] = [run.report[0], run.report[1]];
     match run.number {
         40 | 41 => None,
-        0 | 50.. => Some(told(0, vec![0, kind], b"")),
+        0 | 50..=59 => Some(told(0, vec![0, kind], b"")),
         number => Some(told(number, vec![place, 0], b"")),
     }
 }
@@ -100,12 +100,15 @@ pub fn show(service: Service, wanted: &Wanted) -> String {
     } = wanted;
     let output = quote::encode(output);
     match (service, &report[..]) {
-        (Service::Check, [place, kind]) => format!("? {number} {place} {kind}"),
-        (Service::Run, [place, kind, value, units, printed]) => {
+        (Service::Check | Service::CheckStored, [place, kind]) => {
+            format!("? {number} {place} {kind}")
+        }
+        (Service::Run | Service::RunStored, [place, kind, value, units, printed]) => {
             let value = shown_value(*kind, *value);
             format!("= {number} {place} {kind} {value} {units} {printed} \"{output}\"")
         }
         (Service::Write, [place, _]) => format!("> {number} {place} \"{output}\""),
+        (Service::Store, [place, _]) => format!(">> {number} {place} \"{output}\""),
         (Service::RunPair, [place, .., sheet, begin, end]) => {
             format!("@ {sheet} {place} {begin} {end}")
         }
@@ -124,34 +127,52 @@ fn shown_value(kind: u64, value: u64) -> String {
 
 const FLOAT: u64 = 4;
 
-/// A whole case with this interpreter's answers, ready to be pasted into a file.
+/// A whole case with this interpreter's answers, ready to be pasted into a file;
+/// and another one if it has a stored sheet of its own.
 pub fn show_case(title: &str, trial: &Trial) -> String {
-    let mut text = format!("* {title}\n");
+    let mut text = format!("* {title}\n{}", show_loans(trial));
+    let (first, second) = trial.parts();
+    text += &format!("| {}\n", quote::encode(first));
+    let mut services = vec![Service::Check, Service::Write, Service::Store];
+    if trial.cut.is_some() {
+        text += &format!("& {}\n", quote::encode(second));
+        services.push(Service::RunPair);
+    }
+    services.push(Service::Run);
+    text += &show_answers(&services, trial);
+    if let Some(stored) = &trial.stored {
+        text += &format!("\n* {title}, stored\n{}", show_loans(trial));
+        for line in stored.split_inclusive(|byte| *byte == b'\n') {
+            text += &match line.strip_suffix(b"\n") {
+                Some(line) => format!("% {}\n", quote::encode(line)),
+                None => format!("%- {}\n", quote::encode(line)),
+            };
+        }
+        text += &show_answers(&[Service::CheckStored, Service::RunStored], trial);
+    }
+    text
+}
+
+fn show_answers(services: &[Service], trial: &Trial) -> String {
+    let line = |service: &Service| show(*service, &wanted(*service, trial)) + "\n";
+    services.iter().map(line).collect()
+}
+
+/// The loans that are not the usual ones.
+fn show_loans(trial: &Trial) -> String {
     let (lent, usual) = (&trial.lent, Lent::default());
-    let usual_room = Trial::of(b"", usual).room;
+    let usually = Trial::of(b"", usual);
     let loans = [
         ("edition", lent.edition.into(), usual.edition.into()),
         ("allowance", lent.allowance, usual.allowance),
         ("output", lent.output as u64, usual.output as u64),
         ("table", lent.table as u64, usual.table as u64),
         ("work", lent.work as u64, usual.work as u64),
-        ("room", trial.room as u64, usual_room as u64),
+        ("room", trial.room as u64, usually.room as u64),
+        ("buffer", trial.buffer as u64, usually.buffer as u64),
     ];
-    for (name, here, usually) in loans {
-        if here != usually {
-            text += &format!("{name} {here}\n");
-        }
-    }
-    let (first, second) = trial.parts();
-    text += &format!("| {}\n", quote::encode(first));
-    let mut services = vec![Service::Check, Service::Write];
-    if trial.cut.is_some() {
-        text += &format!("& {}\n", quote::encode(second));
-        services.push(Service::RunPair);
-    }
-    services.push(Service::Run);
-    for service in services {
-        text += &format!("{}\n", show(service, &wanted(service, trial)));
-    }
-    text
+    let other = loans.iter().filter(|(_, here, usually)| here != usually);
+    other
+        .map(|(name, here, _)| format!("{name} {here}\n"))
+        .collect()
 }

@@ -91,7 +91,7 @@ fn differs(other: &dyn Other, trial: &Trial, service: Service) -> Result<(), Str
     let mut report = Memory::new(trial.report(service), || chance.next_word());
     let (source, second) = service.sources(trial);
     let number = other.call(Call {
-        source,
+        source: &source,
         second,
         table: table.lent(),
         work: work.lent(),
@@ -171,6 +171,10 @@ mod tests {
                 "no line feed" if call.service == Service::Write && number == 0 => {
                     output[used - 1] = b' '
                 }
+                "a count from 0" if call.service == Service::Store && number == 0 => output[3] ^= 1,
+                "a byte for a line" if call.service == Service::RunStored && number == 20 => {
+                    call.report[1] += 2
+                }
                 _ => {}
             }
         }
@@ -194,7 +198,10 @@ mod tests {
                 }
                 _ => Trial::of(call.source, lent),
             };
-            trial.room = call.output.len();
+            (trial.room, trial.buffer) = (call.output.len(), call.output.len());
+            if [Service::CheckStored, Service::RunStored].contains(&call.service) {
+                trial.stored = Some(call.source.to_vec());
+            }
             let told = wanted(call.service, &trial);
             leave(call.table, told.table, TABLE_WORDS);
             leave(call.work, told.work, WORK_WORDS);
@@ -245,6 +252,8 @@ mod tests {
             "another not-a-number",
             "zero without its sign",
             "no line feed",
+            "a count from 0",
+            "a byte for a line",
         ] {
             assert!(told_apart(fault, 5000), "{fault}");
         }

@@ -5,11 +5,13 @@ use crate::answer::{self, Answer, Lent};
 use crate::cases::check_from_run;
 use crate::promise::{fits, larger, ENDS};
 use crate::services::{wanted, Service};
+use crate::stored_laws;
 use crate::text::{self, Kind};
 use crate::trial::Trial;
 use crate::write::{self, Written};
 
-type Law = (bool, &'static str);
+/// Whether it holds, and what to say if it does not.
+pub type Law = (bool, &'static str);
 
 pub fn hold(trial: &Trial) -> Result<(), String> {
     let answer = answer::run(&trial.sheet, &trial.lent);
@@ -18,6 +20,7 @@ pub fn hold(trial: &Trial) -> Result<(), String> {
     laws.extend(pair_laws(trial));
     laws.extend(promises(trial, &answer));
     laws.extend(edition_laws(trial, &answer));
+    laws.extend(stored_laws::all(trial, &answer));
     match laws.iter().find(|(holds, _)| !holds) {
         Some((_, law)) => Err(law.to_string()),
         None => Ok(()),

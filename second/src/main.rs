@@ -225,11 +225,12 @@ fn systematic(tally: &mut Tally, edition: u32) {
         edition,
         ..Lent::default()
     };
-    for sheet in follows::ends(edition) {
-        tally.add("an end", Trial::of(&sheet, lent));
-    }
-    for follow in follows::all(edition) {
-        tally.add("a token", Trial::of(&follow.sheet, lent));
+    let tokens = follows::all(edition).into_iter().map(|follow| follow.sheet);
+    let sheets = follows::ends(edition).into_iter().chain(tokens);
+    for (turn, sheet) in sheets.enumerate() {
+        let mut trial = Trial::of(&sheet, lent);
+        trial.turn = Some(turn);
+        tally.add("a token or an end", trial);
     }
     for (sheet, _) in near::sheets(edition) {
         tally.add("near misses", Trial::of(&sheet, lent));

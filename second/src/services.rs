@@ -1,9 +1,11 @@
 //! The services as they are reached from outside, and what each must come to.
 
-use crate::answer::{self, Left};
+use crate::answer::{self, Answer, Left};
 use crate::pair::{placed, Placed};
+use crate::store;
 use crate::trial::Trial;
-use crate::write;
+use crate::write::{self, Written};
+use std::borrow::Cow;
 
 #[derive(Clone, Copy, Debug, PartialEq, Eq)]
 pub enum Service {
@@ -15,15 +17,27 @@ pub enum Service {
     ShiftBegin,
     ShiftFeed,
     ShiftFinish,
+    Store,
+    CheckStored,
+    RunStored,
     /// No service, but how many words of state a shift needs.
     StateWords,
 }
 
-use Service::{Check, CheckPair, Run, RunPair, Write};
+use Service::{Check, CheckPair, CheckStored, Run, RunPair, RunStored, Store, Write};
 
 impl Service {
-    /// Those that serve one sheet, or one that is cut in two.
-    pub const ALL: [Service; 5] = [Check, Run, Write, CheckPair, RunPair];
+    /// Those that serve one sheet, or one that is cut in two or stored.
+    pub const ALL: [Service; 8] = [
+        Check,
+        Run,
+        Write,
+        CheckPair,
+        RunPair,
+        Store,
+        CheckStored,
+        RunStored,
+    ];
 
     /// Its number in what is asked of the bridge.
     pub fn code(self) -> u64 {
@@ -32,8 +46,15 @@ impl Service {
 
     /// Whether the trial is one for this service.
     pub fn applies(self, trial: &Trial) -> bool {
+        if let Some(turn) = trial.turn {
+            let asked = [Check, Run, Service::ALL[turn % Service::ALL.len()]];
+            if !asked.contains(&self) {
+                return false;
+            }
+        }
         match self {
             CheckPair | RunPair => trial.cut.is_some(),
+            CheckStored | RunStored => trial.stored().is_some(),
             _ => true,
         }
     }
@@ -41,8 +62,8 @@ impl Service {
     /// The words of a complete report.
     pub fn words(self) -> usize {
         match self {
-            Check | Write => 3,
-            Run | CheckPair => 6,
+            Check | Write | Store | CheckStored => 3,
+            Run | CheckPair | RunStored => 6,
             RunPair => 9,
             Service::ShiftBegin => 2,
             Service::ShiftFeed => 1,
@@ -52,17 +73,21 @@ impl Service {
     }
 
     /// The sources that the trial has for this service.
-    pub fn sources(self, trial: &Trial) -> (&[u8], &[u8]) {
+    pub fn sources(self, trial: &Trial) -> (Cow<'_, [u8]>, &[u8]) {
         match self {
-            CheckPair | RunPair => trial.parts(),
-            _ => (&trial.sheet, &[]),
+            CheckPair | RunPair => {
+                let (first, second) = trial.parts();
+                (first.into(), second)
+            }
+            CheckStored | RunStored => (trial.stored().unwrap_or_default(), &[]),
+            _ => ((&trial.sheet).into(), &[]),
         }
     }
 
     /// The words of work memory that the trial lends to this service.
     pub fn work(self, trial: &Trial) -> usize {
         match self {
-            Run | RunPair => trial.lent.work,
+            Run | RunPair | RunStored => trial.lent.work,
             _ => 0,
         }
     }
@@ -70,8 +95,9 @@ impl Service {
     /// The bytes of output that the trial lends to this service.
     pub fn output(self, trial: &Trial) -> usize {
         match self {
-            Run | RunPair => trial.lent.output,
+            Run | RunPair | RunStored => trial.lent.output,
             Write => trial.room,
+            Store => trial.buffer,
             _ => 0,
         }
     }
@@ -91,18 +117,31 @@ pub struct Wanted {
 
 /// What this interpreter says to the trial.
 pub fn wanted(service: Service, trial: &Trial) -> Wanted {
+    let Trial {
+        sheet, lent, room, ..
+    } = trial;
     match service {
-        Check => checked(trial),
-        Run => ran(trial),
-        Write => written(trial),
-        CheckPair => of_pair(checked(trial), trial),
-        RunPair => of_pair(ran(trial), trial),
+        Check => checked(answer::check(sheet, lent)),
+        Run => ran(answer::run(sheet, lent)),
+        Write => written(write::write(sheet, lent, *room)),
+        CheckPair => of_pair(wanted(Check, trial), trial),
+        RunPair => of_pair(wanted(Run, trial), trial),
+        Store => written(store::store(sheet, lent, trial.buffer)),
+        CheckStored => checked(answer::check_by(
+            store::prepare,
+            &service.sources(trial).0,
+            lent,
+        )),
+        RunStored => ran(answer::run_by(
+            store::prepare,
+            &service.sources(trial).0,
+            lent,
+        )),
         _ => unreachable!("a shift has trials of its own"),
     }
 }
 
-fn checked(trial: &Trial) -> Wanted {
-    let told = answer::check(&trial.sheet, &trial.lent);
+fn checked(told: Answer) -> Wanted {
     Wanted {
         number: told.number,
         report: vec![told.place, told.kind],
@@ -112,8 +151,7 @@ fn checked(trial: &Trial) -> Wanted {
     }
 }
 
-fn ran(trial: &Trial) -> Wanted {
-    let told = answer::run(&trial.sheet, &trial.lent);
+fn ran(told: Answer) -> Wanted {
     let (value, printed) = (told.value as u64, told.printed.len() as u64);
     Wanted {
         number: told.number,
@@ -124,8 +162,7 @@ fn ran(trial: &Trial) -> Wanted {
     }
 }
 
-fn written(trial: &Trial) -> Wanted {
-    let told = write::write(&trial.sheet, &trial.lent, trial.room);
+fn written(told: Written) -> Wanted {
     Wanted {
         number: told.number,
         report: vec![told.place, told.text.len() as u64],

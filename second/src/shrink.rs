@@ -3,7 +3,7 @@
 //! also replaced by constants and brackets are taken off.
 
 use crate::answer::{Lent, MOST_BYTES};
-use crate::trial::Trial;
+use crate::trial::{Trial, BUFFER};
 
 const CONSTANTS: [&[u8]; 5] = [b"", b" 1 ", b" true ", b" tt ", b" 1. "];
 
@@ -48,14 +48,16 @@ fn accept(best: &mut Trial, parts: &[Vec<u8>], fails: &mut impl FnMut(&Trial) ->
 /// Puts the usual loan in place of each one that does not matter.
 fn plain_loans(best: &mut Trial, fails: &mut impl FnMut(&Trial) -> bool) {
     let usual = Lent::default();
-    let changes: [fn(&mut Trial, Lent); 9] = [
+    let changes: [fn(&mut Trial, Lent); 11] = [
         |t, usual| t.lent.edition = usual.edition,
         |t, usual| t.lent.table = usual.table,
         |t, usual| t.lent.work = usual.work,
         |t, usual| t.lent.output = usual.output,
         |t, usual| t.lent.allowance = usual.allowance,
         |t, _| t.cut = None,
+        |t, _| t.stored = None,
         |t, _| t.room = MOST_BYTES,
+        |t, _| t.buffer = BUFFER,
         |t, _| t.short = None,
         |t, _| t.more = 0,
     ];

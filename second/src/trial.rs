@@ -4,23 +4,35 @@ use crate::answer::{self, Lent, MOST_BYTES, MOST_UNITS, TABLE_WORDS, WORK_WORDS}
 use crate::chance::Chance;
 use crate::pair::whole;
 use crate::services::Service;
+use crate::store::{form_of, store};
 use crate::write::write;
-use crate::{damage, rare, sheets, slips};
+use crate::{damage, rare, sheets, slips, stores};
+use std::borrow::Cow;
+
+/// A buffer that has room for every stored sheet.
+pub const BUFFER: usize = 1 << 17;
 
 #[derive(Clone, Debug)]
 pub struct Trial {
     pub sheet: Vec<u8>,
     /// The LF at which the sheet is cut in two for the services of two sheets.
     pub cut: Option<usize>,
+    /// The stored sheet, where it is not just what is stored of the sheet.
+    pub stored: Option<Vec<u8>>,
     pub lent: Lent,
     /// The bytes lent to Write.
     pub room: usize,
+    /// The bytes lent to Store.
+    pub buffer: usize,
     /// How many words the reports have, if they are too short.
     pub short: Option<usize>,
     /// How many words more than needed they have otherwise.
     pub more: usize,
     /// Seeds what the lent memories hold beforehand.
     pub fill: u64,
+    /// Of very many trials that are much alike, which one this is: besides Check
+    /// and Run one service is asked, by turns.
+    pub turn: Option<usize>,
 }
 
 impl Trial {
@@ -29,11 +41,14 @@ impl Trial {
         Trial {
             sheet: sheet.to_vec(),
             cut: None,
+            stored: None,
             lent,
             room: MOST_BYTES,
+            buffer: BUFFER,
             short: None,
             more: 0,
             fill: 1,
+            turn: None,
         }
     }
 
@@ -50,6 +65,14 @@ impl Trial {
         let cut = self.cut.unwrap_or(self.sheet.len());
         let second = self.sheet.get(cut + 1..).unwrap_or_default();
         (&self.sheet[..cut], second)
+    }
+
+    /// The stored sheet, if there is one.
+    pub fn stored(&self) -> Option<Cow<'_, [u8]>> {
+        match &self.stored {
+            Some(stored) => Some(stored.into()),
+            None => form_of(&self.sheet, self.lent.edition).map(Cow::from),
+        }
     }
 
     /// The same sheet, cut at every one of its LFs.
@@ -78,7 +101,11 @@ pub fn make(seed: u64, index: u64) -> Trial {
     let mut sheet = make_sheet(&mut chance, edition);
     let cut = make_cut(&mut chance, &mut sheet);
     let mut lent = make_loans(&mut chance, &sheet, edition);
-    let room = make_room(&mut chance, &sheet, &lent);
+    let written = write(&sheet, &lent, usize::MAX).text.len();
+    let room = make_room(&mut chance, written);
+    let buffer = store(&sheet, &lent, usize::MAX).text.len();
+    let buffer = make_room(&mut chance, buffer);
+    let stored = stores::make(&mut chance, &sheet, edition);
     if chance.one_in(100) {
         lent.edition = chance.pick(&[0, 3, 1 << 16, u32::MAX]);
     }
@@ -86,11 +113,14 @@ pub fn make(seed: u64, index: u64) -> Trial {
     Trial {
         sheet,
         cut,
+        stored,
         lent,
         room,
+        buffer,
         short,
         more: chance.pick(&[0, 0, 0, 1, 4]),
         fill: chance.next_word(),
+        turn: None,
     }
 }
 
@@ -124,8 +154,7 @@ fn places_of(byte: u8, sheet: &[u8]) -> Vec<usize> {
 }
 
 /// Room for what is written of the sheet, or not quite.
-fn make_room(chance: &mut Chance, sheet: &[u8], lent: &Lent) -> usize {
-    let written = write(sheet, lent, usize::MAX).text.len();
+fn make_room(chance: &mut Chance, written: usize) -> usize {
     match chance.below(8) {
         0 => chance.below(40),
         1 => written.saturating_sub(1),

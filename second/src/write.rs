@@ -15,14 +15,27 @@ pub struct Written {
 }
 
 pub fn write(source: &[u8], lent: &Lent, room: usize) -> Written {
+    write_out(source, lent, tokens_apart, room.min(MOST_BYTES))
+}
+
+/// What both writers share: the source's own refusal comes first, then 44 if
+/// what they make of the spellings is longer than it may be.
+pub fn write_out(
+    source: &[u8],
+    lent: &Lent,
+    text_of: fn(&[&[u8]]) -> Vec<u8>,
+    longest: usize,
+) -> Written {
     if lent.table < TABLE_WORDS {
         return refused(Refusal::new(40, 0), Left::AsBefore);
     }
     if let Err(refusal) = prepare(source, lent.edition) {
         return refused(refusal, Left::RequiredZero);
     }
-    let text = tokens_apart(source, lent.edition);
-    if text.len() > room || text.len() > MOST_BYTES {
+    let tokens = text::tokens(source, lent.edition).expect("a sheet that passes has tokens");
+    let spelled: Vec<&[u8]> = tokens.iter().map(|t| t.spelling(source)).collect();
+    let text = text_of(&spelled);
+    if text.len() > longest {
         return refused(Refusal::new(44, 0), Left::RequiredZero);
     }
     Written {
@@ -31,10 +44,7 @@ pub fn write(source: &[u8], lent: &Lent, room: usize) -> Written {
     }
 }
 
-/// The tokens as they are spelled, of a source that has some.
-fn tokens_apart(source: &[u8], edition: u32) -> Vec<u8> {
-    let tokens = text::tokens(source, edition).expect("a sheet that passes has tokens");
-    let spelled: Vec<&[u8]> = tokens.iter().map(|t| t.spelling(source)).collect();
+fn tokens_apart(spelled: &[&[u8]]) -> Vec<u8> {
     let mut text = spelled.join(&b' ');
     text.push(b'\n');
     text

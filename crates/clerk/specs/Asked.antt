@@ -1,13 +1,9 @@
 -- What the words behind the program's name ask for.
 use mathlib.Core.Bool.{Bool, true, false, cond}
 use mathlib.Core.List.{List}
-use mathlib.Core.Path.{_≡_}
-use lib.Dec.{eqb, ltb}
-use lib.ListN.{length, getD}
-use Prim.Native.Char.{code}
+use lib.Dec.{eqb}
 use Prim.Native.Nat.{ℕ}
 use Rattle.language.specs.Sizes.{LARGEST}
-use Rattle.language.specs.Tokens.{spell}
 use Rattle.page.specs.Amounts.{number-up-to}
 use Rattle.page.specs.declared.amounts.Number.{Number}
 use Rattle.page.specs.declared.amounts.Number.the-variants.{Of}
@@ -17,39 +13,6 @@ use Rattle.clerk.specs.declared.asked.Task.{Task}
 use Rattle.clerk.specs.declared.asked.Turn.{Turn}
 use Rattle.clerk.specs.declared.asked.Wanted.{Wanted}
 use Rattle.clerk.specs.declared.asked.Word.{Word}
-
--- ---- a word by itself
-
--- it begins with two dashes
-unfoldable pub looks-optional : List ℕ → Bool
-looks-optional t =
-    cond (ltb (length t) 2) false (cond (eqb (getD t 0 0) (code "-")) (eqb (getD t 1 0) (code "-")) false)
-
-abbrev Not : (w : List ℕ) → (row : List ℕ) → Type 0
-Not w row = w ≡ row → ⊥
-
--- the rows of commands
-abbrev pub CommandIs : List ℕ → Task → Type 0
-CommandIs t Task.Pay = ⊥
-CommandIs t Task.Check = t ≡ spell "check"
-CommandIs t Task.CheckWhole = ⊥
-CommandIs t Task.Run = t ≡ spell "run"
-CommandIs t Task.Write = t ≡ spell "write"
-CommandIs t Task.Shift = t ≡ spell "shift"
-CommandIs t Task.Help = t ≡ spell "--help"
-CommandIs t Task.Version = t ≡ spell "--version"
-
--- what is told of a word by what it means: its spelling, or for a word that has no row of its own, that it has none
-abbrev pub Means : List ℕ → Word → Type 0
-Means t (Word.Command k) = CommandIs t k
-Means t (Word.Instead k) = CommandIs t k
-Means t Word.Whole = t ≡ spell "--whole"
-Means t Word.Report = t ≡ spell "--report"
-Means t Word.Edition = t ≡ spell "--edition"
-Means t Word.Rest = t ≡ spell "--"
-Means t Word.Strange = looks-optional t ≡ true
-Means t Word.Plain =
-    Not t (spell "check") × Not t (spell "run") × Not t (spell "write") × Not t (spell "shift") × (looks-optional t ≡ false)
 
 -- ---- one word more, which is the word with the number i
 
@@ -196,6 +159,9 @@ first-word Task.Check a t i = with-plain (a .plain) a i
 first-word Task.CheckWhole a t i = with-plain (a .plain) a i
 first-word Task.Run a t i = with-plain (a .plain) a i
 first-word Task.Write a t i = with-plain (a .plain) a i
+first-word Task.Store a t i = with-plain (a .plain) a i
+first-word Task.CheckStored a t i = with-plain (a .plain) a i
+first-word Task.RunStored a t i = with-plain (a .plain) a i
 first-word Task.Shift a t i = with-plain (a .plain) a i
 first-word Task.Help a t i = a
 first-word Task.Version a t i = a
@@ -213,6 +179,9 @@ with-whole Task.CheckWhole a i = a
 with-whole Task.Pay a i = with-strange a i
 with-whole Task.Run a i = with-strange a i
 with-whole Task.Write a i = with-strange a i
+with-whole Task.Store a i = with-strange a i
+with-whole Task.CheckStored a i = with-strange a i
+with-whole Task.RunStored a i = with-strange a i
 with-whole Task.Shift a i = with-strange a i
 with-whole Task.Help a i = a
 with-whole Task.Version a i = a
@@ -269,6 +238,9 @@ fitting Task.Check n = one-word n
 fitting Task.CheckWhole n = one-word n
 fitting Task.Run n = two-words n
 fitting Task.Write n = one-word n
+fitting Task.Store n = one-word n
+fitting Task.CheckStored n = one-word n
+fitting Task.RunStored n = two-words n
 fitting Task.Shift n = two-or-three n
 fitting Task.Help n = true
 fitting Task.Version n = true

@@ -27,6 +27,9 @@ refusal-placed (Refusal.Text f) = true
 refusal-placed Refusal.NoReading = true
 refusal-placed (Refusal.Types r) = true
 refusal-placed Refusal.LongText = false
+refusal-placed Refusal.NotHexadecimal = true
+refusal-placed Refusal.WrongCount = true
+refusal-placed Refusal.NotOneToken = true
 
 -- a call that was set under the sheet is no place for who wrote the sheet
 abbrev pub cause-placed : Cause → Bool

@@ -22,6 +22,9 @@ is-long (Refusal.Text f) = false
 is-long Refusal.NoReading = false
 is-long (Refusal.Types r) = false
 is-long Refusal.LongText = false
+is-long Refusal.NotHexadecimal = false
+is-long Refusal.WrongCount = false
+is-long Refusal.NotOneToken = false
 
 abbrev pub is-unread : Refusal → Bool
 is-unread Refusal.ShortMemory = false
@@ -32,6 +35,9 @@ is-unread (Refusal.Text f) = false
 is-unread Refusal.NoReading = true
 is-unread (Refusal.Types r) = false
 is-unread Refusal.LongText = false
+is-unread Refusal.NotHexadecimal = false
+is-unread Refusal.WrongCount = false
+is-unread Refusal.NotOneToken = false
 
 -- ---- a rate sheet, with a call under it as the second sheet
 

@@ -1,6 +1,7 @@
 pub mod Asked
 pub mod Causes
 pub mod Ends
+pub mod Meanings
 pub mod Shifts
 pub mod Told
 pub mod Values

@@ -1,4 +1,4 @@
--- How a place is told: file, line and column, and the number.
+-- How a place is told: file, line and column, or of a stored sheet the line; and the number.
 use mathlib.Core.List.{List, _++_}
 use lib.ListN.{length}
 use Prim.Native.Nat.{ℕ, min}
@@ -14,6 +14,9 @@ name-words file = all-shown (is-readable file) file
 
 unfoldable pub position-words : (file : List ℕ) (line column : ℕ) → List ℕ
 position-words file l k = name-words file ++ spell ":" ++ decimal-of l ++ spell ":" ++ decimal-of k
+
+unfoldable pub line-words : (file : List ℕ) (line : ℕ) → List ℕ
+line-words file l = name-words file ++ spell ": line " ++ decimal-of l
 
 unfoldable pub number-words : ℕ → List ℕ
 number-words n = spell ": number " ++ decimal-of n ++ spell ": "

@@ -1,11 +1,10 @@
 // What the words behind the program's name ask for. A word that means something by itself is a row of
-// `meaning`; any other is taken in its turn, as the sheet or as one of the two words that may follow it. A
-// new command is a task, its row in `meaning` and its row in `tasks::fits`.
+// `meanings`; any other is taken in its turn, as the sheet or as one of the two words that may follow it. A
+// new command is a task, its row in `meanings` and its row in `tasks::fits`.
 ghost use mathlib.Core.Path.{_≡_};
-ghost use Rattle.clerk.specs.Asked.{looks-optional, Means, unasked, with-task, with-turn, with-report};
+ghost use Rattle.clerk.specs.Asked.{unasked, with-task, with-turn, with-report};
 ghost use Rattle.clerk.specs.Asked.{with-edition, with-strange, with-plain, first-word, with-command};
 ghost use Rattle.clerk.specs.Asked.{with-whole, with-word, in-turn};
-use check::same;
 
 // What is to be done.
 pub enum Task {
@@ -14,6 +13,9 @@ pub enum Task {
     CheckWhole,
     Run,
     Write,
+    Store,
+    CheckStored,
+    RunStored,
     Shift,
     Help,
     Version,
@@ -75,59 +77,6 @@ pub enum Wanted {
     NoName,
     NoEdition,
     Unclear,
-}
-
-// Does it look like an option?
-fn is_option(text: &[u8]) -> bool
-    ensures { λ r. ⌜ r ≡ looks-optional (now (text .entry)) ⌝ }
-{
-    if text.len() < 2 {
-        return false;
-    }
-    if text[0] == b'-' {
-        return text[1] == b'-';
-    }
-    false
-}
-
-// The rows.
-pub fn meaning(text: &[u8]) -> Word
-    ensures { λ r. ⌜ Means (now (text .entry)) r ⌝ }
-{
-    if same(text, b"check") {
-        return Word::Command(Task::Check);
-    }
-    if same(text, b"run") {
-        return Word::Command(Task::Run);
-    }
-    if same(text, b"write") {
-        return Word::Command(Task::Write);
-    }
-    if same(text, b"shift") {
-        return Word::Command(Task::Shift);
-    }
-    if same(text, b"--whole") {
-        return Word::Whole;
-    }
-    if same(text, b"--report") {
-        return Word::Report;
-    }
-    if same(text, b"--edition") {
-        return Word::Edition;
-    }
-    if same(text, b"--help") {
-        return Word::Instead(Task::Help);
-    }
-    if same(text, b"--version") {
-        return Word::Instead(Task::Version);
-    }
-    if same(text, b"--") {
-        return Word::Rest;
-    }
-    if is_option(text) {
-        return Word::Strange;
-    }
-    Word::Plain
 }
 
 pub fn nothing() -> Asked
@@ -230,6 +179,9 @@ fn first(asked: Asked, task: Task, i: usize) -> Asked
         Task::CheckWhole => plain(asked, i),
         Task::Run => plain(asked, i),
         Task::Write => plain(asked, i),
+        Task::Store => plain(asked, i),
+        Task::CheckStored => plain(asked, i),
+        Task::RunStored => plain(asked, i),
         Task::Shift => plain(asked, i),
         Task::Help => asked,
         Task::Version => asked,
@@ -260,6 +212,9 @@ fn whole(asked: Asked, i: usize) -> Asked
         Task::Pay => unknown(asked, i),
         Task::Run => unknown(asked, i),
         Task::Write => unknown(asked, i),
+        Task::Store => unknown(asked, i),
+        Task::CheckStored => unknown(asked, i),
+        Task::RunStored => unknown(asked, i),
         Task::Shift => unknown(asked, i),
         Task::Help => asked,
         Task::Version => asked,

@@ -48,6 +48,9 @@ fn has_place(refusal: Refusal) -> bool
         Refusal::NoReading => true,
         Refusal::Types(_) => true,
         Refusal::LongText => false,
+        Refusal::NotHexadecimal => true,
+        Refusal::WrongCount => true,
+        Refusal::NotOneToken => true,
     }
 }
 

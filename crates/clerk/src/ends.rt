@@ -1,9 +1,11 @@
 // What came of a sheet, from what the box answered.
 ghost use mathlib.Core.Path.{_≡_};
-ghost use Rattle.clerk.specs.Ends.{is-long, is-unread, sided, refused-under, passed-under, checked-end};
+ghost use Rattle.clerk.specs.Ends.{sided, refused-under, passed-under, checked-end};
 ghost use Rattle.clerk.specs.Ends.{checked-under, own-place, ran-under, unread-under, ran-end, unread-end};
 ghost use Rattle.clerk.specs.Ends.{completed-if, shift-end, unread-shift, status-of, told-status, printed-of};
 use crate::causes::Cause;
+use crate::refusals::is_long;
+use crate::refusals::is_unread;
 use grumpy::answers::Checked;
 use grumpy::answers::PairChecked;
 use grumpy::answers::PairRan;
@@ -37,36 +39,6 @@ const INT: u32 = 1;
 
 // The sheet that the call is, of the two.
 const CALL: u32 = 2;
-
-fn is_long(why: Refusal) -> bool
-    ensures { λ r. ⌜ r ≡ is-long why ⌝ }
-{
-    match why {
-        Refusal::ShortMemory => false,
-        Refusal::LargeAllowance => false,
-        Refusal::NoEdition => false,
-        Refusal::LongSource => true,
-        Refusal::Text(_) => false,
-        Refusal::NoReading => false,
-        Refusal::Types(_) => false,
-        Refusal::LongText => false,
-    }
-}
-
-fn is_unread(why: Refusal) -> bool
-    ensures { λ r. ⌜ r ≡ is-unread why ⌝ }
-{
-    match why {
-        Refusal::ShortMemory => false,
-        Refusal::LargeAllowance => false,
-        Refusal::NoEdition => false,
-        Refusal::LongSource => false,
-        Refusal::Text(_) => false,
-        Refusal::NoReading => true,
-        Refusal::Types(_) => false,
-        Refusal::LongText => false,
-    }
-}
 
 // Refused for the call under the sheet, or for the sheet.
 fn side(called: bool, why: Refusal, place: usize) -> End

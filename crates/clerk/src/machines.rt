@@ -5,6 +5,7 @@ use crate::causes::Cause;
 use crate::ends::End;
 use crate::fields;
 use crate::fields::field;
+use crate::places::Places;
 use crate::shifts;
 use crate::types;
 use crate::words;
@@ -57,12 +58,16 @@ fn there(out: &mut [u8], at: usize, sheet: &[u8], place: usize) -> usize
     field(out, b, b"column", spot.column as u64)
 }
 
-fn cause(out: &mut [u8], at: usize, sheet: &[u8], why: Cause, place: usize) -> usize
+// A place of a stored sheet is a line, and nothing more.
+fn cause(out: &mut [u8], at: usize, sheet: &[u8], places: Places, why: Cause, place: usize) -> usize
     ensures { λ r. ⌜ Counts r (now (out .exit)) ⌝ }
 {
     let a = meaning(out, at, why);
     if causes::is_placed(why) {
-        return there(out, a, sheet, place);
+        return match places {
+            Places::Bytes => there(out, a, sheet, place),
+            Places::Lines => field(out, a, b"line", place as u64),
+        };
     }
     a
 }
@@ -81,6 +86,7 @@ pub fn report(
     status: u32,
     file: &[u8],
     source: &[u8],
+    places: Places,
     allowance: u64,
     end: End,
 ) -> usize
@@ -104,7 +110,7 @@ pub fn report(
             let e = fields::value_lines(out, d, value);
             ran(out, e, units, allowance, printed)
         }
-        End::Refused(why, place) => cause(out, b, source, why, place),
+        End::Refused(why, place) => cause(out, b, source, places, why, place),
         End::Stopped {
             why,
             place,
@@ -112,7 +118,7 @@ pub fn report(
             units,
             printed,
         } => {
-            let c = cause(out, b, source, why, place);
+            let c = cause(out, b, source, places, why, place);
             let d = fields::type_line(out, c, type_number);
             ran(out, d, units, allowance, printed)
         }

@@ -1,11 +1,12 @@
 // The report for people.
 ghost use Rattle.io.specs.Counts.{Counts};
 ghost use Rattle.page.specs.Text.{Adds};
-ghost use Rattle.clerk.specs.Told.{number-words, Positioned};
+ghost use Rattle.clerk.specs.Told.{number-words, line-words, Positioned};
 use crate::causes;
 use crate::causes::Cause;
 use crate::ends::End;
 use crate::fields;
+use crate::places::Places;
 use crate::words;
 use page::blanks;
 use page::decimal;
@@ -41,6 +42,16 @@ pub fn position(out: &mut [u8], at: usize, file: &[u8], sheet: &[u8], place: usi
     let c = decimal(out, b, spot.line as u64);
     let d = put(out, c, b":");
     decimal(out, d, spot.column as u64)
+}
+
+// File and line of a place in a stored sheet.
+pub fn line(out: &mut [u8], at: usize, file: &[u8], place: usize) -> usize
+    ensures { λ r. ⌜ Counts r (now (out .exit)) ⌝ }
+    ensures { λ r. ⌜ Adds (line-words (now (file .entry)) place) (now (out .entry)) (now (out .exit)) at r ⌝ }
+{
+    let a = fields::name(out, at, file);
+    let b = put(out, a, b": line ");
+    decimal(out, b, place as u64)
 }
 
 // A number, behind that.
@@ -80,12 +91,33 @@ fn there(out: &mut [u8], at: usize, file: &[u8], sheet: &[u8], why: Cause, place
     marked(out, d, &sheet[from..to], &sheet[from..here], spot.plain)
 }
 
+// A cause at a line of a stored sheet, whose digits nobody is shown.
+fn on_line(out: &mut [u8], at: usize, file: &[u8], why: Cause, place: usize) -> usize
+    ensures { λ r. ⌜ Counts r (now (out .exit)) ⌝ }
+{
+    let a = line(out, at, file, place);
+    let b = numbered(out, a, causes::number(why));
+    let c = words::words(out, b, why);
+    put(out, c, b"\n")
+}
+
 // A cause, with its place if it has one.
-fn cause(out: &mut [u8], at: usize, file: &[u8], sheet: &[u8], why: Cause, place: usize) -> usize
+fn cause(
+    out: &mut [u8],
+    at: usize,
+    file: &[u8],
+    sheet: &[u8],
+    places: Places,
+    why: Cause,
+    place: usize,
+) -> usize
     ensures { λ r. ⌜ Counts r (now (out .exit)) ⌝ }
 {
     if causes::is_placed(why) {
-        return there(out, at, file, sheet, why, place);
+        return match places {
+            Places::Bytes => there(out, at, file, sheet, why, place),
+            Places::Lines => on_line(out, at, file, why, place),
+        };
     }
     let a = fields::name(out, at, file);
     let b = put(out, a, b": ");
@@ -109,7 +141,14 @@ fn units(out: &mut [u8], at: usize, used: u32, allowance: u64) -> usize
 }
 
 // The whole report. `file` is the sheet's name.
-pub fn report(out: &mut [u8], file: &[u8], sheet: &[u8], allowance: u64, end: End) -> usize
+pub fn report(
+    out: &mut [u8],
+    file: &[u8],
+    sheet: &[u8],
+    places: Places,
+    allowance: u64,
+    end: End,
+) -> usize
     ensures { λ r. ⌜ Counts r (now (out .exit)) ⌝ }
 {
     match end {
@@ -128,7 +167,7 @@ pub fn report(out: &mut [u8], file: &[u8], sheet: &[u8], allowance: u64, end: En
             let c = fields::value_lines(out, b, value);
             units(out, c, used, allowance)
         }
-        End::Refused(why, place) => cause(out, 0, file, sheet, why, place),
+        End::Refused(why, place) => cause(out, 0, file, sheet, places, why, place),
         End::Stopped {
             why,
             place,
@@ -136,7 +175,7 @@ pub fn report(out: &mut [u8], file: &[u8], sheet: &[u8], allowance: u64, end: En
             units: used,
             printed: _,
         } => {
-            let a = cause(out, 0, file, sheet, why, place);
+            let a = cause(out, 0, file, sheet, places, why, place);
             let b = fields::type_line(out, a, type_number);
             units(out, b, used, allowance)
         }

@@ -63,6 +63,9 @@ fn refusal(out: &mut [u8], at: usize, why: Refusal) -> usize
             at,
             b"what would be written is longer than the room for it",
         ),
+        Refusal::NotHexadecimal => put(out, at, b"not a whole line of hexadecimal digits"),
+        Refusal::WrongCount => put(out, at, b"the count is not that of the lines under it"),
+        Refusal::NotOneToken => put(out, at, b"the line is not exactly one token"),
     }
 }
 

@@ -1,15 +1,17 @@
--- The contracts determine the answers: no two answers of check, of run or of write, and no two memories or outputs, meet
--- them for the same input. An answer can be told from its report.
+-- The contracts determine the answers: no two answers of check, of run, of write or of store, and no two memories or outputs,
+-- meet them for the same input. An answer can be told from its report.
 use mathlib.Core.List.{List}
 use mathlib.Core.Path.{_≡_, refl, sym, ap, _∙_}
 use Prim.Native.Nat.{ℕ}
 use Rattle.language.specs.Numbers.{Told, passed, refused, stopped}
 use Rattle.language.specs.Answers.{CheckReport, Check, RunReport, Run}
-use Rattle.language.specs.Writing.{WriteReport, Write}
-use Rattle.language.specs.Edition.{text-in}
+use Rattle.language.specs.Writing.{WriteReport, Write, Store}
+use Rattle.language.specs.Edition.{text-in, stored-in}
 use Rattle.language.proofs.Answers.Editions.{text-in-lawful}
 use Rattle.language.proofs.Answers.OneAnswer.{one-check, one-run}
 use Rattle.language.proofs.Writing.OneWriting.{one-write}
+use Rattle.language.proofs.Stored.Editions.{stored-in-lawful}
+use Rattle.language.proofs.Stored.OneStoring.{one-store}
 use Rattle.layout.specs.declared.values.Value.{Value}
 use Rattle.numbers.proofs.Apart.{refusal-of, refusal-back, stop-of, stop-back}
 use Rattle.numbers.specs.declared.Refusal.{Refusal}
@@ -76,9 +78,30 @@ run-determined {edition} {source} r q a b =
     let e = one-run (text-in-lawful edition source) a b in
     (sym (ran-back r) ∙ ap ran-of (e .0) ∙ ran-back q, e .1, e .2, e .3)
 
+-- of a stored sheet
+pub check-stored-determined : {edition : ℕ} {input table t′ u′ : List ℕ} (r q : Checked) → Check (stored-in edition input) table (checked-report r) t′
+    → Check (stored-in edition input) table (checked-report q) u′ → (r ≡ q) × (t′ ≡ u′)
+check-stored-determined {edition} {input} r q a b =
+    let e = one-check (stored-in-lawful edition input) a b in
+    (sym (checked-back r) ∙ ap checked-of (e .0) ∙ checked-back q, e .1)
+
+pub run-stored-determined : {edition : ℕ} {input table work output : List ℕ} {allowance : ℕ} {t′ w′ o′ t″ w″ o″ : List ℕ} (r q : Ran)
+    → Run (stored-in edition input) table work output allowance (ran-report r) t′ w′ o′
+    → Run (stored-in edition input) table work output allowance (ran-report q) t″ w″ o″ → (r ≡ q) × (t′ ≡ t″) × (w′ ≡ w″) × (o′ ≡ o″)
+run-stored-determined {edition} {input} r q a b =
+    let e = one-run (stored-in-lawful edition input) a b in
+    (sym (ran-back r) ∙ ap ran-of (e .0) ∙ ran-back q, e .1, e .2, e .3)
+
 pub write-determined : {edition : ℕ} {source table output : List ℕ} {t′ o′ t″ o″ : List ℕ} (r q : Wrote)
     → Write (text-in edition source) table output (wrote-report r) t′ o′ → Write (text-in edition source) table output (wrote-report q) t″ o″
     → (r ≡ q) × (t′ ≡ t″) × (o′ ≡ o″)
 write-determined {edition} {source} r q a b =
     let e = one-write (text-in-lawful edition source) a b in
+    (sym (wrote-back r) ∙ ap wrote-of (e .0) ∙ wrote-back q, e .1, e .2)
+
+pub store-determined : {edition : ℕ} {source table output : List ℕ} {t′ o′ t″ o″ : List ℕ} (r q : Wrote)
+    → Store (text-in edition source) table output (wrote-report r) t′ o′ → Store (text-in edition source) table output (wrote-report q) t″ o″
+    → (r ≡ q) × (t′ ≡ t″) × (o′ ≡ o″)
+store-determined {edition} {source} r q a b =
+    let e = one-store (text-in-lawful edition source) a b in
     (sym (wrote-back r) ∙ ap wrote-of (e .0) ∙ wrote-back q, e .1, e .2)

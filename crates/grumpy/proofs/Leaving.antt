@@ -10,6 +10,7 @@ use Rattle.language.specs.Numbers.{Refusal, Told, passed, refused, stopped}
 use Rattle.language.specs.Answers.{Origin, Refused, cleared, left, CheckReport, Checked, check-short, check-refused, check-passed, RunReport, Lent}
 use Rattle.language.specs.Answers.{Enough, Ran, run-short, run-large, run-refused, run-ended}
 use Rattle.language.specs.Writing.{WriteReport, Wrote, write-short, write-refused, write-long, write-passed}
+use Rattle.language.specs.Writing.{Stores, store-short, store-refused, store-long, store-passed}
 use Rattle.language.proofs.Answers.Endings.{IsRun, is-run}
 use Rattle.language.proofs.Answers.Origins.{Lawful, refused-clears}
 
@@ -37,6 +38,14 @@ module _ {P : Type 0} {o : Origin P} (law : Lawful o) where
   wrote-left h (write-refused k a) n words = refused-left a n words
   wrote-left h (write-long k a f) n words = refl
   wrote-left h (write-passed k a f) n words = refl
+
+  pub stores-left : {table room : ℕ} {r : WriteReport P} {bs : List ℕ} → TABLE ≤ table → Stores o table room r bs
+      → (n : ℕ) (words : List ℕ) → left (r .told) n words ≡ cleared n words
+  unfolding left
+  stores-left h (store-short k) n words = absurd (omega arith)
+  stores-left h (store-refused k a) n words = refused-left a n words
+  stores-left h (store-long k a f) n words = refl
+  stores-left h (store-passed k a f) n words = refl
 
   pub ran-left : {l : Lent} {r : RunReport P} {bs : List ℕ} → Enough l → Ran o l r bs → (n : ℕ) (words : List ℕ) → left (r .told) n words ≡ cleared n words
   unfolding left

@@ -4,6 +4,8 @@ pub mod Services
 pub mod Determined
 pub mod Demands
 pub mod Rewriting
+pub mod StoreDemands
+pub mod StoredDemands
 pub mod HeadOffice
 pub mod Moves
 pub mod TwoSheets

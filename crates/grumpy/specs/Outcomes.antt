@@ -12,15 +12,16 @@ use Rattle.language.specs.State.{Outcome, nothing}
 use Rattle.language.specs.Meaning.{run}
 use Rattle.language.specs.Numbers.{passed, stopped}
 use Rattle.language.specs.Answers as Answers
-use Rattle.language.specs.Answers.{nowhere, at, ending, Lent, Enough}
-use Rattle.language.specs.Edition.{text-in}
+use Rattle.language.specs.Answers.{Origin, nowhere, at, ending, Lent, Enough}
 use Rattle.numbers.specs.Meanings.{stop-meant}
 use Rattle.layout.specs.Table.{zeros}
 use Rattle.layout.specs.Values.{meant}
 use Rattle.layout.specs.Decode.{Holds}
 use Rattle.layout.specs.declared.Held.{Held}
 use Rattle.runner.specs.Contract as Runner
-use Rattle.sheets.specs.Sheets.{byte-of, OfSource}
+use Rattle.sheets.specs.Forms.{origin-of, place-of}
+use Rattle.sheets.specs.Sheets.{OfSource}
+use Rattle.sheets.specs.declared.Form.{Form}
 use Rattle.sheets.specs.declared.Seen.{Seen}
 use Rattle.grumpy.specs.Reports.{ran-report}
 use Rattle.grumpy.specs.declared.answers.Ran.{Ran}
@@ -51,10 +52,11 @@ pub record Executed (table work out work′ out′ : List ℕ) (P : Held) (allow
       → Told (run p allowance (length out)) allowance out out′ r
   pub cleared : work′ ≡ zeros work 0 WORK
 
--- the answer for a program whose type has the number t, from the words of a table and the byte that the source ends at
-abbrev pub ran-of : List ℕ → ℕ → ℕ → ℕ → Ending → Ran
-ran-of w count end t (Ending.Value v u n) = Ran.Value t v u n
-ran-of w count end t (Ending.Stopped y i u n) = Ran.Stopped y (byte-of w count end i) t u n
+-- the answer for a program whose type has the number t, from the words of a table that stands for so many tokens of a
+-- source
+abbrev pub ran-of : List ℕ → List ℕ → Form → List ℕ → ℕ → ℕ → Ending → Ran
+ran-of first second f w count t (Ending.Value v u n) = Ran.Value t v u n
+ran-of first second f w count t (Ending.Stopped y i u n) = Ran.Stopped y (place-of first second f w count i) t u n
 
 -- ---- a sheet that was examined
 
@@ -62,15 +64,16 @@ abbrev pub Runnable : List ℕ → List ℕ → ℕ → Seen → Type 0
 Runnable table work allowance (Seen.Passes P t) = Runner.Loaded table work P allowance
 Runnable table work allowance (Seen.Refused y i) = WORK ≤ length work
 
--- the report and the output are those of the written run of a source in the edition that a number names
-pub record Reported (edition : ℕ) (source : List ℕ) (l : Lent) (out out′ : List ℕ) (r : Ran) : Type 0 where
+-- the report and the output are those of the written run of an origin
+pub record Reported (o : Origin ℕ) (l : Lent) (out out′ : List ℕ) (r : Ran) : Type 0 where
   pub printed : List ℕ
-  pub ran : Answers.Ran (text-in edition source) l (ran-report r) printed
+  pub ran : Answers.Ran o l (ran-report r) printed
   pub output : out′ ≡ printed ++ drop (length printed) out
 
--- with memory and allowance in order, in whatever edition it was examined
-pub record Answered (source table work out work′ out′ : List ℕ) (allowance : ℕ) (s : Seen) (r : Ran) : Type 0 where
-  pub told : (edition : ℕ) (l : Lent) → OfSource (text-in edition source) table s → Enough l
+-- with memory and allowance in order, in whatever edition the source was examined
+pub record Answered (first second : List ℕ) (f : Form) (table work out work′ out′ : List ℕ) (allowance : ℕ) (s : Seen)
+    (r : Ran) : Type 0 where
+  pub told : (edition : ℕ) (l : Lent) → OfSource (origin-of first second f edition) table s → Enough l
       → l .output ≡ length out → l .allowance ≡ allowance → allowance ≤ ALLOWANCE
-      → Reported edition source l out out′ r
+      → Reported (origin-of first second f edition) l out out′ r
   pub cleared : work′ ≡ zeros work 0 WORK

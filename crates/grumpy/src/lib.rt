@@ -1,22 +1,23 @@
 // The services of the box. Check reads a sheet and answers its type or a refusal; run checks it again and
-// runs it; write checks it and writes it out again. Check and run also take two sheets, a rule book and a
-// loom's, and read them as one. All take the number of an edition first, any number, any bytes, any lent
-// memory and any allowance, and tell what the table of numbers has; what they leave in lent memory follows
-// from that.
+// runs it; write checks it and writes it out again, and store writes its stored form. Check and run also take a
+// stored sheet; and two sheets, a rule book and a loom's, and read them as one. All take the number of an edition
+// first, any number, any bytes, any lent memory and any allowance, and tell what the table of numbers has; what
+// they leave in lent memory follows from that.
 ghost use mathlib.Core.Path.{_≡_};
 ghost use Rattle.language.specs.Answers.{Check, Run};
-ghost use Rattle.language.specs.Edition.{text-in, pair-in, is-known};
+ghost use Rattle.language.specs.Edition.{text-in, stored-in, pair-in, is-known};
 ghost use Rattle.language.specs.Outline.{Outline};
-ghost use Rattle.language.specs.Writing.{Write};
+ghost use Rattle.language.specs.Writing.{Write, Store};
 ghost use Rattle.outlines.specs.Reports.{wanted, outlined-report};
 ghost use Rattle.pairs.specs.Spots.{Shows};
-ghost use Rattle.tokens.specs.Shown.{text-of};
+ghost use Rattle.sheets.specs.Forms.{origin-of};
 ghost use Rattle.grumpy.specs.Reports.{checked-report, ran-report, wrote-report};
 ghost use Rattle.grumpy.specs.Reports.{pair-checked-report, pair-ran-report};
 
 pub mod answers;
 mod outcomes;
 mod places;
+mod storings;
 mod writings;
 
 use crate::answers::Checked;
@@ -31,20 +32,21 @@ use layout::memory;
 use numbers::Refusal;
 use outlines::Outlined;
 use pairs::Spot;
+use sheets::Form;
 use sheets::Seen;
 use tokens::edition::Known;
 use tokens::edition::named;
 use tokens::view::View;
 
-// What check answers for the text that a view shows.
-fn check_text(edition: u32, first: &[u8], second: &[u8], view: View, table: &mut [u32]) -> Checked
-    ensures { λ r. ⌜ Check (text-in edition (text-of (first .entry) (second .entry) view)) (now (table .entry))
+// What check answers for a source of either form.
+fn check_form(edition: u32, first: &[u8], second: &[u8], form: Form, table: &mut [u32]) -> Checked
+    ensures { λ r. ⌜ Check (origin-of (now (first .entry)) (now (second .entry)) form edition) (now (table .entry))
         (checked-report r) (now (table .exit)) ⌝ }
 {
     if table.len() < TABLE {
         return Checked::Refused(Refusal::ShortMemory, 0);
     }
-    let seen = sheets::examine(edition, first, second, view, table);
+    let seen = sheets::examine_form(edition, first, second, form, table);
     memory::clear(table, 0, TABLE);
     match seen {
         Seen::Passes {
@@ -59,7 +61,15 @@ pub fn check(edition: u32, source: &[u8], table: &mut [u32]) -> Checked
     ensures { λ r. ⌜ Check (text-in edition (now (source .entry))) (now (table .entry)) (checked-report r)
         (now (table .exit)) ⌝ }
 {
-    check_text(edition, source, source, View::Plain, table)
+    check_form(edition, source, source, Form::Text(View::Plain), table)
+}
+
+// The same of a stored sheet; its places are lines.
+pub fn check_stored(edition: u32, stored: &[u8], table: &mut [u32]) -> Checked
+    ensures { λ r. ⌜ Check (stored-in edition (now (stored .entry))) (now (table .entry)) (checked-report r)
+        (now (table .exit)) ⌝ }
+{
+    check_form(edition, stored, stored, Form::Lines, table)
 }
 
 // The first sheet, one LF, then the second, without their being put together.
@@ -67,22 +77,22 @@ pub fn check_pair(edition: u32, first: &[u8], second: &[u8], table: &mut [u32]) 
     ensures { λ r. ⌜ Check (pair-in edition (now (first .entry)) (now (second .entry))) (now (table .entry))
         (pair-checked-report r) (now (table .exit)) ⌝ }
 {
-    let answer = check_text(edition, first, second, View::Joined, table);
+    let answer = check_form(edition, first, second, Form::Text(View::Joined), table);
     places::checked(first, second, answer)
 }
 
-// What run answers for the text that a view shows.
-fn run_text(
+// What run answers for a source of either form.
+fn run_form(
     edition: u32,
     first: &[u8],
     second: &[u8],
-    view: View,
+    form: Form,
     table: &mut [u32],
     work: &mut [u32],
     out: &mut [u8],
     allowance: u64,
 ) -> Ran
-    ensures { λ r. ⌜ Run (text-in edition (text-of (first .entry) (second .entry) view)) (now (table .entry))
+    ensures { λ r. ⌜ Run (origin-of (now (first .entry)) (now (second .entry)) form edition) (now (table .entry))
         (now (work .entry)) (now (out .entry)) allowance (ran-report r) (now (table .exit)) (now (work .exit))
         (now (out .exit)) ⌝ }
 {
@@ -97,11 +107,11 @@ fn run_text(
         memory::clear(work, 0, WORK);
         return Ran::Refused(Refusal::LargeAllowance, 0);
     }
-    let seen = sheets::examine(edition, first, second, view, table);
+    let seen = sheets::examine_form(edition, first, second, form, table);
     let answer = outcomes::run_or_refuse(
         first,
         second,
-        view,
+        form,
         table,
         work,
         out,
@@ -124,11 +134,35 @@ pub fn run(
     ensures { λ r. ⌜ Run (text-in edition (now (source .entry))) (now (table .entry)) (now (work .entry))
         (now (out .entry)) allowance (ran-report r) (now (table .exit)) (now (work .exit)) (now (out .exit)) ⌝ }
 {
-    run_text(
+    run_form(
         edition,
         source,
         source,
-        View::Plain,
+        Form::Text(View::Plain),
+        table,
+        work,
+        out,
+        allowance,
+    )
+}
+
+// The same of a stored sheet.
+pub fn run_stored(
+    edition: u32,
+    stored: &[u8],
+    table: &mut [u32],
+    work: &mut [u32],
+    out: &mut [u8],
+    allowance: u64,
+) -> Ran
+    ensures { λ r. ⌜ Run (stored-in edition (now (stored .entry))) (now (table .entry)) (now (work .entry))
+        (now (out .entry)) allowance (ran-report r) (now (table .exit)) (now (work .exit)) (now (out .exit)) ⌝ }
+{
+    run_form(
+        edition,
+        stored,
+        stored,
+        Form::Lines,
         table,
         work,
         out,
@@ -150,11 +184,11 @@ pub fn run_pair(
         (now (work .entry)) (now (out .entry)) allowance (pair-ran-report r) (now (table .exit)) (now (work .exit))
         (now (out .exit)) ⌝ }
 {
-    let answer = run_text(
+    let answer = run_form(
         edition,
         first,
         second,
-        View::Joined,
+        Form::Text(View::Joined),
         table,
         work,
         out,
@@ -174,6 +208,21 @@ pub fn write(edition: u32, source: &[u8], table: &mut [u32], out: &mut [u8]) -> 
     }
     let seen = sheets::examine(edition, source, source, View::Plain, table);
     let answer = writings::write_or_refuse(source, table, out, seen);
+    memory::clear(table, 0, TABLE);
+    answer
+}
+
+// `out` gets the sheet's stored form: a line with the count of its tokens, and a line for each of them.
+pub fn store(edition: u32, source: &[u8], table: &mut [u32], out: &mut [u8]) -> Wrote
+    ensures { λ r.
+        ⌜ Store (text-in edition (now (source .entry))) (now (table .entry)) (now (out .entry)) (wrote-report r)
+        (now (table .exit)) (now (out .exit)) ⌝ }
+{
+    if table.len() < TABLE {
+        return Wrote::Refused(Refusal::ShortMemory, 0);
+    }
+    let seen = sheets::examine(edition, source, source, View::Plain, table);
+    let answer = storings::store_or_refuse(source, table, out, seen);
     memory::clear(table, 0, TABLE);
     answer
 }

@@ -5,7 +5,6 @@ ghost use lib.ListN.{length};
 ghost use Rattle.language.specs.Sizes.{TOKENS, TABLE, WORK};
 ghost use Rattle.layout.specs.Table.{zeros};
 ghost use Rattle.runner.specs.Contract.{Loaded};
-ghost use Rattle.tokens.specs.Shown.{text-of};
 ghost use Rattle.grumpy.specs.Outcomes.{Executed, ran-of, Runnable, Answered};
 use crate::answers::Ran;
 use language::WORK;
@@ -15,9 +14,8 @@ use layout::values::Value;
 use numbers::Refusal;
 use numbers::Stop;
 use runner::Done;
+use sheets::Form;
 use sheets::Seen;
-use tokens::view::View;
-use tokens::view::len;
 
 // How a program ends: a value, or a stop and the token it is told at; with the units
 // used and the bytes printed.
@@ -66,10 +64,19 @@ fn execute(table: &[u32], work: &mut [u32], out: &mut [u8], program: Held, allow
     }
 }
 
-// The answer for a program of this type that ended so, in a source that ends at byte `end`.
-fn answer(table: &[u32], count: usize, end: usize, type_number: u32, ending: Ending) -> Ran
+// The answer for a program of this type that ended so, in a source whose tokens the table holds.
+fn answer(
+    first: &[u8],
+    second: &[u8],
+    form: Form,
+    table: &[u32],
+    count: usize,
+    type_number: u32,
+    ending: Ending,
+) -> Ran
     requires { ⌜ (TABLE ≤ length (now table)) × (count ≤ TOKENS) ⌝ }
-    ensures { λ r. ⌜ r ≡ ran-of (now (table .entry)) count end «type_number» ending ⌝ }
+    ensures { λ r.
+        ⌜ r ≡ ran-of (now (first .entry)) (now (second .entry)) form (now (table .entry)) count «type_number» ending ⌝ }
 {
     match ending {
         Ending::Value {
@@ -88,8 +95,7 @@ fn answer(table: &[u32], count: usize, end: usize, type_number: u32, ending: End
             units,
             printed,
         } => {
-            let ordinal = at as usize;
-            let place = sheets::place(table, count, end, ordinal);
+            let place = sheets::place_in(first, second, form, table, count, at);
             Ran::Stopped {
                 why,
                 place,
@@ -116,7 +122,7 @@ fn refuse(work: &mut [u32], out: &mut [u8], why: Refusal, place: usize) -> Ran
 pub fn run_or_refuse(
     first: &[u8],
     second: &[u8],
-    view: View,
+    form: Form,
     table: &[u32],
     work: &mut [u32],
     out: &mut [u8],
@@ -124,7 +130,7 @@ pub fn run_or_refuse(
     allowance: u32,
 ) -> Ran
     requires { ⌜ Runnable (now table) (now work) allowance seen ⌝ }
-    ensures { λ r. ⌜ Answered (text-of (first .entry) (second .entry) view) (now (table .entry)) (now (work .entry))
+    ensures { λ r. ⌜ Answered (now (first .entry)) (now (second .entry)) form (now (table .entry)) (now (work .entry))
         (now (out .entry)) (now (work .exit)) (now (out .exit)) allowance seen r ⌝ }
 {
     match seen {
@@ -133,8 +139,15 @@ pub fn run_or_refuse(
             type_number,
         } => {
             let ending = execute(table, work, out, program, allowance);
-            let end = len(first, second, view);
-            answer(table, program.count, end, type_number, ending)
+            answer(
+                first,
+                second,
+                form,
+                table,
+                program.count,
+                type_number,
+                ending,
+            )
         }
         Seen::Refused(why, place) => refuse(work, out, why, place),
     }

@@ -25,6 +25,9 @@ fn refused_at(first: &[u8], second: &[u8], why: Refusal, place: usize) -> Spot
         Refusal::NoReading => pairs::spot_at(first, second, place),
         Refusal::Types(_reason) => pairs::spot_at(first, second, place),
         Refusal::LongText => pairs::front(),
+        Refusal::NotHexadecimal => pairs::spot_at(first, second, place),
+        Refusal::WrongCount => pairs::spot_at(first, second, place),
+        Refusal::NotOneToken => pairs::spot_at(first, second, place),
     }
 }
 

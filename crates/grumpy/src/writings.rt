@@ -1,4 +1,5 @@
 // What is written of a sheet that was examined.
+ghost use Rattle.language.specs.Writing as writing;
 ghost use Rattle.writer.specs.Texts.{Writable};
 ghost use Rattle.grumpy.specs.Writings.{Rewrote, Readable, Rewritten};
 use crate::answers::Wrote;
@@ -9,7 +10,8 @@ use writer::Text;
 // The text of a sheet that passes.
 fn rewrite(source: &[u8], table: &[u32], count: usize, out: &mut [u8]) -> Wrote
     requires { ⌜ Writable (now source) (now table) count ⌝ }
-    ensures { λ r. ⌜ Rewrote (now (source .entry)) (now (table .entry)) count (now (out .entry)) (now (out .exit)) r ⌝ }
+    ensures { λ r. ⌜ Rewrote writing.Wrote (now (source .entry)) (now (table .entry)) count (now (out .entry))
+        (now (out .exit)) r ⌝ }
 {
     match writer::write(source, table, count, out) {
         Text::Written(long) => Wrote::Written(long),
@@ -21,7 +23,8 @@ fn rewrite(source: &[u8], table: &[u32], count: usize, out: &mut [u8]) -> Wrote
 pub fn write_or_refuse(source: &[u8], table: &[u32], out: &mut [u8], seen: Seen) -> Wrote
     requires { ⌜ Readable (now source) (now table) seen ⌝ }
     ensures { λ r.
-        ⌜ Rewritten (now (source .entry)) (now (table .entry)) (now (out .entry)) (now (out .exit)) seen r ⌝ }
+        ⌜ Rewritten writing.Wrote (now (source .entry)) (now (table .entry)) (now (out .entry)) (now (out .exit))
+        seen r ⌝ }
 {
     match seen {
         Seen::Passes {

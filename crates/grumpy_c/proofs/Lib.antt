@@ -1,5 +1,6 @@
 pub mod TwosComplement
 pub mod Told
+pub mod ToldStored
 pub mod ToldPairs
 pub mod Fronts
 pub mod StateWords

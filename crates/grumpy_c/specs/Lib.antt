@@ -1,4 +1,5 @@
 pub mod Reports
+pub mod Stored
 pub mod Pairs
 pub mod Words
 pub mod States

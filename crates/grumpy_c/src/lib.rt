@@ -1,11 +1,12 @@
 // The C interface of the box. All functions take the number of an edition first. They return the paper's
 // number and write a report: number, place, type, and for run also value (64-bit two's complement; a float's
-// bits), units and bytes printed; for write bytes written in the type's stead; for two sheets also the sheet,
-// and where the line that is shown begins and ends in it. A report that is too short is answered like memory
-// that is too short, and nothing is changed.
+// bits), units and bytes printed; for write and store bytes written in the type's stead; for two sheets also the
+// sheet, and where the line that is shown begins and ends in it; the places of a stored sheet are lines. A report
+// that is too short is answered like memory that is too short, and nothing is changed.
 ghost use Prim.Native.Nat.{_≤_};
 ghost use lib.ListN.{length};
 ghost use Rattle.grumpy_c.specs.Reports.{ToldChecked, ToldRan, ToldWrote, CheckedC, RanC, WroteC};
+ghost use Rattle.grumpy_c.specs.Stored.{StoredC, StoredCheckedC, StoredRanC};
 ghost use Rattle.grumpy_c.specs.Pairs.{ToldPairChecked, ToldPairRan, PairCheckedC, PairRanC};
 
 mod reports;
@@ -147,6 +148,63 @@ pub extern "C" fn grumpy_write(
     }
     let answer = grumpy::write(edition, source, table, out);
     report_wrote(report, answer)
+}
+
+#[no_mangle]
+pub extern "C" fn grumpy_store(
+    edition: u32,
+    source: &[u8],
+    table: &mut [u32],
+    out: &mut [u8],
+    report: &mut [u64],
+) -> u32
+    ensures { λ r.
+        ⌜ StoredC edition (now (source .entry)) (now (table .entry)) (now (out .entry)) (now (report .entry))
+        (now (table .exit)) (now (out .exit)) (now (report .exit)) r ⌝ }
+{
+    if report.len() < 3 {
+        return 40;
+    }
+    let answer = grumpy::store(edition, source, table, out);
+    report_wrote(report, answer)
+}
+
+#[no_mangle]
+pub extern "C" fn grumpy_check_stored(
+    edition: u32,
+    stored: &[u8],
+    table: &mut [u32],
+    report: &mut [u64],
+) -> u32
+    ensures { λ r. ⌜ StoredCheckedC edition (now (stored .entry)) (now (table .entry)) (now (report .entry))
+        (now (table .exit)) (now (report .exit)) r ⌝ }
+{
+    if report.len() < 3 {
+        return 40;
+    }
+    let answer = grumpy::check_stored(edition, stored, table);
+    report_checked(report, answer)
+}
+
+#[no_mangle]
+pub extern "C" fn grumpy_run_stored(
+    edition: u32,
+    stored: &[u8],
+    table: &mut [u32],
+    work: &mut [u32],
+    out: &mut [u8],
+    allowance: u64,
+    report: &mut [u64],
+) -> u32
+    ensures { λ r. ⌜ StoredRanC edition (now (stored .entry)) (now (table .entry)) (now (work .entry))
+        (now (out .entry)) allowance (now (report .entry)) (now (table .exit)) (now (work .exit)) (now (out .exit))
+        (now (report .exit)) r ⌝ }
+{
+    if report.len() < 6 {
+        return 40;
+    }
+    let answer = grumpy::run_stored(edition, stored, table, work, out, allowance);
+    report_ran(report, answer)
 }
 
 fn report_pair_checked(report: &mut [u64], answer: PairChecked) -> u32

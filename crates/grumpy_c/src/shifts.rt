@@ -59,6 +59,9 @@ fn keeps(refusal: Refusal) -> bool
         Refusal::NoReading => false,
         Refusal::Types(_) => false,
         Refusal::LongText => false,
+        Refusal::NotHexadecimal => false,
+        Refusal::WrongCount => false,
+        Refusal::NotOneToken => false,
     }
 }
 

@@ -6,4 +6,5 @@ pub mod Meaning
 pub mod Answers
 pub mod Writing
 pub mod Pairs
+pub mod Stored
 pub mod Shift

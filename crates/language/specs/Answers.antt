@@ -21,7 +21,7 @@ use Rattle.language.specs.State.{Value, nothing, State, Outcome, value, 
 use Rattle.language.specs.Meaning.{run, type-number}
 use Rattle.language.specs.Numbers.{Refusal, short-memory, large-allowance, no-edition, long-source}
 use Rattle.language.specs.Numbers.{text, no-reading, types, Told, passed, refused, stopped}
-use Rattle.language.specs.Numbers.{long-text}
+use Rattle.language.specs.Numbers.{long-text, not-hexadecimal, wrong-count, not-one-token}
 
 -- ---- where tokens come from
 
@@ -118,6 +118,9 @@ keeps (text f) = false
 keeps no-reading = false
 keeps (types r) = false
 keeps long-text = false
+keeps not-hexadecimal = false
+keeps wrong-count = false
+keeps not-one-token = false
 
 unfoldable pub cleared : ℕ → List ℕ → List ℕ
 cleared n words = replicate n 0 ++ drop n words

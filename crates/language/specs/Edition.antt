@@ -9,6 +9,7 @@ use lib.Dec.{eqb}
 use Rattle.language.specs.Tokens.{Vocabulary, EDITION-1, EDITION-2, Token}
 use Rattle.language.specs.Numbers.{Refusal, no-edition}
 use Rattle.language.specs.Answers.{Origin, from-text}
+use Rattle.language.specs.Stored.{from-stored}
 use Rattle.language.specs.Pairs.{Place, from-pair}
 
 -- the vocabulary that a number names
@@ -42,9 +43,12 @@ module _ {P : Type 0} (n : ℕ) (o : Vocabulary → Origin P) where
     at = o EDITION-1 .at;
   }
 
--- a text and two sheets, as callers lend them
+-- a text, a stored sheet and two sheets, as callers lend them
 abbrev pub text-in : ℕ → List ℕ → Origin ℕ
 text-in n source = in-edition n λ voc. from-text voc source
+
+abbrev pub stored-in : ℕ → List ℕ → Origin ℕ
+stored-in n input = in-edition n λ voc. from-stored voc input
 
 abbrev pub pair-in : ℕ → List ℕ → List ℕ → Origin Place
 pair-in n first second = in-edition n λ voc. from-pair voc first second

@@ -11,6 +11,7 @@ pub mod State
 pub mod Meaning
 pub mod Numbers
 pub mod Answers
+pub mod Stored
 pub mod Writing
 pub mod Pairs
 pub mod Edition

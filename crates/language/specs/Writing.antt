@@ -1,5 +1,5 @@
--- Writing a sheet out again (R03): what is written for tokens, and what write answers for everything that it can be
--- lent.
+-- Writing a sheet out again (R03) and storing it (R09): what is written for tokens, and what write and store answer for
+-- everything that they can be lent.
 use mathlib.Core.List.{List, [], _∷_, _++_}
 use mathlib.Core.Logic.{_⊎_}
 use mathlib.Core.Path.{_≡_}
@@ -11,6 +11,7 @@ use Rattle.language.specs.Tokens.{Token}
 use Rattle.language.specs.Trees.{Ty, Program}
 use Rattle.language.specs.Numbers.{Refusal, short-memory, long-text, Told, passed, refused}
 use Rattle.language.specs.Answers.{Origin, Passes, Refused, left}
+use Rattle.language.specs.Stored.{stored}
 
 -- ---- what is written (R03.2)
 
@@ -63,3 +64,26 @@ module _ {P : Type 0} (o : Origin P) where
     pub answer : Wrote (length table) (length output) report text
     pub table-left : table′ ≡ left (report .told) TABLE table
     pub output-left : output′ ≡ text ++ drop (length text) output
+
+-- ---- store (R09.5), which has a report as write has
+
+module _ {P : Type 0} (o : Origin P) where
+  pub data Stores (table output : ℕ) : WriteReport P → List ℕ → Type 0 where
+    store-short : table < TABLE → Stores table output (write-report (refused short-memory) (o .nowhere) 0) []
+    -- what does not pass is refused as it is by check
+    store-refused : {r : Refusal} {x : P} → TABLE ≤ table → Refused o r x
+        → Stores table output (write-report (refused r) x 0) []
+    -- a stored form may be longer than a source
+    store-long : {ts : List Token} {p : Program} {t : Ty}
+        → TABLE ≤ table → Passes o ts p t → output < length (stored ts)
+        → Stores table output (write-report (refused long-text) (o .nowhere) 0) []
+    store-passed : {ts : List Token} {p : Program} {t : Ty}
+        → TABLE ≤ table → Passes o ts p t → length (stored ts) ≤ output
+        → Stores table output (write-report passed (o .nowhere) (length (stored ts))) (stored ts)
+
+  -- The contract of store: its report, and the table memory and the output as they are left.
+  pub record Store (table output : List ℕ) (report : WriteReport P) (table′ output′ : List ℕ) : Type 0 where
+    pub form : List ℕ
+    pub answer : Stores (length table) (length output) report form
+    pub table-left : table′ ≡ left (report .told) TABLE table
+    pub output-left : output′ ≡ form ++ drop (length form) output

@@ -83,6 +83,9 @@ refusal-of (Numbers.text f) = Refusal.Text (flaw-of f)
 refusal-of Numbers.no-reading = Refusal.NoReading
 refusal-of (Numbers.types r) = Refusal.Types (reason-of r)
 refusal-of Numbers.long-text = Refusal.LongText
+refusal-of Numbers.not-hexadecimal = Refusal.NotHexadecimal
+refusal-of Numbers.wrong-count = Refusal.WrongCount
+refusal-of Numbers.not-one-token = Refusal.NotOneToken
 
 pub refusal-back : (y : Refusal) → refusal-of (refusal-meant y) ≡ y
 refusal-back Refusal.ShortMemory = refl
@@ -93,6 +96,9 @@ refusal-back (Refusal.Text f) = ap Refusal.Text (flaw-back f)
 refusal-back Refusal.NoReading = refl
 refusal-back (Refusal.Types r) = ap Refusal.Types (reason-back r)
 refusal-back Refusal.LongText = refl
+refusal-back Refusal.NotHexadecimal = refl
+refusal-back Refusal.WrongCount = refl
+refusal-back Refusal.NotOneToken = refl
 
 -- two that mean the same are the same
 pub same-refusal : (y z : Refusal) → refusal-meant y ≡ refusal-meant z → y ≡ z

@@ -42,6 +42,9 @@ refusal-meant (Refusal.Text f) = Numbers.text (flaw-meant f)
 refusal-meant Refusal.NoReading = Numbers.no-reading
 refusal-meant (Refusal.Types r) = Numbers.types (reason-meant r)
 refusal-meant Refusal.LongText = Numbers.long-text
+refusal-meant Refusal.NotHexadecimal = Numbers.not-hexadecimal
+refusal-meant Refusal.WrongCount = Numbers.wrong-count
+refusal-meant Refusal.NotOneToken = Numbers.not-one-token
 
 abbrev pub stop-meant : Stop → State.Stop
 stop-meant Stop.NoUnit = State.no-unit

@@ -45,6 +45,10 @@ pub enum Refusal {
     Types(Reason),
     // What would be written is too long.
     LongText,
+    // A line or the count of a stored sheet is wrong.
+    NotHexadecimal,
+    WrongCount,
+    NotOneToken,
 }
 
 // Why a run stops before it has a value.
@@ -107,6 +111,9 @@ pub fn of_refusal(refusal: Refusal) -> u32
         Refusal::NoReading => 20,
         Refusal::Types(reason) => of_reason(reason),
         Refusal::LongText => 44,
+        Refusal::NotHexadecimal => 60,
+        Refusal::WrongCount => 61,
+        Refusal::NotOneToken => 62,
     }
 }
 

@@ -1,2 +1,4 @@
 pub mod Layers
+pub mod StoredLayers
+pub mod FormLaws
 pub mod OneAnswer

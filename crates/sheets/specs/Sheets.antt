@@ -2,10 +2,10 @@
 use mathlib.Core.Bool.{cond}
 use mathlib.Core.List.{List}
 use mathlib.Core.Path.{_≡_}
-use Prim.Native.Nat.{ℕ, _≤_}
+use Prim.Native.Nat.{ℕ, _+_, _≤_}
 use lib.Dec.{ltb}
 use lib.ListN.{length}
-use Rattle.language.specs.Sizes.{TABLE}
+use Rattle.language.specs.Sizes.{TOKENS, TABLE}
 use Rattle.language.specs.Tokens.{Token}
 use Rattle.language.specs.Trees.{Ty, Program}
 use Rattle.language.specs.Types.{HasType}
@@ -75,6 +75,16 @@ pub record Read (w w′ : List ℕ) (count : ℕ) (v : Verdict) : Type 0 where
 abbrev pub Placed : List ℕ → ℕ → ℕ → Verdict → Seen → Type 0
 Placed w count end (Verdict.Proper P n) s = s ≡ Seen.Passes P n
 Placed w count end (Verdict.Denied y i) s = s ≡ Seen.Refused y (byte-of w count end i)
+
+-- the ordinal that is told is one of tokens that a table holds, or that of their end
+abbrev pub Near : Verdict → Type 0
+Near (Verdict.Proper P n) = Unit {0}
+Near (Verdict.Denied y i) = i ≤ TOKENS
+
+-- what is seen of a stored sheet, whose places are lines (R09.9)
+abbrev pub lined-of : Verdict → Seen
+lined-of (Verdict.Proper P n) = Seen.Passes P n
+lined-of (Verdict.Denied y i) = Seen.Refused y (i + 2)
 
 -- as an origin of tokens it passes, and the table holds its program
 pub record Passing (o : Origin ℕ) (w : List ℕ) (P : Held) (n : ℕ) : Type 0 where

@@ -1,20 +1,23 @@
 // What becomes of a source: split into the tokens of the edition that is named, read and typed, it is a
-// program that the table holds, or it is refused. All services of the box begin with this, for one sheet
-// and for two.
+// program that the table holds, or it is refused. All services of the box begin with this, for one sheet,
+// for two, and for a stored one.
 ghost use mathlib.Core.Path.{_≡_};
 ghost use Prim.Native.Nat.{_≤_};
 ghost use lib.ListN.{length};
 ghost use Rattle.language.specs.Answers.{from-text};
-ghost use Rattle.language.specs.Edition.{text-in};
+ghost use Rattle.language.specs.Edition.{text-in, stored-in};
 ghost use Rattle.language.specs.Sizes.{TOKENS, TABLE};
+ghost use Rattle.language.specs.Stored.{from-stored};
 ghost use Rattle.checker.specs.Checked.{Checkable};
 ghost use Rattle.tokens.specs.Editions.{meant};
 ghost use Rattle.tokens.specs.Shown.{text-of};
-ghost use Rattle.sheets.specs.Sheets.{byte-of, Typed, Standing, Read, Placed, Examined};
+ghost use Rattle.sheets.specs.Sheets.{byte-of, Typed, Standing, Read, Placed, Near, lined-of, Examined};
+ghost use Rattle.sheets.specs.Forms.{origin-of, place-of};
 use layout::Held;
 use numbers::Refusal;
 use reader::Found;
 use rules::Typing;
+use stored::Stored;
 use tokens::answer::Split;
 use tokens::edition::Edition;
 use tokens::edition::Known;
@@ -33,6 +36,12 @@ pub enum Verdict {
 pub enum Seen {
     Passes { program: Held, type_number: u32 },
     Refused(Refusal, usize),
+}
+
+// What a source is: the text that a view shows of two sheets, or the first of them as a stored sheet.
+pub enum Form {
+    Text(View),
+    Lines,
 }
 
 // The byte of the token with this ordinal; past the last token, the end of the source.
@@ -119,5 +128,91 @@ pub fn examine(edition: u32, first: &[u8], second: &[u8], view: View, table: &mu
     match named(edition) {
         Known::Is(known) => examine_in(known, first, second, view, table),
         Known::None => Seen::Refused(Refusal::NoEdition, 0),
+    }
+}
+
+// What becomes of a stored sheet, once its tokens are read. The first line is the count, so the line of a token is
+// two behind its ordinal, and the end is told at the line behind the last.
+fn lined(verdict: Verdict) -> Seen
+    requires { ⌜ Near verdict ⌝ }
+    ensures { λ r. ⌜ r ≡ lined-of verdict ⌝ }
+{
+    match verdict {
+        Verdict::Proper {
+            program,
+            type_number,
+        } => Seen::Passes {
+            program,
+            type_number,
+        },
+        Verdict::Denied(why, at) => Seen::Refused(why, at + 2),
+    }
+}
+
+// What becomes of a stored sheet in an edition.
+fn examine_stored_in(edition: Edition, input: &[u8], table: &mut [u32]) -> Seen
+    requires { ⌜ TABLE ≤ length (now table) ⌝ }
+    ensures { λ r.
+        ⌜ Examined (from-stored (meant edition) (now (input .entry))) (now (table .entry)) (now (table .exit)) r ⌝ }
+{
+    match stored::read(edition, input, table) {
+        Stored::Tokens(count) => {
+            let verdict = read(table, count);
+            lined(verdict)
+        }
+        Stored::Denied(why, line) => Seen::Refused(why, line),
+    }
+}
+
+// In the edition that a number names.
+pub fn examine_stored(edition: u32, input: &[u8], table: &mut [u32]) -> Seen
+    requires { ⌜ TABLE ≤ length (now table) ⌝ }
+    ensures { λ r. ⌜ Examined (stored-in edition (now (input .entry))) (now (table .entry)) (now (table .exit)) r ⌝ }
+{
+    match named(edition) {
+        Known::Is(known) => examine_stored_in(known, input, table),
+        Known::None => Seen::Refused(Refusal::NoEdition, 0),
+    }
+}
+
+// What becomes of a source of either form.
+pub fn examine_form(
+    edition: u32,
+    first: &[u8],
+    second: &[u8],
+    form: Form,
+    table: &mut [u32],
+) -> Seen
+    requires { ⌜ TABLE ≤ length (now table) ⌝ }
+    ensures { λ r.
+        ⌜ Examined (origin-of (now (first .entry)) (now (second .entry)) form edition) (now (table .entry))
+        (now (table .exit)) r ⌝ }
+{
+    match form {
+        Form::Text(view) => examine(edition, first, second, view, table),
+        Form::Lines => examine_stored(edition, first, table),
+    }
+}
+
+// Where a source tells of the token with this ordinal: its byte or its line.
+pub fn place_in(
+    first: &[u8],
+    second: &[u8],
+    form: Form,
+    table: &[u32],
+    count: usize,
+    at: u32,
+) -> usize
+    requires { ⌜ (TABLE ≤ length (now table)) × (count ≤ TOKENS) ⌝ }
+    ensures { λ r.
+        ⌜ r ≡ place-of (now (first .entry)) (now (second .entry)) form (now (table .entry)) count at ⌝ }
+{
+    let ordinal = at as usize;
+    match form {
+        Form::Text(view) => {
+            let end = len(first, second, view);
+            place(table, count, end, ordinal)
+        }
+        Form::Lines => ordinal + 2,
     }
 }

@@ -1,6 +1,7 @@
 // The words that the program is started with.
 use clerk::asked;
 use clerk::asked::Asked;
+use clerk::meanings;
 
 // Takes one word more. One that does not fit the buffer is as strange as one that has no meaning.
 fn step(asked: Asked, i: usize) -> Asked {
@@ -9,7 +10,7 @@ fn step(asked: Asked, i: usize) -> Asked {
     if os::errno() != 0 {
         return asked::unknown(asked, i);
     }
-    let meaning = asked::meaning(&word[..length]);
+    let meaning = meanings::meaning(&word[..length]);
     asked::take(asked, meaning, i)
 }
 

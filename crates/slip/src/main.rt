@@ -13,6 +13,7 @@ mod output;
 mod reports;
 mod serve;
 mod shifts;
+mod storing;
 
 fn main() {
     let asked = arguments::read();

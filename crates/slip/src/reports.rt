@@ -6,6 +6,7 @@ use clerk::ends;
 use clerk::ends::End;
 use clerk::machines;
 use clerk::people;
+use clerk::places::Places;
 use clerk::shifts;
 use language::SOURCE;
 use tally::sums::Sums;
@@ -60,33 +61,65 @@ fn slip(printed: &[u8]) -> bool {
 }
 
 // The report for people; true if it could be written.
-fn tell(file: &[u8], sheet: &[u8], allowance: u64, end: End) -> bool {
+fn tell(file: &[u8], sheet: &[u8], places: Places, allowance: u64, end: End) -> bool {
     let mut text = [0u8; TEXT];
-    let n = people::report(&mut text, file, sheet, allowance, end);
+    let n = people::report(&mut text, file, sheet, places, allowance, end);
     output::tell(&text[..n])
 }
 
-fn record(asked: Asked, status: u32, file: &[u8], sheet: &[u8], allowance: u64, end: End) -> bool {
+fn record(
+    asked: Asked,
+    status: u32,
+    file: &[u8],
+    sheet: &[u8],
+    places: Places,
+    allowance: u64,
+    end: End,
+) -> bool {
     let mut text = [0u8; TEXT];
-    let n = machines::report(&mut text, status, file, sheet, allowance, end);
+    let n = machines::report(&mut text, status, file, sheet, places, allowance, end);
     keep(asked, &text[..n])
 }
 
 // Tells what came of a sheet, and answers the status. Where the slip cannot be written there is nothing to tell.
-pub fn report(asked: Asked, sheet: &[u8], printed: &[u8], allowance: u64, end: End) -> u32 {
+fn told(
+    asked: Asked,
+    sheet: &[u8],
+    places: Places,
+    printed: &[u8],
+    allowance: u64,
+    end: End,
+) -> u32 {
     let mut file = io::buffer();
     let length = os::arg(asked.sheet, &mut file);
     if !slip(printed) {
         return failed(asked);
     }
     let mut status = ends::status(end);
-    if !tell(&file[..length], sheet, allowance, end) {
+    if !tell(&file[..length], sheet, places, allowance, end) {
         status = 2;
     }
-    if !record(asked, status, &file[..length], sheet, allowance, end) {
+    if !record(
+        asked,
+        status,
+        &file[..length],
+        sheet,
+        places,
+        allowance,
+        end,
+    ) {
         status = 2;
     }
     status
+}
+
+pub fn report(asked: Asked, sheet: &[u8], printed: &[u8], allowance: u64, end: End) -> u32 {
+    told(asked, sheet, Places::Bytes, printed, allowance, end)
+}
+
+// The same of a stored sheet, of which no bytes are shown.
+pub fn report_stored(asked: Asked, printed: &[u8], allowance: u64, end: End) -> u32 {
+    told(asked, b"", Places::Lines, printed, allowance, end)
 }
 
 fn record_shift(
@@ -108,7 +141,8 @@ fn warn(asked: Asked, over: bool) -> bool {
     if over {
         let mut file = io::buffer();
         let length = os::arg(asked.second, &mut file);
-        return tell(&file[..length], b"", 0, End::Refused(Cause::ManyLines, 0));
+        let end = End::Refused(Cause::ManyLines, 0);
+        return tell(&file[..length], b"", Places::Bytes, 0, end);
     }
     true
 }

@@ -5,6 +5,7 @@ use crate::input::Sheet;
 use crate::output;
 use crate::reports;
 use crate::shifts;
+use crate::storing;
 use clerk::asked::Asked;
 use clerk::asked::Task;
 use clerk::asked::Wanted;
@@ -93,7 +94,7 @@ fn run(asked: Asked, edition: u32) -> u32 {
 }
 
 // Tells what came of writing; what was written stands first in `out`.
-fn wrote(asked: Asked, edition: u32, sheet: &[u8], out: &[u8], answer: Wrote) -> u32 {
+pub fn wrote(asked: Asked, edition: u32, sheet: &[u8], out: &[u8], answer: Wrote) -> u32 {
     match answer {
         Wrote::Written(long) => {
             let n = input::within(long, out);
@@ -186,6 +187,9 @@ fn perform(asked: Asked, task: Task, edition: u32) -> u32 {
         Task::CheckWhole => check_whole(asked, edition),
         Task::Run => run(asked, edition),
         Task::Write => write(asked, edition),
+        Task::Store => storing::store(asked, edition),
+        Task::CheckStored => storing::check(asked, edition),
+        Task::RunStored => storing::run(asked, edition),
         Task::Shift => shifts::shift(asked, edition),
         Task::Help => help::help(),
         Task::Version => help::version(),
@@ -216,7 +220,8 @@ pub fn serve(asked: Asked) -> u32 {
         Wanted::Unclear => unclear(
             asked,
             b"use: slip RATE-SHEET PICKS RATE, slip check [--whole] SHEET, slip run SHEET [ALLOWANCE],
-     slip write SHEET, slip shift BOOK LINES [ALLOWANCE]
+     slip write SHEET, slip store SHEET, slip check-stored FILE, slip run-stored FILE [ALLOWANCE],
+     slip shift BOOK LINES [ALLOWANCE]
 ",
         ),
     }

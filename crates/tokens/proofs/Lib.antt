@@ -1,5 +1,6 @@
 pub mod Editions
 pub mod Compared
+pub mod HexDigits
 pub mod Views
 pub mod WordRows
 pub mod FirstBytes

@@ -29,7 +29,7 @@ float-value true k v z = cc
 float-value false k v z = absurd (let y : _≡_ {A = ℕ} 0 1 = cc in omega arith)
 
 -- what is no number has no value
-no-value : {voc : Vocabulary} (t : List ℕ) (p q : ℕ) (c : Content) → Form voc t p q c
+pub no-value : {voc : Vocabulary} (t : List ℕ) (p q : ℕ) (c : Content) → Form voc t p q c
     → (k v : ℕ) → c ≡ token k v → (k ≡ NUMBER → ⊥) → v ≡ 0
 no-value t p q c (blank h b e) k v z n = absurd (let y : _≡_ {A = ℕ} 0 1 = cc in omega arith)
 no-value t p q c (line s a b e) k v z n = absurd (let y : _≡_ {A = ℕ} 0 1 = cc in omega arith)
@@ -48,15 +48,15 @@ abbrev pub Halves : List Token → Token → ℕ → Type 0
 Halves ts u n = (value-word ts u ≡ n % HALF) × (high-word u ≡ n / HALF)
 
 module _ (ts : List Token) (u : Token) (n : ℕ) where
-  name-halves : u .kind ≡ NAME → n ≤ TOKENS → name-number ts (u .spelling) ≡ n → Halves ts u n
+  pub name-halves : u .kind ≡ NAME → n ≤ TOKENS → name-number ts (u .spelling) ≡ n → Halves ts u n
   unfolding value-word high-word
   name-halves e l f = (rw (e, f) (omega arith), rw e (omega arith))
 
-  float-halves : u .kind ≡ FLOAT-NUMBER → n ≡ float-bits (u .spelling) → Halves ts u n
+  pub float-halves : u .kind ≡ FLOAT-NUMBER → n ≡ float-bits (u .spelling) → Halves ts u n
   unfolding value-word high-word
   float-halves e f = (rw (e, f), rw (e, f))
 
-  value-halves : (u .kind ≡ NAME → ⊥) → (u .kind ≡ FLOAT-NUMBER → ⊥) → ((u .kind ≡ NUMBER → ⊥) → u .value ≡ 0)
+  pub value-halves : (u .kind ≡ NAME → ⊥) → (u .kind ≡ FLOAT-NUMBER → ⊥) → ((u .kind ≡ NUMBER → ⊥) → u .value ≡ 0)
       → u .value ≤ LARGEST → n ≡ u .value → Halves ts u n
   unfolding value-word high-word
   value-halves a b c l e =

@@ -20,8 +20,9 @@ use Rattle.language.specs.Trees.{PUTCHAR}
 use Rattle.layout.specs.Names.{float-bits}
 use Rattle.layout.specs.Table.{token-place, token-end}
 use Rattle.numbers.specs.Meanings.{flaw-meant}
+use Rattle.tokens.specs.Shown.{is-capital}
 use Rattle.tokens.specs.declared.bytes.Class as class
-use Rattle.tokens.specs.declared.bytes.Class.the-variants.{NameByte, DigitOf, InLine}
+use Rattle.tokens.specs.declared.bytes.Class.the-variants.{NameByte, DigitOf, Capital, InLine}
 use Rattle.tokens.specs.declared.comments.Close as close
 use Rattle.tokens.specs.declared.comments.Close.the-variants.{At, Never}
 use Rattle.tokens.specs.declared.comments.Pair as pair
@@ -37,6 +38,7 @@ use Rattle.tokens.specs.declared.pieces.Piece.the-variants.{Space, Token
 abbrev pub is-of : class.Class → ℕ → Bool
 is-of NameByte = is-name-byte
 is-of (DigitOf base) = is-digit-of base
+is-of Capital = is-capital
 is-of InLine = is-in-line
 
 -- ---- what stands at a place

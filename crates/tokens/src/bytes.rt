@@ -11,6 +11,7 @@ ghost use Rattle.language.proofs.Text.Runs.{Run};
 ghost use Rattle.language.proofs.Text.Spellings.{stands};
 ghost use Rattle.tokens.specs.Found.{is-of};
 ghost use Rattle.tokens.specs.Shown.{text-of};
+use crate::hexadecimal::is_capital;
 use crate::view::View;
 use crate::view::ahead;
 use crate::view::byte;
@@ -113,6 +114,8 @@ pub enum Class {
     NameByte,
     // A digit of this base.
     DigitOf(u64),
+    // A digit as stored sheets have it.
+    Capital,
     // Not the LF that ends a line.
     InLine,
 }
@@ -123,6 +126,7 @@ pub fn is_of(class: Class, b: u8) -> bool
     match class {
         Class::NameByte => is_name_byte(b),
         Class::DigitOf(base) => is_digit_of(base, b),
+        Class::Capital => is_capital(b),
         Class::InLine => b != b'\n',
     }
 }

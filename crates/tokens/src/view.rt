@@ -1,17 +1,44 @@
-// What a text is read from: one sheet, or two that are read as one. Every other function reads its text
-// through these, so how it lies in memory changes nothing else, and two sheets need not be put together.
+// What a text is read from: one sheet, two that are read as one, or a line of hexadecimal. Every other
+// function reads its text through these, so how it lies in memory changes nothing else: two sheets need not be
+// put together, nor the bytes of a line written out.
 ghost use mathlib.Core.List.{_∷_};
 ghost use mathlib.Core.Path.{_≡_};
-ghost use Prim.Native.Nat.{_+_, _≤_};
+ghost use Prim.Native.Nat.{_+_, _-_, _/_, _≤_};
 ghost use lib.ListN.{length};
+ghost use lib.Seq.{slice};
+ghost use Rattle.language.specs.Pairs.{joined};
 ghost use Rattle.language.specs.Text as Text;
-ghost use Rattle.tokens.specs.Shown.{text-of};
+ghost use Rattle.tokens.specs.Shown.{told, text-of};
+use crate::hexadecimal::two;
 
 pub enum View {
     // The first sheet alone.
     Plain,
     // The first, one LF, then the second.
     Joined,
+    // The bytes that the digits of the first tell, from one place up to another.
+    Line { from: usize, to: usize },
+}
+
+// Half of what lies between two places.
+fn half(from: usize, to: usize) -> usize
+    ensures { λ r. ⌜ r ≡ (to - from) / 2 ⌝ }
+{
+    if to <= from {
+        return 0;
+    }
+    (to - from) / 2
+}
+
+// How many bytes a line of digits tells.
+fn len_of_line(sheet: &[u8], from: usize, to: usize) -> usize
+    ensures { λ r. ⌜ r ≡ length (told (slice from to (now (sheet .entry)))) ⌝ }
+{
+    let size = sheet.len();
+    if size < to {
+        return half(from, size);
+    }
+    half(from, to)
 }
 
 // How many bytes the text has.
@@ -21,6 +48,7 @@ pub fn len(first: &[u8], second: &[u8], view: View) -> usize
     match view {
         View::Plain => first.len(),
         View::Joined => first.len() + 1 + second.len(),
+        View::Line { from, to } => len_of_line(first, from, to),
     }
 }
 
@@ -41,17 +69,36 @@ fn of_rest(sheet: &[u8], at: usize) -> u8
     of_sheet(sheet, at - 1)
 }
 
-// The same of the text.
-pub fn byte(first: &[u8], second: &[u8], view: View, at: usize) -> u8
-    ensures { λ r. ⌜ r ≡ Text.byte (text-of (first .entry) (second .entry) view) at ⌝ }
+// The same of two sheets.
+fn of_both(first: &[u8], second: &[u8], at: usize) -> u8
+    ensures { λ r. ⌜ r ≡ Text.byte (joined (now (first .entry)) (now (second .entry))) at ⌝ }
 {
     let size = first.len();
     if at < size {
         return first[at];
     }
+    of_rest(second, at - size)
+}
+
+// The same of a line of digits.
+fn of_line(sheet: &[u8], from: usize, to: usize, at: usize) -> u8
+    ensures { λ r. ⌜ r ≡ Text.byte (told (slice from to (now (sheet .entry)))) at ⌝ }
+{
+    if len_of_line(sheet, from, to) <= at {
+        return 0;
+    }
+    let digit = from + at * 2;
+    two(sheet[digit], sheet[digit + 1])
+}
+
+// The same of the text.
+pub fn byte(first: &[u8], second: &[u8], view: View, at: usize) -> u8
+    ensures { λ r. ⌜ r ≡ Text.byte (text-of (first .entry) (second .entry) view) at ⌝ }
+{
     match view {
-        View::Plain => 0,
-        View::Joined => of_rest(second, at - size),
+        View::Plain => of_sheet(first, at),
+        View::Joined => of_both(first, second, at),
+        View::Line { from, to } => of_line(first, from, to, at),
     }
 }
 

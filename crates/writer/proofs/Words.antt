@@ -85,7 +85,7 @@ written-from source w (t ∷ ts) i h =
     rw (here, behind-mark ts, rest) (append-snoc (t .spelling) (behind ts) (written-out ts))
 
 module _ {voc : Vocabulary} {source w : List ℕ} {count : ℕ} {ts : List Token} (s : Stand w count ts) (x : Splits voc source ts) where
-  stands-here : (i : ℕ) → i < count → Spot source (getD ts i past)
+  pub stands-here : (i : ℕ) → i < count → Spot source (getD ts i past)
   stands-here i h = reached-spot (x .whole) i (omega (arith, s .long))
 
   pub text-written : text-from source w 0 count ≡ written-out ts

@@ -1,5 +1,6 @@
 // A sheet written out again, from its source and the tokens that the table holds: each as it is spelled, one
-// space between every two, and LF at the end. How long that is is known before a byte is written.
+// space between every two, and LF at the end. How long that is is known before a byte is written. `storing` has
+// the sheet's other form.
 ghost use mathlib.Core.Path.{_≡_};
 ghost use Prim.Native.Nat.{_+_, _-_, _≤_, _<_};
 ghost use lib.ListN.{length};
@@ -7,13 +8,16 @@ ghost use lib.Seq.{slice};
 ghost use Rattle.language.specs.Sizes.{SOURCE};
 ghost use Rattle.writer.specs.Texts.{Put, Front, Room, Span, Spanned, mark, with-mark};
 ghost use Rattle.writer.specs.Texts.{text-long, text-from, Writable, WritesOut};
+
+pub mod storing;
+
 use language::SOURCE;
 use layout::token;
 
 pub enum Text {
     // It was written, with so many bytes.
     Written(usize),
-    // It is longer than the output or than a source may be, and nothing was written.
+    // It is longer than it may be, and nothing was written.
     TooLong,
 }
 

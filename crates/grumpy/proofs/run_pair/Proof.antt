@@ -4,8 +4,8 @@ use Rattle.grumpy.proofs.TwoSheets.{run-paired}
 use Rattle.grumpy.proofs.run_pair.Statement.{statement}
 use Rattle.grumpy.proofs.run_pair.Tie as tie
 
-run-text-requires : tie.Need-run-text-requires
-run-text-requires c κs = search needs
+run-form-requires : tie.Need-run-form-requires
+run-form-requires c κs = search needs
 
 ran-requires : tie.Need-ran-requires
 ran-requires c κs = search needs
@@ -21,9 +21,9 @@ same-length-3 c = search needs
 
 returns : tie.Need-returns
 returns c =
-    let at-run-text = c .before .before .before .before .before .before .before in
-    run-paired _ _ _ _ _ _ _ _ _ _ (at-run-text .run-text .result) (c .ran .result) (at-run-text .run-text .ensures) (c .ran .ensures)
+    let at-run-form = c .before .before .before .before .before .before .before in
+    run-paired _ _ _ _ _ _ _ _ _ _ (at-run-form .run-form .result) (c .ran .result) (at-run-form .run-form .ensures) (c .ran .ensures)
 
 pub run-pair-spec : {M : Type 1} → statement M
 run-pair-spec =
-    tie.close (tie.spec run-text-requires ran-requires same-length same-length-2 same-length-3 returns)
+    tie.close (tie.spec run-form-requires ran-requires same-length same-length-2 same-length-3 returns)

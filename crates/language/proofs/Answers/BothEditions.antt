@@ -1,5 +1,5 @@
--- A sheet with none of the words and marks of counted loops is answered the same in both editions (R12.3, R12.14): by check, run
--- and write, of a text and of two sheets, with all that they leave behind.
+-- A sheet with none of the words and marks of counted loops is answered the same in both editions (R12.3, R12.14): by check, run,
+-- write and store, of a text and of two sheets, with all that they leave behind.
 use mathlib.Core.List.{List}
 use mathlib.Core.Logic.{_↔_}
 use mathlib.Core.Path.{refl}
@@ -9,12 +9,13 @@ use Rattle.language.specs.Trees.{Ty, Program}
 use Rattle.language.specs.Numbers.{Refusal}
 use Rattle.language.specs.Answers as Answers
 use Rattle.language.specs.Answers.{Origin, TextDenies, TextGives, from-text, Passes, CheckReport, Check, RunReport, Run}
-use Rattle.language.specs.Writing.{WriteReport, Write}
+use Rattle.language.specs.Writing.{WriteReport, Write, Store}
 use Rattle.language.specs.Pairs.{joined, Place, PairDenies, too-long, flawed, from-pair}
 use Rattle.language.specs.Edition.{text-in, pair-in}
 use Rattle.language.proofs.Text.NothingNew.{Every, OldWord, OldKind, NothingNew, same-split, same-flaw, nothing-in-tokens, nothing-in-kinds}
 use Rattle.language.proofs.Answers.Origins.{text-lawful}
 use Rattle.language.proofs.Answers.Follow.{Follows, follows-on, follows-back, passes-follow, check-follow, run-follow, write-follow}
+use Rattle.language.proofs.Answers.Follow.{store-follow}
 use Rattle.language.proofs.Answers.Editions.{text-alike, pair-alike, text-in-lawful, pair-in-lawful, named-follows, named-back, two-is}
 use Rattle.language.proofs.Answers.Editions.{text-as-it-was, pair-as-it-was}
 
@@ -34,6 +35,10 @@ module _ {P : Type 0} {o q : Origin P} (same : Same o q) where
   pub same-write : {table output table′ output′ : List ℕ} {r : WriteReport P}
       → Write o table output r table′ output′ ↔ Write q table output r table′ output′
   same-write = (write-follow (same .0), write-follow (same .1))
+
+  pub same-store : {table output table′ output′ : List ℕ} {r : WriteReport P}
+      → Store o table output r table′ output′ ↔ Store q table output r table′ output′
+  same-store = (store-follow (same .0), store-follow (same .1))
 
 -- ---- a text
 

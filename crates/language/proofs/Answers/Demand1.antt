@@ -52,7 +52,7 @@ module _ (n : ℕ) (source : List ℕ) (l : Lent) where
         → edition n ≡ some voc → Splits voc source ts → Reading ts p → HasType p t → run p (l .allowance) (l .output) ≡ stop w i s
         → Listed (stopped w) (byte-of ts i)
 
-  refused-listed : {r : Refusal} {x : ℕ} → Refused (text-in n source) r x → Listed (refused r) x
+  pub refused-listed : {r : Refusal} {x : ℕ} → Refused (text-in n source) r x → Listed (refused r) x
   refused-listed (by-origin (unknown e)) = row-42 e
   refused-listed (by-origin (known e (too-long h))) = row-10 h
   refused-listed (by-origin (known e (flawed h a))) = rows-11-to-15 e a
@@ -60,7 +60,7 @@ module _ (n : ℕ) (source : List ℕ) (l : Lent) where
   refused-listed (by-tokens g (faulty a f)) = rows-30-to-37 (g .named) (g .given .splits) a f
 
   module _ {ts : List Token} {p : Program} {t : Ty} (a : Passes (text-in n source) ts p t) where
-    passed-listed : Listed passed 0
+    pub passed-listed : Listed passed 0
     passed-listed = row-0 (a .given .named) (a .given .given .splits) (a .proper .reads) (a .proper .typed)
 
     abbrev EndListed : Option Ending → Type 0

@@ -13,11 +13,11 @@ use Rattle.language.specs.Text.{word-kind}
 use Rattle.language.specs.Trees.{Ty, Program}
 use Rattle.language.specs.Numbers.{Refusal, no-edition, no-reading, long-text}
 use Rattle.language.specs.Answers.{Origin, from-text, keeps, Passes, Refused, by-origin, by-tokens, CheckReport, Check, RunReport, Run}
-use Rattle.language.specs.Writing.{WriteReport, Write}
+use Rattle.language.specs.Writing.{WriteReport, Write, Store}
 use Rattle.language.specs.Pairs.{from-pair}
 use Rattle.language.specs.Edition.{edition, EditionDenies, unknown, known, EditionGives, in-edition, text-in, pair-in}
 use Rattle.language.proofs.Text.Marks.{Laws, laws-1, laws-2}
-use Rattle.language.proofs.Answers.Follow.{Follows, passes-follow, refused-follow, check-follow, run-follow, write-follow, follows-back}
+use Rattle.language.proofs.Answers.Follow.{Follows, passes-follow, refused-follow, check-follow, run-follow, write-follow, store-follow, follows-back}
 use Rattle.language.proofs.Answers.Origins.{Lawful, text-lawful}
 use Rattle.language.proofs.Answers.Pairs.{pair-lawful}
 
@@ -160,6 +160,10 @@ module _ {P : Type 0} (n : ℕ) {o : Vocabulary → Origin P} (alike : Alike o) 
   pub write-in : {table output table′ output′ : List ℕ} {r : WriteReport P} → Write (o v) table output r table′ output′
       → Write (in-edition n o) table output r table′ output′
   write-in = write-follow named-follows
+
+  pub store-in : {table output table′ output′ : List ℕ} {r : WriteReport P} → Store (o v) table output r table′ output′
+      → Store (in-edition n o) table output r table′ output′
+  store-in = store-follow named-follows
 
 -- and its vocabulary what it answers
 pub named-back : {P : Type 0} (n : ℕ) {o : Vocabulary → Origin P} → Alike o → ((v : Vocabulary) → Laws v → Lawful (o v))

@@ -11,6 +11,7 @@ use Rattle.language.specs.Answers.{Origin, Spot, at, nowhere, place-in, 
 use Rattle.language.specs.Answers.{CheckReport, check-report, Checked, check-short, check-refused, check-passed, Check}
 use Rattle.language.specs.Answers.{RunReport, Lent, Ran, run-short, run-large, run-refused, run-ended, Run}
 use Rattle.language.specs.Writing.{WriteReport, write-report, Wrote, write-short, write-refused, write-long, write-passed, Write}
+use Rattle.language.specs.Writing.{Stores, store-short, store-refused, store-long, store-passed, Store}
 use Rattle.language.proofs.Answers.Origins.{Lawful}
 
 pub record Follows {P : Type 0} (o q : Origin P) : Type 0 where
@@ -88,6 +89,23 @@ module _ {P : Type 0} {o q : Origin P} (f : Follows o q) where
   pub write-follow : {table output table′ output′ : List ℕ} {r : WriteReport P} → Write o table output r table′ output′
       → Write q table output r table′ output′
   write-follow x = record { text = x .text; answer = wrote-follow (x .answer); table-left = x .table-left; output-left = x .output-left }
+
+  -- ---- store
+
+  store-at : {table output : ℕ} (r : WriteReport P) {bs : List ℕ} {x y : P} → x ≡ y
+      → Stores q table output (write-report (r .told) x (r .written)) bs → Stores q table output (write-report (r .told) y (r .written)) bs
+  store-at {table} {output} r {bs} e a = subst (λ (x : P). Stores q table output (write-report (r .told) x (r .written)) bs) e a
+
+  pub stores-follow : {table output : ℕ} {r : WriteReport P} {bs : List ℕ} → Stores o table output r bs → Stores q table output r bs
+  stores-follow {r = r} (store-short h) = store-at r (sym (f .nowhere)) (store-short h)
+  stores-follow (store-refused h x) = store-refused h (refused-follow x)
+  stores-follow {r = r} (store-long h x k) = store-at r (sym (f .nowhere)) (store-long h (passes-follow x) k)
+  stores-follow {r = r} (store-passed h x k) = store-at r (sym (f .nowhere)) (store-passed h (passes-follow x) k)
+
+  -- its contract, table and output included
+  pub store-follow : {table output table′ output′ : List ℕ} {r : WriteReport P} → Store o table output r table′ output′
+      → Store q table output r table′ output′
+  store-follow x = record { form = x .form; answer = stores-follow (x .answer); table-left = x .table-left; output-left = x .output-left }
 
 -- ---- further, and the other way
 

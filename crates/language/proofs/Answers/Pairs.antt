@@ -13,7 +13,8 @@ use Rattle.language.specs.Trees.{Ty, Program}
 use Rattle.language.specs.State.{Outcome, value, stop, stuck}
 use Rattle.language.specs.Meaning.{type-number}
 use Rattle.language.specs.Numbers.{Refusal, short-memory, large-allowance, no-edition, long-source, text}
-use Rattle.language.specs.Numbers.{no-reading, types, long-text, Told, passed, refused, stopped}
+use Rattle.language.specs.Numbers.{no-reading, types, long-text, not-hexadecimal, wrong-count, not-one-token}
+use Rattle.language.specs.Numbers.{Told, passed, refused, stopped}
 use Rattle.language.specs.Answers as Answers
 use Rattle.language.specs.Answers.{at, place-in, TextDenies, TextGives, unread, faulty, keeps, Refused, by-origin}
 use Rattle.language.specs.Answers.{by-tokens, Passes, Ending, ending, CheckReport, check-report, Checked, check-short}
@@ -38,6 +39,9 @@ placed (refused (text f)) = true
 placed (refused no-reading) = true
 placed (refused (types r)) = true
 placed (refused long-text) = false
+placed (refused not-hexadecimal) = true
+placed (refused wrong-count) = true
+placed (refused not-one-token) = true
 placed (stopped w) = true
 
 module _ (first second : List ℕ) where

@@ -105,7 +105,7 @@ pub record LongProgram {P : Type 0} (o : Origin P) (room : ℕ) : Type 0 where
 
 module _ {P : Type 0} {o : Origin P} (law : Lawful o) where
   -- no refusal of the sheet itself is 44
-  never-own : {r : Refusal} {x : P} → Refused o r x → r ≡ long-text → ⊥
+  pub never-own : {r : Refusal} {x : P} → Refused o r x → r ≡ long-text → ⊥
   never-own (by-origin {r} {x} d) e = law .not-written x (subst (λ (r : Refusal). o .denies r x) e d)
   never-own (by-tokens g (unread k)) e = let z : _≡_ {A = ℕ} 0 1 = cc in omega arith
   never-own (by-tokens g (faulty a f)) e = let z : _≡_ {A = ℕ} 0 1 = cc in omega arith

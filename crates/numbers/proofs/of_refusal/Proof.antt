@@ -33,6 +33,15 @@ of-reason-requires c κs = search needs
 enum-told-6 : tie.Need-enum-told-6
 enum-told-6 c = search needs
 
+enum-told-7 : tie.Need-enum-told-7
+enum-told-7 c = search needs
+
+enum-told-8 : tie.Need-enum-told-8
+enum-told-8 c = search needs
+
+enum-told-9 : tie.Need-enum-told-9
+enum-told-9 c = search needs
+
 returns : tie.Need-returns
 returns c = search needs
 
@@ -57,6 +66,15 @@ returns-7 c = rw (c .before .before .refusal2 .given .1) (c .of-reason .ensures)
 returns-8 : tie.Need-returns-8
 returns-8 c = search needs
 
+returns-9 : tie.Need-returns-9
+returns-9 c = search needs
+
+returns-10 : tie.Need-returns-10
+returns-10 c = search needs
+
+returns-11 : tie.Need-returns-11
+returns-11 c = search needs
+
 pub of-refusal-spec : {M : Type 1} → statement M
 of-refusal-spec =
     tie.close
@@ -71,6 +89,9 @@ of-refusal-spec =
     enum-known-refusal-2
     of-reason-requires
     enum-told-6
+    enum-told-7
+    enum-told-8
+    enum-told-9
     returns
     returns-2
     returns-3
@@ -78,4 +99,7 @@ of-refusal-spec =
     returns-5
     returns-6
     returns-7
-    returns-8)
+    returns-8
+    returns-9
+    returns-10
+    returns-11)

@@ -45,8 +45,26 @@ plain-requires-5 c κs = search needs
 enum-told-7 : tie.Need-enum-told-7
 enum-told-7 c = search needs
 
+plain-requires-6 : tie.Need-plain-requires-6
+plain-requires-6 c κs = search needs
+
 enum-told-8 : tie.Need-enum-told-8
 enum-told-8 c = search needs
+
+plain-requires-7 : tie.Need-plain-requires-7
+plain-requires-7 c κs = search needs
+
+enum-told-9 : tie.Need-enum-told-9
+enum-told-9 c = search needs
+
+plain-requires-8 : tie.Need-plain-requires-8
+plain-requires-8 c κs = search needs
+
+enum-told-10 : tie.Need-enum-told-10
+enum-told-10 c = search needs
+
+enum-told-11 : tie.Need-enum-told-11
+enum-told-11 c = search needs
 
 returns : tie.Need-returns
 returns c = rw (c .before .enum-told .given .1) (c .tasked .ensures)
@@ -77,10 +95,25 @@ returns-6 c =
     c .plain5 .ensures ∙ ap (λ (x : Task). first-word x (a .asked) (a .task) (a .i)) (sym (c .before .enum-told6 .given .1))
 
 returns-7 : tie.Need-returns-7
-returns-7 c = search needs
+returns-7 c =
+    let a = c .before .before .before .args in
+    c .plain6 .ensures ∙ ap (λ (x : Task). first-word x (a .asked) (a .task) (a .i)) (sym (c .before .enum-told7 .given .1))
 
 returns-8 : tie.Need-returns-8
-returns-8 c = search needs
+returns-8 c =
+    let a = c .before .before .before .args in
+    c .plain7 .ensures ∙ ap (λ (x : Task). first-word x (a .asked) (a .task) (a .i)) (sym (c .before .enum-told8 .given .1))
+
+returns-9 : tie.Need-returns-9
+returns-9 c =
+    let a = c .before .before .before .args in
+    c .plain8 .ensures ∙ ap (λ (x : Task). first-word x (a .asked) (a .task) (a .i)) (sym (c .before .enum-told9 .given .1))
+
+returns-10 : tie.Need-returns-10
+returns-10 c = search needs
+
+returns-11 : tie.Need-returns-11
+returns-11 c = search needs
 
 pub first-spec : {M : Type 1} → statement M
 first-spec =
@@ -99,7 +132,13 @@ first-spec =
     enum-told-6
     plain-requires-5
     enum-told-7
+    plain-requires-6
     enum-told-8
+    plain-requires-7
+    enum-told-9
+    plain-requires-8
+    enum-told-10
+    enum-told-11
     returns
     returns-2
     returns-3
@@ -107,4 +146,7 @@ first-spec =
     returns-5
     returns-6
     returns-7
-    returns-8)
+    returns-8
+    returns-9
+    returns-10
+    returns-11)

@@ -42,8 +42,26 @@ unknown-requires-4 c κs = search needs
 enum-told-7 : tie.Need-enum-told-7
 enum-told-7 c = search needs
 
+unknown-requires-5 : tie.Need-unknown-requires-5
+unknown-requires-5 c κs = search needs
+
 enum-told-8 : tie.Need-enum-told-8
 enum-told-8 c = search needs
+
+unknown-requires-6 : tie.Need-unknown-requires-6
+unknown-requires-6 c κs = search needs
+
+enum-told-9 : tie.Need-enum-told-9
+enum-told-9 c = search needs
+
+unknown-requires-7 : tie.Need-unknown-requires-7
+unknown-requires-7 c κs = search needs
+
+enum-told-10 : tie.Need-enum-told-10
+enum-told-10 c = search needs
+
+enum-told-11 : tie.Need-enum-told-11
+enum-told-11 c = search needs
 
 returns : tie.Need-returns
 returns c = rw (c .before .enum-told .given .1) (c .tasked .ensures)
@@ -72,10 +90,25 @@ returns-6 c =
     c .unknown4 .ensures ∙ ap (λ (x : Task). with-whole x (a .asked) (a .i)) (sym (c .before .enum-told6 .given .1))
 
 returns-7 : tie.Need-returns-7
-returns-7 c = search needs
+returns-7 c =
+    let a = c .before .before .before .args in
+    c .unknown5 .ensures ∙ ap (λ (x : Task). with-whole x (a .asked) (a .i)) (sym (c .before .enum-told7 .given .1))
 
 returns-8 : tie.Need-returns-8
-returns-8 c = search needs
+returns-8 c =
+    let a = c .before .before .before .args in
+    c .unknown6 .ensures ∙ ap (λ (x : Task). with-whole x (a .asked) (a .i)) (sym (c .before .enum-told8 .given .1))
+
+returns-9 : tie.Need-returns-9
+returns-9 c =
+    let a = c .before .before .before .args in
+    c .unknown7 .ensures ∙ ap (λ (x : Task). with-whole x (a .asked) (a .i)) (sym (c .before .enum-told9 .given .1))
+
+returns-10 : tie.Need-returns-10
+returns-10 c = search needs
+
+returns-11 : tie.Need-returns-11
+returns-11 c = search needs
 
 pub whole-spec : {M : Type 1} → statement M
 whole-spec =
@@ -93,7 +126,13 @@ whole-spec =
     enum-told-6
     unknown-requires-4
     enum-told-7
+    unknown-requires-5
     enum-told-8
+    unknown-requires-6
+    enum-told-9
+    unknown-requires-7
+    enum-told-10
+    enum-told-11
     returns
     returns-2
     returns-3
@@ -101,4 +140,7 @@ whole-spec =
     returns-5
     returns-6
     returns-7
-    returns-8)
+    returns-8
+    returns-9
+    returns-10
+    returns-11)

@@ -12,12 +12,9 @@ execute-requires c κs =
     let start = at-seen .before .before .before .before .before .before .before in
     runnable-sheet _ _ _ _ _ _ (start .pre) (at-seen .seen .given .1)
 
-len-requires : tie.Need-len-requires
-len-requires c κs = search needs
-
 answer-requires : tie.Need-answer-requires
 answer-requires c κs =
-    let earlier = c .before .before .before .before .before .before .before in
+    let earlier = c .before .before .before .before .before .before in
     let at-seen = earlier .before .before in
     let start = at-seen .before .before .before .before .before .before .before in
     runnable-long _ _ _ _ _ _ (start .pre) (at-seen .seen .given .1)
@@ -39,9 +36,9 @@ same-length-2 c = search needs
 
 returns : tie.Need-returns
 returns c =
-    let at-execute = c .before .before .before .before .before .before in
+    let at-execute = c .before .before .before .before .before in
     let at-seen = at-execute .before .before .before .before in
-    answered-sheet _ _ _ _ _ _ _ _ _ _ _ _ _ (at-execute .execute .ensures) (at-seen .seen .given .1) (c .before .len .ensures) (c .answer .ensures)
+    answered-sheet _ _ _ _ _ _ _ _ _ _ _ _ _ _ (at-execute .execute .ensures) (at-seen .seen .given .1) (c .answer .ensures)
 
 same-length-3 : tie.Need-same-length-3
 same-length-3 c = search needs
@@ -53,7 +50,7 @@ returns-2 : tie.Need-returns-2
 returns-2 c =
     let at-refuse = c .before .before .before .before in
     let at-seen2 = at-refuse .before .before .before .before in
-    let x = at-refuse .refuse .ensures in answered-refused _ _ _ _ _ _ _ _ _ _ _ (x .0) (x .1 .0) (x .1 .1) (at-seen2 .seen2 .given .1)
+    let x = at-refuse .refuse .ensures in answered-refused _ _ _ _ _ _ _ _ _ _ _ _ _ (x .0) (x .1 .0) (x .1 .1) (at-seen2 .seen2 .given .1)
 
 pub run-or-refuse-spec : {M : Type 1} → statement M
 run-or-refuse-spec =
@@ -61,7 +58,6 @@ run-or-refuse-spec =
     (tie.spec
     enum-known-seen
     execute-requires
-    len-requires
     answer-requires
     enum-known-seen-2
     refuse-requires

@@ -52,6 +52,24 @@ enum-told-6 c = search needs
 front-requires-5 : tie.Need-front-requires-5
 front-requires-5 c κs = search needs
 
+enum-told-7 : tie.Need-enum-told-7
+enum-told-7 c = search needs
+
+spot-at-requires-4 : tie.Need-spot-at-requires-4
+spot-at-requires-4 c κs = search needs
+
+enum-told-8 : tie.Need-enum-told-8
+enum-told-8 c = search needs
+
+spot-at-requires-5 : tie.Need-spot-at-requires-5
+spot-at-requires-5 c κs = search needs
+
+enum-told-9 : tie.Need-enum-told-9
+enum-told-9 c = search needs
+
+spot-at-requires-6 : tie.Need-spot-at-requires-6
+spot-at-requires-6 c κs = search needs
+
 returns : tie.Need-returns
 returns c =
     let a = c .before .before .before .before .before .args in
@@ -92,6 +110,21 @@ returns-8 c =
     let a = c .before .before .before .before .before .args in
     told-moved (a .first .now) (a .second .now) (a .why) _ (a .place) _ (c .before .enum-told6 .given .1) (c .front5 .ensures)
 
+returns-9 : tie.Need-returns-9
+returns-9 c =
+    let a = c .before .before .before .before .before .args in
+    told-moved (a .first .now) (a .second .now) (a .why) _ (a .place) _ (c .before .enum-told7 .given .1) (c .spot-at4 .ensures)
+
+returns-10 : tie.Need-returns-10
+returns-10 c =
+    let a = c .before .before .before .before .before .args in
+    told-moved (a .first .now) (a .second .now) (a .why) _ (a .place) _ (c .before .enum-told8 .given .1) (c .spot-at5 .ensures)
+
+returns-11 : tie.Need-returns-11
+returns-11 c =
+    let a = c .before .before .before .before .before .args in
+    told-moved (a .first .now) (a .second .now) (a .why) _ (a .place) _ (c .before .enum-told9 .given .1) (c .spot-at6 .ensures)
+
 pub refused-at-spec : {M : Type 1} → statement M
 refused-at-spec =
     tie.close
@@ -112,6 +145,12 @@ refused-at-spec =
     spot-at-requires-3
     enum-told-6
     front-requires-5
+    enum-told-7
+    spot-at-requires-4
+    enum-told-8
+    spot-at-requires-5
+    enum-told-9
+    spot-at-requires-6
     returns
     returns-2
     returns-3
@@ -119,4 +158,7 @@ refused-at-spec =
     returns-5
     returns-6
     returns-7
-    returns-8)
+    returns-8
+    returns-9
+    returns-10
+    returns-11)

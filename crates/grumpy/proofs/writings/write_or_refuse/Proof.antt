@@ -1,5 +1,5 @@
 use borrow.Author.Needs.{needs}
-use Rattle.grumpy.proofs.Rewriting.{readable-sheet, rewritten-sheet, rewritten-refused}
+use Rattle.grumpy.proofs.Rewriting.{readable-sheet, rewritten-sheet, write-refuses}
 use Rattle.grumpy.proofs.writings.write_or_refuse.Statement.{statement}
 use Rattle.grumpy.proofs.writings.write_or_refuse.Tie as tie
 
@@ -22,10 +22,10 @@ returns : tie.Need-returns
 returns c =
     let rewrite = c .before .before in
     let seen = rewrite .before .before .before in
-    rewritten-sheet _ _ _ _ _ _ _ _ (rewrite .rewrite .ensures) (seen .seen .given .1)
+    rewritten-sheet _ _ _ _ _ _ _ _ _ (rewrite .rewrite .ensures) (seen .seen .given .1)
 
 returns-2 : tie.Need-returns-2
-returns-2 c = rewritten-refused _ _ _ _ _ _ (c .before .seen2 .given .1)
+returns-2 c = write-refuses _ _ _ _ _ _ (c .before .seen2 .given .1)
 
 pub write-or-refuse-spec : {M : Type 1} → statement M
 write-or-refuse-spec =

@@ -1,10 +1,10 @@
 -- `is_of` decides whether a byte is of a class.
-use borrow.Author.Needs.{needs}
 use mathlib.Core.Path.{sym, _∙_, ap}
 use Rattle.language.specs.Text.{is-in-line}
+use Rattle.tokens.specs.Found.{is-of}
+use borrow.Author.Needs.{needs}
 use Rattle.tokens.proofs.bytes.is_of.Statement.{statement}
 use Rattle.tokens.proofs.bytes.is_of.Tie as tie
-use Rattle.tokens.specs.Found.{is-of}
 
 enum-told : tie.Need-enum-told
 enum-told c = search needs
@@ -21,16 +21,24 @@ is-digit-of-requires c κs = search needs
 enum-told-2 : tie.Need-enum-told-2
 enum-told-2 c = search needs
 
+is-capital-requires : tie.Need-is-capital-requires
+is-capital-requires c κs = search needs
+
+enum-told-3 : tie.Need-enum-told-3
+enum-told-3 c = search needs
+
 returns : tie.Need-returns
 returns c = c .is-name-byte .ensures ∙ ap (λ x. is-of x (c .before .before .before .args .b)) (sym (c .before .enum-told .given .1))
 
 returns-2 : tie.Need-returns-2
-returns-2 c =
-    c .is-digit-of .ensures ∙ ap (λ x. is-of x (c .before .before .before .before .args .b)) (sym (c .before .before .class .given .1))
+returns-2 c = c .is-digit-of .ensures ∙ ap (λ x. is-of x (c .before .before .before .before .args .b)) (sym (c .before .before .class .given .1))
 
 returns-3 : tie.Need-returns-3
+returns-3 c = c .is-capital .ensures ∙ ap (λ x. is-of x (c .before .before .before .args .b)) (sym (c .before .enum-told2 .given .1))
+
+returns-4 : tie.Need-returns-4
 unfolding is-in-line
-returns-3 c = ap (λ x. is-of x (c .before .before .args .b)) (sym (c .enum-told2 .given .1))
+returns-4 c = ap (λ x. is-of x (c .before .before .args .b)) (sym (c .enum-told3 .given .1))
 
 pub is-of-spec : {M : Type 1} → statement M
 is-of-spec =
@@ -41,6 +49,9 @@ is-of-spec =
     enum-known-class
     is-digit-of-requires
     enum-told-2
+    is-capital-requires
+    enum-told-3
     returns
     returns-2
-    returns-3)
+    returns-3
+    returns-4)

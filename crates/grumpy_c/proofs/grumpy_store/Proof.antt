@@ -1,0 +1,43 @@
+use borrow.Author.Needs.{needs}
+use mathlib.Core.Path.{refl}
+use Rattle.grumpy_c.specs.Stored.{store-no-report}
+use Rattle.grumpy_c.proofs.ToldStored.{stored-c}
+use Rattle.grumpy_c.proofs.grumpy_store.Statement.{statement}
+use Rattle.grumpy_c.proofs.grumpy_store.Tie as tie
+
+returns : tie.Need-returns
+returns c = store-no-report (c .if1 .taken) refl refl refl refl
+
+store-requires : tie.Need-store-requires
+store-requires c κs = search needs
+
+report-wrote-requires : tie.Need-report-wrote-requires
+report-wrote-requires c κs = search needs
+
+same-length : tie.Need-same-length
+same-length c = search needs
+
+same-length-2 : tie.Need-same-length-2
+same-length-2 c = search needs
+
+same-length-3 : tie.Need-same-length-3
+same-length-3 c = search needs
+
+returns-2 : tie.Need-returns-2
+returns-2 c =
+    let report-wrote = c .before .before in
+    let store = report-wrote .before .before .before .before .before .before in
+    let if1 = store .before .before .before in
+    stored-c _ _ _ _ _ _ _ _ (store .store .result) _ (if1 .if1 .left) (store .store .ensures) (report-wrote .report-wrote .ensures)
+
+pub grumpy-store-spec : {M : Type 1} → statement M
+grumpy-store-spec =
+    tie.close
+    (tie.spec
+    returns
+    store-requires
+    report-wrote-requires
+    same-length
+    same-length-2
+    same-length-3
+    returns-2)

@@ -1,0 +1,9 @@
+pub mod LineLaws
+pub mod EntryLaws
+pub mod NameLaws
+pub mod RowLaws
+pub mod Laid
+pub mod Words
+pub mod Reading
+pub mod Stands
+pub mod OneAnswer

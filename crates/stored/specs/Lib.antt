@@ -1,0 +1,5 @@
+pub mod Lines
+pub mod Entries
+pub mod Names
+pub mod Rows
+pub mod Answer

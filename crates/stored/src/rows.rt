@@ -1,0 +1,36 @@
+// The tokens of a stored sheet in table memory. Each lies there as the one token of a text of its own, which
+// begins at 0.
+ghost use Rattle.stored.specs.Rows.{Keepable, Kept};
+use crate::names::table_worth;
+use language::SOURCE;
+use language::TOKENS;
+use layout::floats;
+use layout::token;
+
+// Writes the token on the line from p up to q behind the others, where there is room for it and the bytes of
+// all so far are not too many; else the sheet is refused in the end, and the table stays.
+pub fn keep(
+    stored: &[u8],
+    table: &mut [u32],
+    count: usize,
+    bytes: usize,
+    kind: u32,
+    worth: u64,
+    p: usize,
+    q: usize,
+)
+    requires { ⌜ Keepable (now stored) (now table) count bytes p q ⌝ }
+    ensures { λ _. ⌜ Kept (now (stored .entry)) (now (table .entry)) (now (table .exit)) count bytes kind worth p q ⌝ }
+{
+    if TOKENS <= count {
+        return;
+    }
+    if SOURCE < bytes {
+        return;
+    }
+    let both = table_worth(stored, table, count, kind, p, q, worth);
+    let high = floats::high(both);
+    let low = floats::low(both);
+    let size = (q - p) / 2;
+    token::put(table, count, kind, 0, size as u32, high, low);
+}
