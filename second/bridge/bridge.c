@@ -33,6 +33,7 @@ enum {
   STORE,
   CHECK_STORED,
   RUN_STORED,
+  PROFILE,
   STATE_WORDS
 };
 
@@ -126,6 +127,8 @@ static uint64_t call(const uint64_t *asked, struct memory *m) {
     case RUN_STORED:
       return grumpy_run_stored(edition, LENT(source, SOURCE), LENT(table, TABLE), LENT(work, WORK),
                                LENT(out, OUT), allowance, LENT(report, REPORT));
+    case PROFILE:
+      return grumpy_profile(edition, LENT(source, SOURCE), LENT(table, TABLE), LENT(report, REPORT));
     case STATE_WORDS: return GRUMPY_SHIFT_STATE;
   }
   fail("no such service");

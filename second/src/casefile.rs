@@ -18,6 +18,7 @@
 //! ? number place type
 //! > number place "text"
 //! >> number place "stored sheet"
+//! ^ number place type count
 //! @ sheet place begin end
 //! = number place type value units printed "bytes"
 //! ```
@@ -28,11 +29,12 @@
 //! 1; `room` is what is lent to Write, `buffer` what is lent to Store. The `?`
 //! line is the answer of Check and may be left out where it follows from the `=`
 //! line, which is the answer of Run and ends the case. The `>` line is the answer
-//! of Write and the `>>` line that of Store, if they are laid down. Of two sheets
-//! these answers are those of the whole, and the `@` line says where the place is
-//! among the two, and where the line around it begins and ends. Of a stored sheet
-//! they are those of Check and Run for such. Lines that start with `#` and empty
-//! lines are nothing. See `quote` for the escapes.
+//! of Write, the `>>` line that of Store and the `^` line that of the pay profile,
+//! if they are laid down. Of two sheets these answers are those of the whole, and
+//! the `@` line says where the place is among the two, and where the line around
+//! it begins and ends. Of a stored sheet they are those of Check and Run for such.
+//! Lines that start with `#` and empty lines are nothing. See `quote` for the
+//! escapes.
 
 use crate::answer::Lent;
 use crate::cases::{check_from_run, in_pair, ran, told, Case};
@@ -135,6 +137,7 @@ impl Draft {
             "?" => self.wanted.push((Service::Check, check_line(rest)?)),
             ">" => self.wanted.push((Service::Write, write_line(rest)?)),
             ">>" => self.wanted.push((Service::Store, write_line(rest)?)),
+            "^" => self.wanted.push((Service::Profile, profile_line(rest)?)),
             "=" => self.wanted.push((Service::Run, run_line(rest)?)),
             _ => return Err(format!("unknown line: {line}")),
         }
@@ -235,6 +238,11 @@ fn check_line(text: &str) -> Result<Wanted, String> {
     };
     let report = vec![number(place)?, number(kind)?];
     Ok(told(number(no)?, report, b""))
+}
+
+fn profile_line(text: &str) -> Result<Wanted, String> {
+    let [no, place, kind, count] = four(text)?;
+    Ok(told(no as u32, vec![place, kind, count], b""))
 }
 
 fn write_line(text: &str) -> Result<Wanted, String> {

@@ -108,6 +108,7 @@ pub fn show(service: Service, wanted: &Wanted) -> String {
             format!("= {number} {place} {kind} {value} {units} {printed} \"{output}\"")
         }
         (Service::Write, [place, _]) => format!("> {number} {place} \"{output}\""),
+        (Service::Profile, [place, kind, count]) => format!("^ {number} {place} {kind} {count}"),
         (Service::Store, [place, _]) => format!(">> {number} {place} \"{output}\""),
         (Service::RunPair, [place, .., sheet, begin, end]) => {
             format!("@ {sheet} {place} {begin} {end}")
@@ -133,7 +134,8 @@ pub fn show_case(title: &str, trial: &Trial) -> String {
     let mut text = format!("* {title}\n{}", show_loans(trial));
     let (first, second) = trial.parts();
     text += &format!("| {}\n", quote::encode(first));
-    let mut services = vec![Service::Check, Service::Write, Service::Store];
+    let mut services = vec![Service::Check, Service::Write];
+    services.extend([Service::Store, Service::Profile]);
     if trial.cut.is_some() {
         text += &format!("& {}\n", quote::encode(second));
         services.push(Service::RunPair);

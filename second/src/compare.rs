@@ -63,6 +63,7 @@ pub fn compare(other: &dyn Other, trial: &Trial) -> Result<(), String> {
     }
     if trial.fill.is_multiple_of(2) {
         promise::kept(other, trial).map_err(|e| format!("promise: {e}"))?;
+        promise::finishes(other, trial).map_err(|e| format!("profile: {e}"))?;
     }
     let text = write(&trial.sheet, &trial.lent, trial.room).text;
     if text.is_empty() || !trial.fill.is_multiple_of(3) {
@@ -172,6 +173,9 @@ mod tests {
                     output[used - 1] = b' '
                 }
                 "a count from 0" if call.service == Service::Store && number == 0 => output[3] ^= 1,
+                "a count too small" if call.service == Service::Profile && number == 0 => {
+                    call.report[3] -= 1
+                }
                 "a byte for a line" if call.service == Service::RunStored && number == 20 => {
                     call.report[1] += 2
                 }
@@ -223,6 +227,12 @@ mod tests {
             kept.any(|verdict| verdict.is_err())
         });
         assert!(broken);
+        let short = on_big_stack(|| {
+            let trials = (0..300).map(|index| trial::make(6, index));
+            let mut kept = trials.map(|t| promise::finishes(&Mirror("a count too small"), &t));
+            kept.any(|verdict| verdict.is_err())
+        });
+        assert!(short);
     }
 
     /// Whether some trial, of so many at the most, tells the mirror from this one.
@@ -254,6 +264,7 @@ mod tests {
             "no line feed",
             "a count from 0",
             "a byte for a line",
+            "a count too small",
         ] {
             assert!(told_apart(fault, 5000), "{fault}");
         }

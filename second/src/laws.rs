@@ -1,8 +1,9 @@
 //! What is true of all answers: all that this interpreter can be held against
 //! when it is alone.
 
-use crate::answer::{self, Answer, Lent};
+use crate::answer::{self, Answer, Lent, MOST_UNITS};
 use crate::cases::check_from_run;
+use crate::profile::profile;
 use crate::promise::{fits, larger, ENDS};
 use crate::services::{wanted, Service};
 use crate::stored_laws;
@@ -21,6 +22,7 @@ pub fn hold(trial: &Trial) -> Result<(), String> {
     laws.extend(promises(trial, &answer));
     laws.extend(edition_laws(trial, &answer));
     laws.extend(stored_laws::all(trial, &answer));
+    laws.extend(profile_laws(trial, &answer));
     match laws.iter().find(|(holds, _)| !holds) {
         Some((_, law)) => Err(law.to_string()),
         None => Ok(()),
@@ -103,6 +105,37 @@ fn promises(trial: &Trial, answer: &Answer) -> Vec<Law> {
             "more units, another end",
         ),
     ]
+}
+
+/// R10.2, R10.5 and R10.6.
+fn profile_laws(trial: &Trial, answer: &Answer) -> Vec<Law> {
+    let told = profile(&trial.sheet, &trial.lent);
+    let check = answer::check(&trial.sheet, &trial.lent);
+    let due = match told.number {
+        0 => check.number == 0 && told.kind == check.kind && told.count <= MOST_UNITS,
+        43 | 45 => check.number == 0 && (told.kind, told.count) == (0, 0),
+        _ => (told.number, told.place) == (check.number, check.place),
+    };
+    let mut laws = vec![(due, "the profile is not what check says")];
+    if told.number == 0 && answer.number != 40 {
+        let exact = Lent {
+            allowance: told.count,
+            ..trial.lent
+        };
+        let ran = answer::run(&trial.sheet, &exact);
+        let enough = ran.number != 50 && ran.units <= told.count;
+        laws.push((enough, "more units than the profile counts"));
+        let all =
+            ran.units == told.count || ran.number != 0 || chooses(&trial.sheet, exact.edition);
+        laws.push((all, "fewer units than counted, and nothing was left out"));
+    }
+    laws
+}
+
+/// Whether a run may leave something out: there is an `if`, an `&&` or an `||`.
+fn chooses(sheet: &[u8], edition: u32) -> bool {
+    let chooses = |kind: &Kind| matches!(kind, Kind::Fixed("if" | "&&" | "||"));
+    kinds(sheet, edition).iter().any(chooses)
 }
 
 /// R12.14: a sheet that is the same tokens in both editions has one answer.

@@ -27,6 +27,8 @@ pub mod operators;
 pub mod pair;
 pub mod paper;
 pub mod piped;
+pub mod profile;
+pub mod profiles;
 pub mod promise;
 pub mod quote;
 pub mod rare;

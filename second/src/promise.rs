@@ -1,7 +1,7 @@
-//! What is promised of every run, whatever it means (R11.2, R11.3): a sheet that
-//! passes ends in a value or a listed stop, of the type that Check gives it, and
-//! unless it ran out of units, more of them change nothing. Here the other
-//! implementation is held against itself.
+//! What is promised of every run, whatever it means (R11.2, R11.3, R10.6): a sheet
+//! that passes ends in a value or a listed stop, of the type that Check gives it;
+//! unless it ran out of units, more of them change nothing; and what the pay
+//! profile counts is enough. Here the other implementation is held against itself.
 
 use crate::answer::{Lent, MOST_UNITS, TABLE_WORDS, WORK_WORDS};
 use crate::chance::Chance;
@@ -84,6 +84,24 @@ pub fn kept(other: &dyn Other, trial: &Trial) -> Result<(), String> {
     match call(other, Service::Run, trial, &lent)? == first {
         true => Ok(()),
         false => Err(format!("with {more} units it ends otherwise")),
+    }
+}
+
+/// Whether a sheet of the pay profile, allowed its count and no more, uses no
+/// more and does not run out (R10.6).
+pub fn finishes(other: &dyn Other, trial: &Trial) -> Result<(), String> {
+    let (told, _) = call(other, Service::Profile, trial, &trial.lent)?;
+    let [0, _, _, count] = told[..] else {
+        return Ok(());
+    };
+    let lent = Lent {
+        allowance: count,
+        ..trial.lent
+    };
+    let (ran, _) = call(other, Service::Run, trial, &lent)?;
+    match ran[0] != 50 && ran[4] <= count {
+        true => Ok(()),
+        false => Err(format!("{count} units are not enough")),
     }
 }
 

@@ -6,6 +6,7 @@ use crate::floats;
 use crate::forms::SEQ;
 use crate::long;
 use crate::loops;
+use crate::profiles;
 use crate::sheets::Writer;
 use crate::types::Type;
 
@@ -24,6 +25,8 @@ pub fn sheet(chance: &mut Chance) -> Vec<u8> {
         loops::ends,
         loops::far,
         loops::wrong,
+        profiles::at_the_limit,
+        profiles::unbounded,
         long::open_comment,
         many_functions,
         many_parameters,

@@ -2,6 +2,7 @@
 
 use crate::answer::{self, Answer, Left};
 use crate::pair::{placed, Placed};
+use crate::profile::{self, Profiled};
 use crate::store;
 use crate::trial::Trial;
 use crate::write::{self, Written};
@@ -20,15 +21,16 @@ pub enum Service {
     Store,
     CheckStored,
     RunStored,
+    Profile,
     /// No service, but how many words of state a shift needs.
     StateWords,
 }
 
-use Service::{Check, CheckPair, CheckStored, Run, RunPair, RunStored, Store, Write};
+use Service::{Check, CheckPair, CheckStored, Profile, Run, RunPair, RunStored, Store, Write};
 
 impl Service {
     /// Those that serve one sheet, or one that is cut in two or stored.
-    pub const ALL: [Service; 8] = [
+    pub const ALL: [Service; 9] = [
         Check,
         Run,
         Write,
@@ -37,6 +39,7 @@ impl Service {
         Store,
         CheckStored,
         RunStored,
+        Profile,
     ];
 
     /// Its number in what is asked of the bridge.
@@ -63,6 +66,7 @@ impl Service {
     pub fn words(self) -> usize {
         match self {
             Check | Write | Store | CheckStored => 3,
+            Profile => 4,
             Run | CheckPair | RunStored => 6,
             RunPair => 9,
             Service::ShiftBegin => 2,
@@ -137,6 +141,7 @@ pub fn wanted(service: Service, trial: &Trial) -> Wanted {
             &service.sources(trial).0,
             lent,
         )),
+        Profile => profiled(profile::profile(sheet, lent)),
         _ => unreachable!("a shift has trials of its own"),
     }
 }
@@ -167,6 +172,16 @@ fn written(told: Written) -> Wanted {
         number: told.number,
         report: vec![told.place, told.text.len() as u64],
         output: told.text,
+        table: told.table,
+        work: Left::AsBefore,
+    }
+}
+
+fn profiled(told: Profiled) -> Wanted {
+    Wanted {
+        number: told.number,
+        report: vec![told.place, told.kind, told.count],
+        output: vec![],
         table: told.table,
         work: Left::AsBefore,
     }

@@ -81,12 +81,7 @@ impl Other for Mirror {
         if call.service == Service::StateWords {
             return Ok(STATE_WORDS as u32);
         }
-        if call.report.len() < call.service.words() {
-            return Ok(40);
-        }
-        if call.state.len() < STATE_WORDS {
-            call.report[..call.service.words()].fill(0);
-            call.report[0] = 40;
+        if call.report.len() < call.service.words() || call.state.len() < STATE_WORDS {
             return Ok(40);
         }
         Ok(match call.service {

@@ -66,6 +66,12 @@ fn refusal(out: &mut [u8], at: usize, why: Refusal) -> usize
         Refusal::NotHexadecimal => put(out, at, b"not a whole line of hexadecimal digits"),
         Refusal::WrongCount => put(out, at, b"the count is not that of the lines under it"),
         Refusal::NotOneToken => put(out, at, b"the line is not exactly one token"),
+        Refusal::EndlessNode => put(
+            out,
+            at,
+            b"a pay sheet has no loop and no function that calls itself",
+        ),
+        Refusal::ManyUnits => put(out, at, b"the sheet may use more than 1000000 units"),
     }
 }
 

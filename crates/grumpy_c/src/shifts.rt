@@ -62,6 +62,8 @@ fn keeps(refusal: Refusal) -> bool
         Refusal::NotHexadecimal => false,
         Refusal::WrongCount => false,
         Refusal::NotOneToken => false,
+        Refusal::EndlessNode => false,
+        Refusal::ManyUnits => false,
     }
 }
 

@@ -22,6 +22,7 @@ use Rattle.language.specs.Meaning.{run, type-number}
 use Rattle.language.specs.Numbers.{Refusal, short-memory, large-allowance, no-edition, long-source}
 use Rattle.language.specs.Numbers.{text, no-reading, types, Told, passed, refused, stopped}
 use Rattle.language.specs.Numbers.{long-text, not-hexadecimal, wrong-count, not-one-token}
+use Rattle.language.specs.Numbers.{long-text, endless-node, many-units}
 
 -- ---- where tokens come from
 
@@ -121,6 +122,8 @@ keeps long-text = false
 keeps not-hexadecimal = false
 keeps wrong-count = false
 keeps not-one-token = false
+keeps endless-node = false
+keeps many-units = false
 
 unfoldable pub cleared : ℕ → List ℕ → List ℕ
 cleared n words = replicate n 0 ++ drop n words

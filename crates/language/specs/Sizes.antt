@@ -31,6 +31,10 @@ ACTIVE = 512
 abbrev pub CELLS : ℕ
 CELLS = 1024
 
+-- units that a pay sheet may count (R10.4)
+abbrev pub PAY-COUNT : ℕ
+PAY-COUNT = 1000000
+
 -- words of 32 bits of each lent memory
 abbrev pub TABLE : ℕ
 TABLE = 12288

@@ -24,6 +24,9 @@ pub const ACTIVE: usize = 512;
 
 pub const CELLS: usize = 1024;
 
+// Units that a pay sheet may count.
+pub const PAY_COUNT: u32 = 1000000;
+
 // Words of 32 bits of each lent memory.
 pub const TABLE: usize = 12288;
 

@@ -24,6 +24,8 @@ pub fn help() -> u32 {
         b"slip RATE-SHEET PICKS RATE         sets pay(PICKS,RATE) under the sheet and runs it
 slip check RATE-SHEET              checks a rate sheet, with a call under it, and runs nothing
 slip check --whole SHEET           checks a whole sheet as it stands
+slip profile RATE-SHEET            tells how many units a rate sheet can use, if it must finish; runs nothing
+slip profile --whole SHEET         the same of a whole sheet as it stands
 slip run SHEET [ALLOWANCE]         runs a whole sheet as it stands, by default with 1000000 units
 slip write SHEET                   writes a whole sheet out again, its tokens with one space between them
 slip store SHEET                   writes the stored form of a whole sheet, lines of hexadecimal

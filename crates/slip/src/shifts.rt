@@ -5,6 +5,7 @@ use crate::output;
 use crate::reports;
 use crate::serve::examine;
 use clerk::asked::Asked;
+use clerk::counts::unlimited;
 use clerk::ends;
 use language::SOURCE;
 use language::TABLE;
@@ -41,7 +42,7 @@ fn refuse(asked: Asked, edition: u32, book: &[u8], why: Why, spot: Spot) -> u32 
     if ends::unread_shift(why) {
         end = ends::completed(end, ends::unread(examine(edition, book)));
     }
-    reports::report(asked, book, b"", 0, end)
+    reports::report(asked, book, b"", unlimited(), end)
 }
 
 // Says how far it is, where a stride was passed.

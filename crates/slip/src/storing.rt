@@ -5,6 +5,9 @@ use crate::output;
 use crate::reports;
 use crate::serve;
 use clerk::asked::Asked;
+use clerk::counts::Limits;
+use clerk::counts::Most;
+use clerk::counts::unlimited;
 use clerk::ends;
 use clerk::ends::End;
 use grumpy::answers::Checked;
@@ -58,13 +61,13 @@ pub fn check(asked: Asked, edition: u32) -> u32 {
     };
     let n = input::within(length, &bytes);
     let end = ends::of_check(examine(edition, &bytes[..n]));
-    reports::report_stored(asked, b"", 0, end)
+    reports::report_stored(asked, b"", unlimited(), end)
 }
 
 // Reports a run; what was printed stands first in `out`.
-fn ran(asked: Asked, out: &[u8], allowance: u64, end: End) -> u32 {
+fn ran(asked: Asked, out: &[u8], limits: Limits, end: End) -> u32 {
     let n = input::within(ends::printed(end), out);
-    reports::report_stored(asked, &out[..n], allowance, end)
+    reports::report_stored(asked, &out[..n], limits, end)
 }
 
 fn run_lines(asked: Asked, edition: u32, stored: &[u8], allowance: u64) -> u32 {
@@ -75,7 +78,11 @@ fn run_lines(asked: Asked, edition: u32, stored: &[u8], allowance: u64) -> u32 {
     let work: &mut [u32] = &mut cells;
     let out: &mut [u8] = &mut bytes;
     let answer = grumpy::run_stored(edition, stored, table, work, out, allowance);
-    ran(asked, out, allowance, ends::of_run(answer))
+    let limits = Limits {
+        allowance,
+        most: Most::Unknown,
+    };
+    ran(asked, out, limits, ends::of_run(answer))
 }
 
 pub fn run(asked: Asked, edition: u32) -> u32 {

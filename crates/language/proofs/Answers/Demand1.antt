@@ -7,7 +7,7 @@ use mathlib.Core.Path.{_≡_, refl, sym, subst}
 use Prim.Native.Nat.{ℕ, _<_}
 use native.Mathlib.Omega.{arith}
 use lib.ListN.{length}
-use Rattle.language.specs.Sizes.{SOURCE, ALLOWANCE, TABLE, WORK}
+use Rattle.language.specs.Sizes.{SOURCE, ALLOWANCE, PAY-COUNT, TABLE, WORK}
 use Rattle.language.specs.Tokens.{Vocabulary, Token}
 use Rattle.language.specs.Text.{Flaw, Splits, Flawed}
 use Rattle.language.specs.Trees.{Ty, Program}
@@ -18,12 +18,14 @@ use Rattle.language.specs.Faults.{Reason, HasFault}
 use Rattle.language.specs.State.{Stop, State, Outcome, value, stop, stuck}
 use Rattle.language.specs.Meaning.{run}
 use Rattle.language.specs.Numbers.{Refusal, short-memory, large-allowance, no-edition, long-source, text}
-use Rattle.language.specs.Numbers.{no-reading, types, long-text, Told, passed, refused, stopped}
+use Rattle.language.specs.Numbers.{no-reading, types, long-text, endless-node, many-units, Told, passed, refused, stopped}
 use Rattle.language.specs.Answers.{Origin, place-in, too-long, flawed, unread, faulty, Passes, Refused}
 use Rattle.language.specs.Answers.{by-origin, by-tokens, Ending, ending, CheckReport, Checked, check-short, check-refused}
 use Rattle.language.specs.Answers.{check-passed, Lent, RunReport, Ran, run-short, run-large, run-refused, run-ended}
 use Rattle.language.specs.Edition.{edition, unknown, known, text-in}
 use Rattle.language.specs.Writing.{TooLong, WriteReport, Wrote, write-short, write-refused, write-long, write-passed}
+use Rattle.language.specs.Profile.{first-endless, units-most, ProfileReport, Profiled, profile-short, profile-refused, profile-endless}
+use Rattle.language.specs.Profile.{profile-many, profile-passed}
 use Rattle.language.proofs.Answers.Endings.{IsRun, is-run}
 
 -- ---- numbers and places
@@ -48,6 +50,12 @@ module _ (n : ℕ) (source : List ℕ) (l : Lent) where
         → edition n ≡ some voc → Splits voc source ts → Reading ts p → HasType p t → Listed passed 0
     row-44 : {voc : Vocabulary} {ts : List Token} {p : Program} {t : Ty}
         → edition n ≡ some voc → Splits voc source ts → Reading ts p → HasType p t → TooLong ts (l .output) → Listed (refused long-text) 0
+    row-43 : {voc : Vocabulary} {ts : List Token} {p : Program} {t : Ty} {i : ℕ}
+        → edition n ≡ some voc → Splits voc source ts → Reading ts p → HasType p t → first-endless p ≡ some i
+        → Listed (refused endless-node) (byte-of ts i)
+    row-45 : {voc : Vocabulary} {ts : List Token} {p : Program} {t : Ty}
+        → edition n ≡ some voc → Splits voc source ts → Reading ts p → HasType p t → first-endless p ≡ none → PAY-COUNT < units-most p
+        → Listed (refused many-units) 0
     rows-50-to-58 : {voc : Vocabulary} {ts : List Token} {p : Program} {t : Ty} {w : Stop} {i : ℕ} {s : State}
         → edition n ≡ some voc → Splits voc source ts → Reading ts p → HasType p t → run p (l .allowance) (l .output) ≡ stop w i s
         → Listed (stopped w) (byte-of ts i)
@@ -93,6 +101,16 @@ module _ (n : ℕ) (source : List ℕ) (l : Lent) where
       row-44 (a .given .named) (a .given .given .splits) (a .proper .reads) (a .proper .typed) k
   wrote-listed (write-passed h a k) = passed-listed a
 
+  -- and of profile, which is lent table memory alone
+  pub profiled-listed : {r : ProfileReport ℕ} → Profiled (text-in n source) (l .table) r → Listed (r .told) (r .place)
+  profiled-listed (profile-short h) = row-40 (inl h)
+  profiled-listed (profile-refused h a) = refused-listed a
+  profiled-listed (profile-endless h a k) =
+      row-43 (a .given .named) (a .given .given .splits) (a .proper .reads) (a .proper .typed) k
+  profiled-listed (profile-many h a k m) =
+      row-45 (a .given .named) (a .given .given .splits) (a .proper .reads) (a .proper .typed) k m
+  profiled-listed (profile-passed h a k m) = passed-listed a
+
 abbrev Stops : Told → Type 0
 Stops passed = ⊥
 Stops (refused r) = ⊥
@@ -132,3 +150,13 @@ module _ {P : Type 0} {o : Origin P} where
       go (write-refused h a) x = x
       go (write-long h a k) x = x
       go (write-passed h a k) x = x
+
+  pub profile-never-stops : {table : ℕ} {r : ProfileReport P} → Profiled o table r → (w : Stop) → r .told ≡ stopped w → ⊥
+  profile-never-stops a w e = go a (subst Stops (sym e) tt)
+    where
+      go : {table : ℕ} {r : ProfileReport P} → Profiled o table r → Stops (r .told) → ⊥
+      go (profile-short h) x = x
+      go (profile-refused h a) x = x
+      go (profile-endless h a k) x = x
+      go (profile-many h a k m) x = x
+      go (profile-passed h a k m) x = x

@@ -18,7 +18,7 @@ use Rattle.language.specs.Pairs.{from-pair}
 use Rattle.language.specs.Edition.{edition, EditionDenies, unknown, known, EditionGives, in-edition, text-in, pair-in}
 use Rattle.language.proofs.Text.Marks.{Laws, laws-1, laws-2}
 use Rattle.language.proofs.Answers.Follow.{Follows, passes-follow, refused-follow, check-follow, run-follow, write-follow, store-follow, follows-back}
-use Rattle.language.proofs.Answers.Origins.{Lawful, text-lawful}
+use Rattle.language.proofs.Answers.Origins.{Lawful, of-profile, text-lawful}
 use Rattle.language.proofs.Answers.Pairs.{pair-lawful}
 
 -- ---- the numbers
@@ -83,6 +83,10 @@ module _ {P : Type 0} (n : ℕ) (o : Vocabulary → Origin P) (law : (v : Vocabu
   edition-not-written r x (unknown a) e = let z : _≡_ {A = ℕ} 0 1 = cc in omega arith
   edition-not-written r x (known {voc = v} a d) e = law v a .not-written x (subst (λ (q : Refusal). o v .denies q x) e d)
 
+  pub edition-not-profiled : (r : Refusal) (x : P) → EditionDenies n o r x → of-profile r ≡ false
+  edition-not-profiled r x (unknown a) = refl
+  edition-not-profiled r x (known {voc = v} a d) = law v a .not-profiled r x d
+
   unfoldable pub edition-lawful : Lawful (in-edition n o)
   unfolding some-in
   edition-lawful = record {
@@ -95,6 +99,7 @@ module _ {P : Type 0} (n : ℕ) (o : Vocabulary → Origin P) (law : (v : Vocabu
     not-memory = edition-not-memory;
     not-reading = λ x a. edition-not-reading no-reading x a refl;
     not-written = λ x a. edition-not-written long-text x a refl;
+    not-profiled = edition-not-profiled;
   }
 
 -- a text and two sheets, whatever number is named

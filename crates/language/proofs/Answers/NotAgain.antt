@@ -13,6 +13,7 @@ use Rattle.language.specs.Faults as Faults
 use Rattle.language.specs.State as State
 use Rattle.language.specs.Numbers.{Refusal, short-memory, large-allowance, no-edition, long-source, text, no-reading, types, long-text}
 use Rattle.language.specs.Numbers.{not-hexadecimal, wrong-count, not-one-token}
+use Rattle.language.specs.Numbers.{endless-node, many-units}
 use Rattle.language.specs.Numbers.{Told, passed, refused, stopped, number, flaw-number, reason-number, stop-number}
 use Rattle.language.specs.Answers.{Origin}
 use Rattle.language.proofs.Grammar.FewNodes.{never-too-large}
@@ -72,6 +73,8 @@ not-again (refused long-text) e = omega arith
 not-again (refused not-hexadecimal) e = omega arith
 not-again (refused wrong-count) e = omega arith
 not-again (refused not-one-token) e = omega arith
+not-again (refused endless-node) e = omega arith
+not-again (refused many-units) e = omega arith
 not-again (stopped s) e = omega (arith, stop-not s)
 
 -- and none needs it

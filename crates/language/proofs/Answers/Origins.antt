@@ -1,6 +1,6 @@
 -- What an origin of tokens has to obey, so that of everything lent there is one answer; that a text does; and what an origin
 -- comes to, worked out: a program with its tokens and its type, or a refusal and its place.
-use mathlib.Core.Bool.{false}
+use mathlib.Core.Bool.{Bool, true, false}
 use mathlib.Core.List.{List}
 use mathlib.Core.Logic.{_⊎_, inl, inr}
 use mathlib.Core.Path.{_≡_, refl, sym, ap, ap₂, subst, _∙_}
@@ -11,7 +11,8 @@ use lib.ListN.{length}
 use Rattle.language.specs.Sizes.{SOURCE, TOKENS, LARGEST}
 use Rattle.language.specs.Tokens.{Vocabulary, Token, value-at}
 use Rattle.language.specs.Trees.{Ty, Program}
-use Rattle.language.specs.Numbers.{Refusal, text, no-reading, long-text}
+use Rattle.language.specs.Numbers.{Refusal, short-memory, large-allowance, no-edition, long-source, text, no-reading, types}
+use Rattle.language.specs.Numbers.{long-text, not-hexadecimal, wrong-count, not-one-token, endless-node, many-units}
 use Rattle.language.specs.Answers.{Origin, place-in, TextDenies, too-long, flawed, TextGives, from-text}
 use Rattle.language.specs.Answers.{Passes, Refused, by-origin, by-tokens, keeps, unread, faulty}
 use Rattle.language.proofs.Text.Marks.{Laws}
@@ -23,6 +24,22 @@ use Rattle.language.proofs.Text.Scanner.{scan, scanned}
 use Rattle.language.proofs.Answers.Verdict.{Verdict, denied, proper, verdict, Says, verdict-says, proper-is, denied-is}
 
 -- ---- the laws
+
+-- the refusals of profile alone (R10.2, R10.4)
+abbrev pub of-profile : Refusal → Bool
+of-profile short-memory = false
+of-profile large-allowance = false
+of-profile no-edition = false
+of-profile long-source = false
+of-profile (text f) = false
+of-profile no-reading = false
+of-profile (types r) = false
+of-profile long-text = false
+of-profile not-hexadecimal = false
+of-profile wrong-count = false
+of-profile not-one-token = false
+of-profile endless-node = true
+of-profile many-units = true
 
 pub record Lawful {P : Type 0} (o : Origin P) : Type 0 where
   pub one-list : (ts us : List Token) → o .gives ts → o .gives us → ts ≡ us
@@ -38,6 +55,8 @@ pub record Lawful {P : Type 0} (o : Origin P) : Type 0 where
   pub not-memory : (r : Refusal) (x : P) → o .denies r x → keeps r ≡ false
   pub not-reading : (x : P) → o .denies no-reading x → ⊥
   pub not-written : (x : P) → o .denies long-text x → ⊥
+  -- nor what only profile asks
+  pub not-profiled : (r : Refusal) (x : P) → o .denies r x → of-profile r ≡ false
 
 -- ---- a text obeys them
 
@@ -77,6 +96,10 @@ module _ {voc : Vocabulary} (laws : Laws voc) (source : List ℕ) where
   text-not-written r x (too-long h) e = let z : _≡_ {A = ℕ} 0 1 = cc in omega arith
   text-not-written r x (flawed h a) e = let z : _≡_ {A = ℕ} 0 1 = cc in omega arith
 
+  pub text-not-profiled : (r : Refusal) (x : ℕ) → TextDenies voc source r x → of-profile r ≡ false
+  text-not-profiled r x (too-long h) = refl
+  text-not-profiled r x (flawed h a) = refl
+
   unfoldable pub text-lawful : Lawful (from-text voc source)
   unfolding text-some
   text-lawful = record {
@@ -89,6 +112,7 @@ module _ {voc : Vocabulary} (laws : Laws voc) (source : List ℕ) where
     not-memory = text-not-memory;
     not-reading = λ x a. text-not-reading no-reading x a refl;
     not-written = λ x a. text-not-written long-text x a refl;
+    not-profiled = text-not-profiled;
   }
 
 -- ---- what an origin comes to
@@ -163,3 +187,9 @@ module _ {P : Type 0} {o : Origin P} (law : Lawful o) where
   refused-clears (by-origin {r} {x} d) = law .not-memory r x d
   refused-clears (by-tokens g (unread h)) = refl
   refused-clears (by-tokens g (faulty a f)) = refl
+
+  -- nor one of profile alone
+  pub refused-not-profiled : {r : Refusal} {x : P} → Refused o r x → of-profile r ≡ false
+  refused-not-profiled (by-origin {r} {x} d) = law .not-profiled r x d
+  refused-not-profiled (by-tokens g (unread h)) = refl
+  refused-not-profiled (by-tokens g (faulty a f)) = refl

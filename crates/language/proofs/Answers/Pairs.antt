@@ -14,7 +14,7 @@ use Rattle.language.specs.State.{Outcome, value, stop, stuck}
 use Rattle.language.specs.Meaning.{type-number}
 use Rattle.language.specs.Numbers.{Refusal, short-memory, large-allowance, no-edition, long-source, text}
 use Rattle.language.specs.Numbers.{no-reading, types, long-text, not-hexadecimal, wrong-count, not-one-token}
-use Rattle.language.specs.Numbers.{Told, passed, refused, stopped}
+use Rattle.language.specs.Numbers.{endless-node, many-units, Told, passed, refused, stopped}
 use Rattle.language.specs.Answers as Answers
 use Rattle.language.specs.Answers.{at, place-in, TextDenies, TextGives, unread, faulty, keeps, Refused, by-origin}
 use Rattle.language.specs.Answers.{by-tokens, Passes, Ending, ending, CheckReport, check-report, Checked, check-short}
@@ -24,7 +24,7 @@ use Rattle.language.specs.Pairs.{joined, Place, place-of, front, PairDen
 use Rattle.language.proofs.Text.Marks.{Laws}
 use Rattle.language.proofs.Text.OneSplit.{one-flaw}
 use Rattle.language.proofs.Text.OneSplit as OneSplit
-use Rattle.language.proofs.Answers.Origins.{Lawful, text-lawful}
+use Rattle.language.proofs.Answers.Origins.{Lawful, of-profile, text-lawful}
 
 -- ---- the map
 
@@ -42,6 +42,8 @@ placed (refused long-text) = false
 placed (refused not-hexadecimal) = true
 placed (refused wrong-count) = true
 placed (refused not-one-token) = true
+placed (refused endless-node) = true
+placed (refused many-units) = false
 placed (stopped w) = true
 
 module _ (first second : List ℕ) where
@@ -92,6 +94,10 @@ module _ {voc : Vocabulary} (laws : Laws voc) (first second : List ℕ) where
   not-written r x (too-long h) e = let z : _≡_ {A = ℕ} 0 1 = cc in omega arith
   not-written r x (flawed h a) e = let z : _≡_ {A = ℕ} 0 1 = cc in omega arith
 
+  not-profiled : (r : Refusal) (x : Place) → PairDenies voc first second r x → of-profile r ≡ false
+  not-profiled r x (too-long h) = refl
+  not-profiled r x (flawed h a) = refl
+
   some-of : ((ts : List Token) × TextGives voc (joined first second) ts) ⊎ ((r : Refusal) × (p : ℕ) × TextDenies voc (joined first second) r p)
       → ((ts : List Token) × TextGives voc (joined first second) ts) ⊎ ((r : Refusal) × (x : Place) × PairDenies voc first second r x)
   some-of (inl g) = inl g
@@ -109,6 +115,7 @@ module _ {voc : Vocabulary} (laws : Laws voc) (first second : List ℕ) where
     not-memory = not-memory;
     not-reading = λ x a. not-reading no-reading x a refl;
     not-written = λ x a. not-written long-text x a refl;
+    not-profiled = not-profiled;
   }
 
 -- ---- as the joined text

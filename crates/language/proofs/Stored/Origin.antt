@@ -14,7 +14,7 @@ use Rattle.language.specs.Stored.{AllLone, lone-none, lone-more, from-st
 use Rattle.language.specs.Stored.{StoredGives, StoredDenies, no-count, large-count, no-line, no-token, miscounted, overlong}
 use Rattle.language.proofs.Text.Marks.{Laws}
 use Rattle.language.proofs.Text.SmallNumbers.{split-small}
-use Rattle.language.proofs.Answers.Origins.{Lawful}
+use Rattle.language.proofs.Answers.Origins.{Lawful, of-profile}
 use Rattle.language.proofs.Stored.Reader.{Answer, given, denied, Says, read-stored, read-says}
 use Rattle.language.proofs.Stored.ReaderComplete.{gives-read, denies-read}
 
@@ -55,6 +55,14 @@ module _ {voc : Vocabulary} {input : List ℕ} where
   not-written (miscounted g h) e = let z : _≡_ {A = ℕ} 0 1 = cc in omega arith
   not-written (overlong g h) e = let z : _≡_ {A = ℕ} 0 1 = cc in omega arith
 
+  pub not-profiled : {r : Refusal} {x : ℕ} → StoredDenies voc input r x → of-profile r ≡ false
+  not-profiled (no-count h) = refl
+  not-profiled (large-count f h) = refl
+  not-profiled (no-line g h) = refl
+  not-profiled (no-token g f h) = refl
+  not-profiled (miscounted g h) = refl
+  not-profiled (overlong g h) = refl
+
 module _ {voc : Vocabulary} (laws : Laws voc) (input : List ℕ) where
   -- one input comes to one token list (R09.10)
   pub one-list : (ts us : List Token) → StoredGives voc input ts → StoredGives voc input us → ts ≡ us
@@ -89,4 +97,5 @@ module _ {voc : Vocabulary} (laws : Laws voc) (input : List ℕ) where
     not-memory = λ r x d. not-memory d;
     not-reading = λ x d. not-reading d refl;
     not-written = λ x d. not-written d refl;
+    not-profiled = λ r x d. not-profiled d;
   }
