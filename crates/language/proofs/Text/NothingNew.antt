@@ -17,7 +17,7 @@ use Rattle.language.proofs.Text.Spellings.{byte-inside, slice-stands}
 use Rattle.language.specs.Text.{byte, Stands, between, is-letter, Content, Form, Piece, word-kind, token-of, Reaches, Splits, Flaw, Wrong, Flawed}
 use Rattle.language.specs.Text.Content.{space, unclosed, overlong, token}
 use Rattle.language.specs.Text.Reaches.{start, skip, next}
-use Rattle.language.specs.Text.Wrong.{strange, opened, long, large, many}
+use Rattle.language.specs.Text.WrongUnder.{strange, opened, long, large, many}
 use Rattle.language.specs.Tokens.{Spelling, spell, same, spelled, Vocabulary, EDITION-1, EDITION-2, Token, FOR, BY, UPTO, THROUGH}
 
 -- ---- tokens that are older

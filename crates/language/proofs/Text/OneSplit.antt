@@ -13,7 +13,7 @@ use Rattle.language.specs.Sizes.{TOKENS, LARGEST}
 use Rattle.language.specs.Text.{Content, Piece, token-of, Reaches, Splits, Flaw, Wrong, Flawed}
 use Rattle.language.specs.Text.Content.{space, unclosed, overlong, token}
 use Rattle.language.specs.Text.Reaches.{start, skip, next}
-use Rattle.language.specs.Text.Wrong.{strange, opened, long, large, many}
+use Rattle.language.specs.Text.WrongUnder.{strange, opened, long, large, many}
 use Rattle.language.specs.Tokens.{Vocabulary, Token}
 
 -- ---- one step of a split

@@ -26,7 +26,7 @@ use Rattle.language.specs.Text.{word-kind, number-from, token-of, Reache
 use Rattle.language.specs.Text.Content.{space, unclosed, overlong, token}
 use Rattle.language.specs.Text.Flaw.{strange-byte, open-comment, large-number, many-tokens, long-float}
 use Rattle.language.specs.Text.Reaches.{start, skip, next}
-use Rattle.language.specs.Text.Wrong.{strange, opened, long, large, many}
+use Rattle.language.specs.Text.WrongUnder.{strange, opened, long, large, many}
 use Rattle.language.specs.Tokens.{same, spelled, Vocabulary, Token}
 
 -- ---- the whole text
