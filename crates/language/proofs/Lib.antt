@@ -8,3 +8,4 @@ pub mod Writing
 pub mod Pairs
 pub mod Stored
 pub mod Shift
+pub mod Sizes

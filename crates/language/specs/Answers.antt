@@ -1,7 +1,7 @@
 -- What check and run answer for everything they can be lent, and what they leave in it (S004, S091 to S101). It goes in
 -- three steps: where the tokens come from, what becomes of tokens, and what becomes of a program. Only the first knows
--- places. A name that ends in Under is of any sizes z (R13.5); the same name without it is of the box's sizes, and is the
--- one that contracts cite.
+-- places. What a name that ends in Under says is of any sizes σ (R13.5); without it, of the box's, and contracts cite
+-- those.
 use mathlib.Core.Bool.{Bool, true, false, cond}
 use mathlib.Core.List.{List, [], _++_, reverse}
 use mathlib.Core.Logic.{_⊎_}
@@ -47,14 +47,14 @@ place-in o ts (at i) = o .at ts i
 
 -- A text by a vocabulary. Its places are bytes (S044): a token's is where it begins, and the end's is the length of the
 -- text.
-module _ (z : Sizes) (voc : Vocabulary) (source : List ℕ) where
+module _ (σ : Sizes) (voc : Vocabulary) (source : List ℕ) where
   pub data TextDeniesUnder : Refusal → ℕ → Type 0 where
-    too-long : z .source < length source → TextDeniesUnder long-source 0
-    flawed : {f : Flaw} {p : ℕ} → length source ≤ z .source → FlawedUnder z voc source f p → TextDeniesUnder (text f) p
+    too-long : σ .source < length source → TextDeniesUnder long-source 0
+    flawed : {f : Flaw} {p : ℕ} → length source ≤ σ .source → FlawedUnder σ voc source f p → TextDeniesUnder (text f) p
 
   pub record TextGivesUnder (ts : List Token) : Type 0 where
-    pub short : length source ≤ z .source
-    pub splits : SplitsUnder z voc source ts
+    pub short : length source ≤ σ .source
+    pub splits : SplitsUnder σ voc source ts
 
   abbrev pub text-under : Origin ℕ
   text-under = record {
@@ -75,27 +75,27 @@ from-text = text-under BOX
 
 -- ---- what becomes of tokens
 
-module _ (z : Sizes) (ts : List Token) where
+module _ (σ : Sizes) (ts : List Token) where
   -- they are a program of this type
   pub record ProperUnder (p : Program) (t : Ty) : Type 0 where
     pub reads : Reading ts p
-    pub typed : HasTypeUnder z p t
+    pub typed : HasTypeUnder σ p t
 
   -- or not, and why and at which token; a fault's order is in Faults
   pub data DeniedUnder : Refusal → Spot → Type 0 where
     -- R01.3: at the first token with which no program goes on, or at the end
     unread : {i : ℕ} → FirstWrong ts i → DeniedUnder no-reading (at i)
-    faulty : {p : Program} {r : Reason} {i : ℕ} → Reading ts p → HasFaultUnder z p r i → DeniedUnder (types r) (at i)
+    faulty : {p : Program} {r : Reason} {i : ℕ} → Reading ts p → HasFaultUnder σ p r i → DeniedUnder (types r) (at i)
 
 -- The two steps together: what an origin comes to.
-module _ (z : Sizes) {P : Type 0} (o : Origin P) where
+module _ (σ : Sizes) {P : Type 0} (o : Origin P) where
   pub record PassesUnder (ts : List Token) (p : Program) (t : Ty) : Type 0 where
     pub given : o .gives ts
-    pub proper : ProperUnder z ts p t
+    pub proper : ProperUnder σ ts p t
 
   pub data RefusedUnder : Refusal → P → Type 0 where
     by-origin : {r : Refusal} {x : P} → o .denies r x → RefusedUnder r x
-    by-tokens : {ts : List Token} {r : Refusal} {s : Spot} → o .gives ts → DeniedUnder z ts r s
+    by-tokens : {ts : List Token} {r : Refusal} {s : Spot} → o .gives ts → DeniedUnder σ ts r s
         → RefusedUnder r (place-in o ts s)
 
 abbrev pub Proper : List Token → Program → Ty → Type 0
@@ -166,19 +166,19 @@ pub record CheckReport (P : Type 0) : Type 0 where
 abbrev pub check-report : {P : Type 0} → Told → P → ℕ → CheckReport P
 check-report a x t = record { told = a; place = x; type = t }
 
-module _ (z : Sizes) {P : Type 0} (o : Origin P) where
+module _ (σ : Sizes) {P : Type 0} (o : Origin P) where
   -- the report, for so many words of table memory
   pub data CheckedUnder (table : ℕ) : CheckReport P → Type 0 where
-    check-short : table < z .table → CheckedUnder table (check-report (refused short-memory) (o .nowhere) 0)
-    check-refused : {r : Refusal} {x : P} → z .table ≤ table → RefusedUnder z o r x
+    check-short : table < σ .table → CheckedUnder table (check-report (refused short-memory) (o .nowhere) 0)
+    check-refused : {r : Refusal} {x : P} → σ .table ≤ table → RefusedUnder σ o r x
         → CheckedUnder table (check-report (refused r) x 0)
-    check-passed : {ts : List Token} {p : Program} {t : Ty} → z .table ≤ table → PassesUnder z o ts p t
+    check-passed : {ts : List Token} {p : Program} {t : Ty} → σ .table ≤ table → PassesUnder σ o ts p t
         → CheckedUnder table (check-report passed (o .nowhere) (type-number t))
 
   -- The contract of check: its report, and the table memory as it is left.
   pub record CheckUnder (table : List ℕ) (report : CheckReport P) (table′ : List ℕ) : Type 0 where
     pub answer : CheckedUnder (length table) report
-    pub table-left : table′ ≡ left (report .told) (z .table) table
+    pub table-left : table′ ≡ left (report .told) (σ .table) table
 
 abbrev pub Checked : {P : Type 0} → Origin P → ℕ → CheckReport P → Type 0
 Checked o = CheckedUnder BOX o
@@ -205,8 +205,8 @@ pub record Lent : Type 0 where
   pub output : ℕ
   pub allowance : ℕ
 
-pub record EnoughUnder (z : Sizes) (l : Lent) : Type 0 where
-  pub table : z .table ≤ l .table
+pub record EnoughUnder (σ : Sizes) (l : Lent) : Type 0 where
+  pub table : σ .table ≤ l .table
   pub work : WORK ≤ l .work
 
 abbrev pub Enough : Lent → Type 0
@@ -226,15 +226,15 @@ after-run o ts t e = record {
   printed = length (e .printed);
 }
 
-module _ (z : Sizes) {P : Type 0} (o : Origin P) where
+module _ (σ : Sizes) {P : Type 0} (o : Origin P) where
   -- the report, and the bytes printed
   pub data RanUnder (l : Lent) : RunReport P → List ℕ → Type 0 where
-    run-short : (l .table < z .table) ⊎ (l .work < WORK) → RanUnder l (refusal short-memory (o .nowhere)) []
-    run-large : EnoughUnder z l → ALLOWANCE < l .allowance → RanUnder l (refusal large-allowance (o .nowhere)) []
-    run-refused : {r : Refusal} {x : P} → EnoughUnder z l → l .allowance ≤ ALLOWANCE → RefusedUnder z o r x
+    run-short : (l .table < σ .table) ⊎ (l .work < WORK) → RanUnder l (refusal short-memory (o .nowhere)) []
+    run-large : EnoughUnder σ l → ALLOWANCE < l .allowance → RanUnder l (refusal large-allowance (o .nowhere)) []
+    run-refused : {r : Refusal} {x : P} → EnoughUnder σ l → l .allowance ≤ ALLOWANCE → RefusedUnder σ o r x
         → RanUnder l (refusal r x) []
     run-ended : {ts : List Token} {p : Program} {t : Ty} {e : Ending}
-        → EnoughUnder z l → l .allowance ≤ ALLOWANCE → PassesUnder z o ts p t
+        → EnoughUnder σ l → l .allowance ≤ ALLOWANCE → PassesUnder σ o ts p t
         → ending (l .allowance) (run p (l .allowance) (l .output)) ≡ some e
         → RanUnder l (after-run o ts t e) (e .printed)
 
@@ -245,7 +245,7 @@ module _ (z : Sizes) {P : Type 0} (o : Origin P) where
     pub answer : RanUnder
         record { table = length table; work = length work; output = length output; allowance = allowance }
         report printed
-    pub table-left : table′ ≡ left (report .told) (z .table) table
+    pub table-left : table′ ≡ left (report .told) (σ .table) table
     pub work-left : work′ ≡ left (report .told) WORK work
     pub output-left : output′ ≡ printed ++ drop (length printed) output
 

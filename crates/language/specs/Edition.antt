@@ -45,15 +45,15 @@ module _ {P : Type 0} (n : ℕ) (o : Vocabulary → Origin P) where
   }
 
 -- a text, a stored sheet and two sheets, as callers lend them
-module _ (z : Sizes) (n : ℕ) where
+module _ (σ : Sizes) (n : ℕ) where
   abbrev pub text-in-under : List ℕ → Origin ℕ
-  text-in-under source = in-edition n λ voc. text-under z voc source
+  text-in-under source = in-edition n λ voc. text-under σ voc source
 
   abbrev pub stored-in-under : List ℕ → Origin ℕ
-  stored-in-under input = in-edition n λ voc. stored-under z voc input
+  stored-in-under input = in-edition n λ voc. stored-under σ voc input
 
   abbrev pub pair-in-under : List ℕ → List ℕ → Origin Place
-  pair-in-under first second = in-edition n λ voc. pair-under z voc first second
+  pair-in-under first second = in-edition n λ voc. pair-under σ voc first second
 
 abbrev pub text-in : ℕ → List ℕ → Origin ℕ
 text-in = text-in-under BOX

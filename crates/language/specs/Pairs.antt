@@ -58,18 +58,18 @@ front = record { sheet = 1; at = 0; begins = 0; ends = 0 }
 
 -- ---- the two as an origin of tokens
 
-module _ (z : Sizes) (voc : Vocabulary) (first second : List ℕ) where
+module _ (σ : Sizes) (voc : Vocabulary) (first second : List ℕ) where
   pub data PairDeniesUnder : Refusal → Place → Type 0 where
-    too-long : z .source < length (joined first second) → PairDeniesUnder long-source front
-    flawed : {f : Flaw} {p : ℕ} → length (joined first second) ≤ z .source → FlawedUnder z voc (joined first second) f p
+    too-long : σ .source < length (joined first second) → PairDeniesUnder long-source front
+    flawed : {f : Flaw} {p : ℕ} → length (joined first second) ≤ σ .source → FlawedUnder σ voc (joined first second) f p
         → PairDeniesUnder (text f) (place-of first second p)
 
   abbrev pub pair-under : Origin Place
   pair-under = record {
-    gives = TextGivesUnder z voc (joined first second);
+    gives = TextGivesUnder σ voc (joined first second);
     denies = PairDeniesUnder;
     nowhere = front;
-    at = λ ts i. place-of first second (text-under z voc (joined first second) .at ts i);
+    at = λ ts i. place-of first second (text-under σ voc (joined first second) .at ts i);
   }
 
 abbrev pub PairDenies : Vocabulary → List ℕ → List ℕ → Refusal → Place → Type 0

@@ -2,7 +2,7 @@
 -- sheets is said under any such sizes, of which the box's are one value (R13.5). What a run may use, and what a number,
 -- a byte and a shift may be, is the same under all of them. Each number is named once, and every other file takes it
 -- from here.
-use Prim.Native.Nat.{ℕ, _≤_}
+use Prim.Native.Nat.{ℕ}
 
 -- ---- what a sheet may have
 
@@ -17,16 +17,6 @@ pub record Sizes : Type 0 where
   pub refs : ℕ
   -- words of 32 bits of table memory
   pub table : ℕ
-
--- w has room for all that z has room for
-pub record Larger (z w : Sizes) : Type 0 where
-  pub source : z .source ≤ w .source
-  pub tokens : z .tokens ≤ w .tokens
-  pub nodes : z .nodes ≤ w .nodes
-  pub functions : z .functions ≤ w .functions
-  pub parameters : z .parameters ≤ w .parameters
-  pub refs : z .refs ≤ w .refs
-  pub table : z .table ≤ w .table
 
 -- the box's
 abbrev pub BOX : Sizes

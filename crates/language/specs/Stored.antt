@@ -9,7 +9,7 @@ use lib.Dec.{ltb}
 use lib.ListN.{length}
 use Rattle.language.specs.Sizes.{Sizes, BOX, BYTE}
 use Rattle.language.specs.Tokens.{Vocabulary, Token}
-use Rattle.language.specs.Text.{byte, many-tokens, SplitsUnder}
+use Rattle.language.specs.Text.{byte, many-tokens, SplitsWhole}
 use Rattle.language.specs.Numbers.{Refusal, text, long-source, not-hexadecimal, wrong-count, not-one-token}
 use Rattle.language.specs.Answers.{Origin}
 
@@ -68,44 +68,45 @@ pub record FirstCount (input : List ℕ) (n : ℕ) (rest : List ℕ) : Type 0 wh
 
 -- ---- what an input comes to
 
-module _ (z : Sizes) (voc : Vocabulary) where
+module _ (voc : Vocabulary) where
   -- what t is spelled with is t and nothing else: no blank, no comment, no second token, no number over its limit
-  pub record LoneUnder (t : Token) : Type 0 where
+  pub record Lone (t : Token) : Type 0 where
     pub bytes : Bytes (t .spelling)
-    pub splits : SplitsUnder z voc (t .spelling) (t ∷ [])
+    pub splits : SplitsWhole voc (t .spelling) (t ∷ [])
 
-  pub data AllLoneUnder : List Token → Type 0 where
-    lone-none : AllLoneUnder []
-    lone-more : {t : Token} {ts : List Token} → LoneUnder t → AllLoneUnder ts → AllLoneUnder (t ∷ ts)
+  pub data AllLone : List Token → Type 0 where
+    lone-none : AllLone []
+    lone-more : {t : Token} {ts : List Token} → Lone t → AllLone ts → AllLone (t ∷ ts)
 
+module _ (σ : Sizes) (voc : Vocabulary) where
   -- it is the stored form of tokens
   pub record StoredGivesUnder (input : List ℕ) (ts : List Token) : Type 0 where
     pub form : input ≡ stored ts
-    pub tokens : AllLoneUnder ts
-    pub few : length ts ≤ z .tokens
-    pub short : spelled-bytes ts ≤ z .source
+    pub tokens : AllLone voc ts
+    pub few : length ts ≤ σ .tokens
+    pub short : spelled-bytes ts ≤ σ .source
 
   -- good lines: a count that is not too large, then those of the tokens ts; `rest` stands behind them
   pub record GoodLinesUnder (input : List ℕ) (n : ℕ) (ts : List Token) (rest : List ℕ) : Type 0 where
     pub lines : input ≡ count-line n ++ (token-lines ts ++ rest)
-    pub few : n ≤ z .tokens
-    pub tokens : AllLoneUnder ts
+    pub few : n ≤ σ .tokens
+    pub tokens : AllLone voc ts
 
   pub data StoredDeniesUnder (input : List ℕ) : Refusal → ℕ → Type 0 where
     -- R09.6, R09.7, of the first line; nothing at all has none
     no-count : ((n : ℕ) (rest : List ℕ) → FirstCount input n rest → ⊥) → StoredDeniesUnder input not-hexadecimal 1
-    large-count : {n : ℕ} {rest : List ℕ} → FirstCount input n rest → z .tokens < n
+    large-count : {n : ℕ} {rest : List ℕ} → FirstCount input n rest → σ .tokens < n
         → StoredDeniesUnder input (text many-tokens) 1
     -- R09.6, of the line behind those of ts, be they more than were counted
     no-line : {n b : ℕ} {ts : List Token} {rest : List ℕ} → GoodLinesUnder input n ts (b ∷ rest)
         → ((s more : List ℕ) → FirstLine (b ∷ rest) s more → ⊥)
         → StoredDeniesUnder input not-hexadecimal (length ts + 2)
     no-token : {n : ℕ} {ts : List Token} {rest s more : List ℕ} → GoodLinesUnder input n ts rest → FirstLine rest s more
-        → ((t : Token) → t .spelling ≡ s → LoneUnder t → ⊥) → StoredDeniesUnder input not-one-token (length ts + 2)
+        → ((t : Token) → t .spelling ≡ s → Lone voc t → ⊥) → StoredDeniesUnder input not-one-token (length ts + 2)
     -- R09.8, where every line is good
     miscounted : {n : ℕ} {ts : List Token} → GoodLinesUnder input n ts [] → (n ≡ length ts → ⊥)
         → StoredDeniesUnder input wrong-count 1
-    overlong : {ts : List Token} → GoodLinesUnder input (length ts) ts [] → z .source < spelled-bytes ts
+    overlong : {ts : List Token} → GoodLinesUnder input (length ts) ts [] → σ .source < spelled-bytes ts
         → StoredDeniesUnder input long-source 0
 
   -- R09.9: a token's place is its line, the end's the line behind the last
@@ -116,12 +117,6 @@ module _ (z : Sizes) (voc : Vocabulary) where
     nowhere = 0;
     at = λ ts i. i + 2;
   }
-
-abbrev pub Lone : Vocabulary → Token → Type 0
-Lone = LoneUnder BOX
-
-abbrev pub AllLone : Vocabulary → List Token → Type 0
-AllLone = AllLoneUnder BOX
 
 abbrev pub StoredGives : Vocabulary → List ℕ → List Token → Type 0
 StoredGives = StoredGivesUnder BOX

@@ -152,12 +152,17 @@ module _ (voc : Vocabulary) where
     next : {p q k v : ℕ} {ts us : List Token} → Reaches t p ts → Piece t p q (token k v) → v ≤ LARGEST
         → us ≡ ts ++ (token-of t p q k v ∷ []) → Reaches t q us
 
--- under any sizes
-module _ (z : Sizes) (voc : Vocabulary) where
-  -- the whole text splits into the tokens ts, which are not too many
+  -- the whole text splits into the tokens ts, however many they are
+  abbrev pub SplitsWhole : List ℕ → List Token → Type 0
+  SplitsWhole t ts = Reaches t (length t) ts
+
+-- ---- under sizes
+
+module _ (σ : Sizes) (voc : Vocabulary) where
+  -- it does, and the tokens are not too many
   pub record SplitsUnder (t : List ℕ) (ts : List Token) : Type 0 where
-    pub whole : Reaches voc t (length t) ts
-    pub few : length ts ≤ z .tokens
+    pub whole : SplitsWhole voc t ts
+    pub few : length ts ≤ σ .tokens
 
   -- what is wrong at p, with the tokens ts before it
   pub data WrongUnder (t : List ℕ) (p : ℕ) (ts : List Token) : Flaw → Type 0 where
@@ -165,17 +170,17 @@ module _ (z : Sizes) (voc : Vocabulary) where
     opened : {q : ℕ} → Piece voc t p q unclosed → WrongUnder t p ts open-comment
     long : {q : ℕ} → Piece voc t p q overlong → WrongUnder t p ts long-float
     large : {q k v : ℕ} → Piece voc t p q (token k v) → LARGEST < v → WrongUnder t p ts large-number
-    many : {q k v : ℕ} → Piece voc t p q (token k v) → v ≤ LARGEST → length ts ≡ z .tokens
+    many : {q k v : ℕ} → Piece voc t p q (token k v) → v ≤ LARGEST → length ts ≡ σ .tokens
         → WrongUnder t p ts many-tokens
 
   -- the split comes as far as p, and there stands this flaw
   pub record FlawedUnder (t : List ℕ) (f : Flaw) (p : ℕ) : Type 0 where
     pub tokens : List Token
     pub before : Reaches voc t p tokens
-    pub few : length tokens ≤ z .tokens
+    pub few : length tokens ≤ σ .tokens
     pub here : WrongUnder t p tokens f
 
--- under the box's
+-- under the box's sizes
 abbrev pub Splits : Vocabulary → List ℕ → List Token → Type 0
 Splits = SplitsUnder BOX
 

@@ -1,5 +1,5 @@
 -- Which readings have a type (S045 to S054). The rules are 003's; `Typed Δ Γ e t` is its G;D |- e : t. They know three
--- sizes, of functions, parameters and `ref`, and are said under any z; the box's are at the end.
+-- sizes, of functions, parameters and `ref`, and are said under any σ; the box's are at the end.
 use mathlib.Core.Bool.{Bool}
 use mathlib.Core.List.{List, [], _∷_, map}
 use mathlib.Core.Option.{none, some}
@@ -15,11 +15,11 @@ use Rattle.language.specs.Trees.{more, Param, Def, Program, Scope, empty
 
 -- ---- operators (003's unoptype and binoptype; S052)
 
-pub data UnopTypeUnder (z : Sizes) : Unary → Ty → Ty → Type 0 where
-  u-minus : UnopTypeUnder z minus int int
-  u-not : UnopTypeUnder z not bool bool
-  u-fetch : {t : Ty} → UnopTypeUnder z fetch (ref t) t
-  u-new : {t : Ty} → refs t < z .refs → UnopTypeUnder z new t (ref t)
+pub data UnopTypeUnder (σ : Sizes) : Unary → Ty → Ty → Type 0 where
+  u-minus : UnopTypeUnder σ minus int int
+  u-not : UnopTypeUnder σ not bool bool
+  u-fetch : {t : Ty} → UnopTypeUnder σ fetch (ref t) t
+  u-new : {t : Ty} → refs t < σ .refs → UnopTypeUnder σ new t (ref t)
 
 -- 003's arithmetic types (R08.4)
 pub data Arithmetic : Ty → Type 0 where
@@ -50,7 +50,7 @@ pub record Sig : Type 0 where
   pub gives : Ty
 
 -- Δ has the functions in sight, Γ the variables; each is looked up in its own (S047 to S049)
-module _ (z : Sizes) (Δ : Scope Sig) where
+module _ (σ : Sizes) (Δ : Scope Sig) where
   mutual
     pub data TypedUnder : Scope Ty → Exp → Ty → Type 0 where
       t-name : {Γ : Scope Ty} {i : ℕ} {x : Name} {t : Ty} → nearest x Γ ≡ some t → TypedUnder Γ (name i x) t
@@ -60,7 +60,7 @@ module _ (z : Sizes) (Δ : Scope Sig) where
       t-trivial : {Γ : Scope Ty} {i : ℕ} → TypedUnder Γ (literal i trivial) unit
       t-decimal : {Γ : Scope Ty} {i : ℕ} {x : Float} → TypedUnder Γ (literal i (decimal x)) float
       t-unary : {Γ : Scope Ty} {i : ℕ} {o : Unary} {e : Exp} {t u : Ty}
-          → TypedUnder Γ e t → UnopTypeUnder z o t u → TypedUnder Γ (unary i o e) u
+          → TypedUnder Γ e t → UnopTypeUnder σ o t u → TypedUnder Γ (unary i o e) u
       t-binary : {Γ : Scope Ty} {i : ℕ} {o : Binary} {e f : Exp} {t u v : Ty}
           → TypedUnder Γ e t → TypedUnder Γ f u → BinopType o t u v → TypedUnder Γ (binary i o e f) v
       -- S051
@@ -102,26 +102,26 @@ with-def Δ d = push (d .called) (sig d) Δ
 abbrev pub given : Scope Sig
 given = push PUTCHAR record { takes = int ∷ []; gives = int } empty
 
-module _ (z : Sizes) where
-  -- `TakesUnder z Γ ps Γ′`: the parameters ps, one after another, are fit to be bound, and Γ′ is Γ with them
+module _ (σ : Sizes) where
+  -- `TakesUnder σ Γ ps Γ′`: the parameters ps, one after another, are fit to be bound, and Γ′ is Γ with them
   pub data TakesUnder : Scope Ty → List Param → Scope Ty → Type 0 where
     takes-none : {Γ : Scope Ty} → TakesUnder Γ [] Γ
     takes-more : {Γ Γ′ : Scope Ty} {p : Param} {ps : List Param}
-        → size Γ < z .parameters → nearest (p .called) Γ ≡ none → refs (p .type) ≤ z .refs
+        → size Γ < σ .parameters → nearest (p .called) Γ ≡ none → refs (p .type) ≤ σ .refs
         → TakesUnder (push (p .called) (p .type) Γ) ps Γ′ → TakesUnder Γ (p ∷ ps) Γ′
 
   abbrev pub RoomUnder : Scope Sig → Type 0
-  RoomUnder Δ = size Δ ≤ z .functions
+  RoomUnder Δ = size Δ ≤ σ .functions
 
   -- the function d is right, where Δ has the functions before it (S050: no name defined twice, no parameter named
   -- twice)
   pub data FineUnder (Δ : Scope Sig) (d : Def) : Type 0 where
     fine : {Γ : Scope Ty}
-        → RoomUnder Δ → nearest (d .called) Δ ≡ none → TakesUnder empty (d .params) Γ → refs (d .result) ≤ z .refs
-        → TypedUnder z (with-def Δ d) Γ (d .body) (d .result) → FineUnder Δ d
+        → RoomUnder Δ → nearest (d .called) Δ ≡ none → TakesUnder empty (d .params) Γ → refs (d .result) ≤ σ .refs
+        → TypedUnder σ (with-def Δ d) Γ (d .body) (d .result) → FineUnder Δ d
 
   pub data TypedFromUnder : Scope Sig → List Def → Exp → Ty → Type 0 where
-    typed-main : {Δ : Scope Sig} {e : Exp} {t : Ty} → TypedUnder z Δ empty e t → TypedFromUnder Δ [] e t
+    typed-main : {Δ : Scope Sig} {e : Exp} {t : Ty} → TypedUnder σ Δ empty e t → TypedFromUnder Δ [] e t
     typed-def : {Δ : Scope Sig} {d : Def} {ds : List Def} {e : Exp} {t : Ty}
         → FineUnder Δ d → TypedFromUnder (with-def Δ d) ds e t → TypedFromUnder Δ (d ∷ ds) e t
 

@@ -8,6 +8,7 @@ use native.Mathlib.Decide.{decLe, decLt, ℕ-discrete}
 use lib.ListN.{length}
 use Prim.Native.Nat.{ℕ}
 use Prim.Native.String.{String}
+use Rattle.language.specs.Sizes.{BOX}
 use Rattle.language.specs.Tokens.{Entry, _is_, spell, same, spelled, entry, kind-at, value-at, spelling-at, Vocabulary, EDITION-1, EDITION-2}
 use Rattle.language.specs.Trees.{refs, size, nearest}
 use Rattle.language.specs.Faults.{unsuited}
@@ -36,7 +37,7 @@ gives (flawed f p) form = false
 unfoldable pub stores : Vocabulary → List (Entry String String) → Bool
 unfolding scan stored count-line token-lines line hex capital same
 stores voc [] = true
-stores voc ((source is form) ∷ rows) = gives (scan voc (spell source)) (spell form) && stores voc rows
+stores voc ((source is form) ∷ rows) = gives (scan BOX voc (spell source)) (spell form) && stores voc rows
 
 -- R09.3, and spellings as they are: zeros before a number, capitals, a base
 pub examples-stored :
@@ -67,7 +68,7 @@ comes (denied r x) n y = eqb n (refusal-number r) && eqb y x
 unfoldable pub reads : Vocabulary → List (Entry String (Entry ℕ ℕ)) → Bool
 unfolding read-stored
 reads voc [] = true
-reads voc ((input is (n is x)) ∷ rows) = comes (read-stored voc (spell input)) n x && reads voc rows
+reads voc ((input is (n is x)) ∷ rows) = comes (read-stored BOX voc (spell input)) n x && reads voc rows
 
 pub examples-good : reads EDITION-1 ("0003\n31\n2B\n32\n" is (0 is 3) ∷ "0000\n" is (0 is 0) ∷ "0001\n303037\n" is (0 is 1) ∷ []) ≡ true
 unfolding reads
