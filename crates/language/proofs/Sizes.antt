@@ -4,6 +4,7 @@ pub mod TypesLarger
 pub mod FaultsLarger
 pub mod Wider
 pub mod AnswersLarger
+pub mod StoredLarger
 pub mod TypesApart
 pub mod Apart
 pub mod Origins
