@@ -58,14 +58,18 @@ pub record StoredSheetUnder (σ : Sizes) (n : ℕ) (source form : List ℕ) : Ty
   pub same : SameButPlaces tokens again
   -- a check of the one is a check of the other, and so is a run, with the same bytes printed
   pub checks : {table : ℕ} {r : CheckReport ℕ} → CheckedUnder σ (text-in-under σ n source) table r
-      → (r′ : CheckReport ℕ) × CheckedUnder σ (stored-in-under σ n form) table r′ × SameCheck (text-in-under σ n source) (stored-in-under σ n form) tokens again r r′
+      → (r′ : CheckReport ℕ) × CheckedUnder σ (stored-in-under σ n form) table r′
+      × SameCheck (text-in-under σ n source) (stored-in-under σ n form) tokens again r r′
   pub runs : {l : Lent} {r : RunReport ℕ} {bs : List ℕ} → RanUnder σ (text-in-under σ n source) l r bs
-      → (r′ : RunReport ℕ) × RanUnder σ (stored-in-under σ n form) l r′ bs × SameRun (text-in-under σ n source) (stored-in-under σ n form) tokens again r r′
+      → (r′ : RunReport ℕ) × RanUnder σ (stored-in-under σ n form) l r′ bs
+      × SameRun (text-in-under σ n source) (stored-in-under σ n form) tokens again r r′
   -- and the other way round
   pub checks-back : {table : ℕ} {r : CheckReport ℕ} → CheckedUnder σ (stored-in-under σ n form) table r
-      → (r′ : CheckReport ℕ) × CheckedUnder σ (text-in-under σ n source) table r′ × SameCheck (stored-in-under σ n form) (text-in-under σ n source) again tokens r r′
+      → (r′ : CheckReport ℕ) × CheckedUnder σ (text-in-under σ n source) table r′
+      × SameCheck (stored-in-under σ n form) (text-in-under σ n source) again tokens r r′
   pub runs-back : {l : Lent} {r : RunReport ℕ} {bs : List ℕ} → RanUnder σ (stored-in-under σ n form) l r bs
-      → (r′ : RunReport ℕ) × RanUnder σ (text-in-under σ n source) l r′ bs × SameRun (stored-in-under σ n form) (text-in-under σ n source) again tokens r r′
+      → (r′ : RunReport ℕ) × RanUnder σ (text-in-under σ n source) l r′ bs
+      × SameRun (stored-in-under σ n form) (text-in-under σ n source) again tokens r r′
 
 -- under the box's sizes
 abbrev pub StoredSheet : ℕ → List ℕ → List ℕ → Type 0
