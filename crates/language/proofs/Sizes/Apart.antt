@@ -1,4 +1,4 @@
--- Demand 3 with the sizes apart (S003): within the sizes, check passes with the type t, and run ends in a value or a stop with the
+-- Demand 3 with the sizes apart (S050): within the sizes, check passes with the type t, and run ends in a value or a stop with the
 -- type t, exactly when there are tokens, the tokens have a reading and the reading has the type t under some sizes; and both say
 -- "not a program" exactly when there are tokens and no reading of them. It is said over any origin, and what it comes to with
 -- the sizes apart is a matter of each.

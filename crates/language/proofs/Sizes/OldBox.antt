@@ -11,15 +11,15 @@ use Rattle.language.specs.Sizes.{Sizes, BOX, ALLOWANCE}
 use Rattle.language.specs.Tokens.{Vocabulary, EDITION-1, spell, _is_}
 use Rattle.language.specs.Text.{many-tokens}
 use Rattle.language.specs.Numbers.{text, refused}
-use Rattle.language.specs.Answers.{RefusedUnder, by-origin, CheckReport, check-report, CheckedUnder, check-refused}
+use Rattle.language.specs.Answers.{Origin, RefusedUnder, by-origin, CheckReport, check-report, CheckedUnder, check-refused}
 use Rattle.language.specs.Answers.{Lent, EnoughUnder, RunReport, refusal, RanUnder, run-refused}
 use Rattle.language.specs.Stored.{COUNT, capital, hex, line, count-line, FirstCount, large-count}
-use Rattle.language.specs.Edition.{edition, known, stored-in-under}
+use Rattle.language.specs.Edition.{edition, known, text-in-under, stored-in-under, pair-in-under}
 use Rattle.language.proofs.Answers.OneAnswer.{one-checked, one-ran}
 use Rattle.language.proofs.Stored.Editions.{stored-in-lawful-under}
 use Rattle.language.proofs.Stored.Examples.{reads}
 use Rattle.language.proofs.Sizes.Larger.{Larger, told-of-size}
-use Rattle.language.proofs.Sizes.Wider.{stored-in-wider}
+use Rattle.language.proofs.Sizes.Wider.{Wider, text-in-wider, pair-in-wider, stored-in-wider}
 use Rattle.language.proofs.Sizes.AnswersLarger.{with-table, checked-larger, ran-larger}
 
 -- ---- a count above the size, under any sizes that a count can tell
@@ -80,12 +80,23 @@ box-larger = record {
   table = omega arith;
 }
 
--- so every stored sheet that an old box accepts is accepted with the same answers, and refused as it was, but for a matter of size
-module _ (n : ℕ) (input : List ℕ) where
-  pub old-check-stays : {table : ℕ} (table′ : ℕ) {r : CheckReport ℕ} → BOX .table ≤ table′ → told-of-size (r .told) ≡ false
-      → CheckedUnder OLD (stored-in-under OLD n input) table r → CheckedUnder BOX (stored-in-under BOX n input) table′ r
-  old-check-stays = checked-larger box-larger (stored-in-wider box-larger n input)
+-- So what an old box answers, the box answers, but for a matter of size: of a text, of two sheets, and of a stored sheet, whoever
+-- wrote it.
+module _ {P : Type 0} {o q : Origin P} (w : Wider o q) where
+  pub check-stays : {table : ℕ} (table′ : ℕ) {r : CheckReport P} → BOX .table ≤ table′ → told-of-size (r .told) ≡ false
+      → CheckedUnder OLD o table r → CheckedUnder BOX q table′ r
+  check-stays = checked-larger box-larger w
 
-  pub old-run-stays : {l : Lent} (table′ : ℕ) {r : RunReport ℕ} {bs : List ℕ} → BOX .table ≤ table′ → told-of-size (r .told) ≡ false
-      → RanUnder OLD (stored-in-under OLD n input) l r bs → RanUnder BOX (stored-in-under BOX n input) (with-table table′ l) r bs
-  old-run-stays = ran-larger box-larger (stored-in-wider box-larger n input)
+  pub run-stays : {l : Lent} (table′ : ℕ) {r : RunReport P} {bs : List ℕ} → BOX .table ≤ table′ → told-of-size (r .told) ≡ false
+      → RanUnder OLD o l r bs → RanUnder BOX q (with-table table′ l) r bs
+  run-stays = ran-larger box-larger w
+
+module _ (n : ℕ) where
+  pub old-text : (source : List ℕ) → Wider (text-in-under OLD n source) (text-in-under BOX n source)
+  old-text = text-in-wider box-larger n
+
+  pub old-pair : (first second : List ℕ) → Wider (pair-in-under OLD n first second) (pair-in-under BOX n first second)
+  old-pair = pair-in-wider box-larger n
+
+  pub old-stored : (input : List ℕ) → Wider (stored-in-under OLD n input) (stored-in-under BOX n input)
+  old-stored = stored-in-wider box-larger n

@@ -1,22 +1,26 @@
 -- What the three origins come to with the sizes apart, and when no size is exceeded, each in its own words: a source and its tokens
 -- are not too long, and of no reading 30 or 34 is told. Then demand 3 with the sizes apart is that of `Apart`.
 use mathlib.Core.List.{List}
+use mathlib.Core.Logic.{_↔_}
 use mathlib.Core.Option.{some}
 use mathlib.Core.Path.{_≡_, subst}
 use Prim.Native.Nat.{ℕ, _≤_}
 use lib.ListN.{length}
-use Rattle.language.specs.Sizes.{Sizes}
+use Rattle.language.specs.Sizes.{Sizes, ALLOWANCE}
 use Rattle.language.specs.Tokens.{Vocabulary, Token}
 use Rattle.language.specs.Text.{SplitsWhole}
-use Rattle.language.specs.Trees.{Program}
+use Rattle.language.specs.Trees.{Ty, Program}
 use Rattle.language.specs.Grammar.{Reading}
-use Rattle.language.specs.Answers.{Origin, TextGivesUnder}
+use Rattle.language.specs.Meaning.{type-number}
+use Rattle.language.specs.Numbers.{passed}
+use Rattle.language.specs.Answers.{Origin, TextGivesUnder, CheckReport, CheckedUnder, Lent, EnoughUnder, RunReport, RanUnder}
 use Rattle.language.specs.Stored.{AllLone, stored, spelled-bytes}
 use Rattle.language.specs.Pairs.{joined}
 use Rattle.language.specs.Edition.{edition, in-edition, text-in-under, stored-in-under, pair-in-under}
-use Rattle.language.proofs.Answers.Editions.{one-edition}
+use Rattle.language.proofs.Answers.Endings.{IsRun}
+use Rattle.language.proofs.Answers.Editions.{one-edition, text-in-lawful-under}
 use Rattle.language.proofs.Sizes.TypesApart.{Fitting}
-use Rattle.language.proofs.Sizes.Apart.{Within}
+use Rattle.language.proofs.Sizes.Apart.{IsSheet, Within, check-type-apart, run-type-apart}
 
 -- ---- a text, and two sheets as one text
 
@@ -72,3 +76,15 @@ module _ (n : ℕ) {voc : Vocabulary} (e : edition n ≡ some voc) where
     comes = λ g. let a = named g in record { form = a .form; tokens = a .tokens };
     fits = w .fits;
   }
+
+-- ---- demand 3 of a text, in full; of the other two it is the same, with what they come to
+
+module _ {σ : Sizes} (n : ℕ) {voc : Vocabulary} (e : edition n ≡ some voc) (source : List ℕ) (w : TextWithin σ voc source) where
+  pub check-text-apart : {table : ℕ} → σ .table ≤ table → {r : CheckReport ℕ} → CheckedUnder σ (text-in-under σ n source) table r
+      → (t : Ty) → ((r .told ≡ passed) × (r .type ≡ type-number t)) ↔ IsSheet (SplitsWhole voc source) t
+  check-text-apart room a t = check-type-apart (text-in-lawful-under n source) (text-within n e source w) room a t
+
+  pub run-text-apart : {l : Lent} → EnoughUnder σ l → l .allowance ≤ ALLOWANCE → {r : RunReport ℕ} {bs : List ℕ}
+      → RanUnder σ (text-in-under σ n source) l r bs
+      → (t : Ty) → (IsRun (r .told) × (r .type ≡ type-number t)) ↔ IsSheet (SplitsWhole voc source) t
+  run-text-apart enough fair a t = run-type-apart (text-in-lawful-under n source) (text-within n e source w) enough fair a t

@@ -1,4 +1,4 @@
--- Types with the sizes apart (S003): a program has a type if it has one under some sizes. It has one at most; and under sizes
+-- Types with the sizes apart (S050): a program has a type if it has one under some sizes. It has one at most; and under sizes
 -- that it does not exceed it has that one.
 use mathlib.Core.Bool.{Bool, true, false}
 use mathlib.Core.Logic.{_⊎_, inl, inr}
