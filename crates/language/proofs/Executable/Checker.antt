@@ -143,14 +143,14 @@ check-from-under σ (d ∷ ds) Δ e = after (check-def-under σ Δ d) λ _. chec
 unfoldable pub check-under : Sizes → Program → Res Ty
 check-under σ p = check-from-under σ (p .defs) given (p .main)
 
--- ---- under the box's sizes: whoever unfolds one of these unfolds the other
+-- ---- under the box's sizes: to unfold one of these is to unfold all that it computes with, under any sizes
 
 unfoldable abbrev pub infer : Scope Sig → Exp → Scope Ty → Res Ty
-unfolding infer-under
+unfolding infer-under unop-under
 infer Δ e Γ = infer-under BOX Δ e Γ
 
 unfoldable abbrev pub infers : Scope Sig → Exps → Scope Ty → Res (List Ty)
-unfolding infer-under
+unfolding infer-under unop-under
 infers Δ es Γ = infers-under BOX Δ es Γ
 
 unfoldable abbrev pub take-params : List Param → Scope Ty → Res (Scope Ty)
@@ -158,13 +158,13 @@ unfolding take-params-under
 take-params ps Γ = take-params-under BOX ps Γ
 
 unfoldable abbrev pub check-def : Scope Sig → Def → Res (Unit {0})
-unfolding check-def-under
+unfolding check-def-under take-params-under infer-under unop-under
 check-def Δ d = check-def-under BOX Δ d
 
 unfoldable abbrev pub check-from : List Def → Scope Sig → Exp → Res Ty
-unfolding check-from-under
+unfolding check-from-under check-def-under take-params-under infer-under unop-under
 check-from ds Δ e = check-from-under BOX ds Δ e
 
 unfoldable abbrev pub check : Program → Res Ty
-unfolding check-under
+unfolding check-under check-from-under check-def-under take-params-under infer-under unop-under
 check p = check-under BOX p
