@@ -3,13 +3,13 @@ use Prim.Native.Nat.{ℕ}
 
 -- bytes of a source, tokens of it, nodes of its reading
 abbrev pub SOURCE : ℕ
-SOURCE = 8192
+SOURCE = 49152
 
 abbrev pub TOKENS : ℕ
-TOKENS = 1024
+TOKENS = 1360
 
 abbrev pub NODES : ℕ
-NODES = 1024
+NODES = 1360
 
 -- functions of a program, parameters of a function, `ref` in a type
 abbrev pub FUNCTIONS : ℕ
@@ -33,7 +33,7 @@ CELLS = 1024
 
 -- words of 32 bits of each lent memory
 abbrev pub TABLE : ℕ
-TABLE = 12288
+TABLE = 16384
 
 abbrev pub WORK : ℕ
 WORK = 16384
