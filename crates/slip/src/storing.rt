@@ -6,6 +6,7 @@ use crate::reports;
 use crate::serve;
 use clerk::asked::Asked;
 use clerk::ends;
+use clerk::ends::End;
 use grumpy::answers::Checked;
 use language::SOURCE;
 use language::TABLE;
@@ -64,7 +65,12 @@ pub fn check(asked: Asked, edition: u32) -> u32 {
     reports::report_stored(asked, b"", 0, end)
 }
 
-// Runs it, and reports; what was printed stands first in `out`.
+// Reports a run; what was printed stands first in `out`.
+fn ran(asked: Asked, out: &[u8], allowance: u64, end: End) -> u32 {
+    let n = input::within(ends::printed(end), out);
+    reports::report_stored(asked, &out[..n], allowance, end)
+}
+
 fn run_lines(asked: Asked, edition: u32, stored: &[u8], allowance: u64) -> u32 {
     let mut words = [0u32; TABLE];
     let mut cells = [0u32; WORK];
@@ -73,9 +79,7 @@ fn run_lines(asked: Asked, edition: u32, stored: &[u8], allowance: u64) -> u32 {
     let work: &mut [u32] = &mut cells;
     let out: &mut [u8] = &mut bytes;
     let answer = grumpy::run_stored(edition, stored, table, work, out, allowance);
-    let end = ends::of_run(answer);
-    let n = input::within(ends::printed(end), out);
-    reports::report_stored(asked, &out[..n], allowance, end)
+    ran(asked, out, allowance, ends::of_run(answer))
 }
 
 pub fn run(asked: Asked, edition: u32) -> u32 {
