@@ -20,7 +20,7 @@ pub record Sizes : Type 0 where
 
 -- the box's
 abbrev pub BOX : Sizes
-BOX = record { source = 8192; tokens = 1024; nodes = 1024; functions = 32; parameters = 8; refs = 15; table = 12288 }
+BOX = record { source = 49152; tokens = 1360; nodes = 1360; functions = 32; parameters = 8; refs = 15; table = 16384 }
 
 abbrev pub SOURCE : ℕ
 SOURCE = BOX .source
