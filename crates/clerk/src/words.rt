@@ -92,7 +92,11 @@ fn called(out: &mut [u8], at: usize, why: Refusal) -> usize
     ensures { λ r. ⌜ Counts r (now (out .exit)) ⌝ }
 {
     match why {
-        Refusal::LongSource => put(out, at, b"with its call the sheet has more than 49152 bytes"),
+        Refusal::LongSource => put(
+            out,
+            at,
+            b"with its call the sheet has more than 49152 bytes",
+        ),
         Refusal::Text(_) => put(
             out,
             at,

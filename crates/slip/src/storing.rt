@@ -48,7 +48,9 @@ fn load(word: usize, bytes: &mut [u8]) -> Sheet {
     if length < bytes.len() {
         return Sheet::Bytes(length);
     }
-    output::tell(b"slip: the stored sheet has more than 131071 bytes, and no sheet needs so many\n");
+    output::tell(
+        b"slip: the stored sheet has more than 131071 bytes, and no sheet needs so many\n",
+    );
     Sheet::Nothing
 }
 
