@@ -194,7 +194,7 @@ module _ {σ : Sizes} {P : Type 0} {o : Origin P} (law : LawfulUnder σ o) where
   refused-clears (by-tokens g (faulty a f)) = refl
 
   -- nor one of profile alone
-  pub refused-not-profiled : {r : Refusal} {x : P} → Refused o r x → of-profile r ≡ false
+  pub refused-not-profiled : {r : Refusal} {x : P} → RefusedUnder σ o r x → of-profile r ≡ false
   refused-not-profiled (by-origin {r} {x} d) = law .not-profiled r x d
   refused-not-profiled (by-tokens g (unread h)) = refl
   refused-not-profiled (by-tokens g (faulty a f)) = refl

@@ -9,7 +9,7 @@ use Rattle.language.specs.Faults.{Reason, no-binding, no-function, wrong
 use Rattle.language.specs.Faults.{not-unit, not-bool, not-int, branches-differ, wrong-body, too-many-refs, too-many-functions}
 use Rattle.language.specs.Faults.{too-many-parameters, function-twice, parameter-twice}
 use Rattle.language.specs.Numbers.{Refusal, short-memory, large-allowance, no-edition, long-source, text, no-reading, types}
-use Rattle.language.specs.Numbers.{long-text, not-hexadecimal, wrong-count, not-one-token, Told, passed, refused, stopped}
+use Rattle.language.specs.Numbers.{long-text, not-hexadecimal, wrong-count, not-one-token, endless-node, many-units, Told, passed, refused, stopped}
 
 -- ---- larger
 
@@ -103,6 +103,8 @@ of-size long-text = true
 of-size not-hexadecimal = false
 of-size wrong-count = false
 of-size not-one-token = false
+of-size endless-node = false
+of-size many-units = false
 
 abbrev pub told-of-size : Told → Bool
 told-of-size passed = false
