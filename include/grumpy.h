@@ -114,7 +114,7 @@ extern "C" {
 #endif
 
 /* lent memory, in words of 32 bits, and reports, in words of 64 bits */
-#define GRUMPY_TABLE 12288
+#define GRUMPY_TABLE 16384
 #define GRUMPY_WORK 16384
 #define GRUMPY_CHECK_REPORT 3
 #define GRUMPY_RUN_REPORT 6
@@ -137,8 +137,8 @@ extern "C" {
 
 /* the largest source in bytes, the longest stored form of one, the largest allowance in units, and the largest count
  * of a pay sheet */
-#define GRUMPY_SOURCE 8192
-#define GRUMPY_STORED 17413
+#define GRUMPY_SOURCE 49152
+#define GRUMPY_STORED 99669
 #define GRUMPY_ALLOWANCE 1000000
 #define GRUMPY_PAY_COUNT 1000000
 
@@ -151,7 +151,7 @@ extern "C" {
 #define GRUMPY_STRANGE_BYTE 11    /* a byte that begins no token */
 #define GRUMPY_OPEN_COMMENT 12    /* a comment that is never closed */
 #define GRUMPY_LARGE_NUMBER 13    /* a number that is too large to write */
-#define GRUMPY_MANY_TOKENS 14     /* more than 1,024 tokens */
+#define GRUMPY_MANY_TOKENS 14     /* more than 1,360 tokens */
 #define GRUMPY_LONG_FLOAT 15      /* a number with a point and more than 15 digits */
 #define GRUMPY_NOT_A_PROGRAM 20   /* the tokens have no reading; the place is where it goes wrong */
 #define GRUMPY_MANY_FUNCTIONS 30  /* a 33rd function, or a ninth parameter */

@@ -1,17 +1,19 @@
 //! What Check and Run must report, and in which state each lent memory
 //! must be afterwards.
 
+use crate::sizes::{Sizes, BOX};
 use crate::{begins, grammar, run as runner, text, tree, types, Refusal};
 
-pub const MOST_BYTES: usize = 8192;
+pub const MOST_BYTES: usize = BOX.bytes;
 pub const MOST_UNITS: u64 = 1_000_000;
-pub const TABLE_WORDS: usize = 12_288;
+pub const TABLE_WORDS: usize = BOX.table;
 pub const WORK_WORDS: usize = 16_384;
 
-/// Lengths of what is lent to a run, in words or bytes, its allowance, and the
-/// edition that the caller names.
+/// Lengths of what is lent to a run, in words or bytes, its allowance, the edition
+/// that the caller names, and the sizes of the box that is called.
 #[derive(Clone, Copy, Debug, PartialEq, Eq)]
 pub struct Lent {
+    pub sizes: Sizes,
     pub edition: u32,
     pub table: usize,
     pub work: usize,
@@ -22,6 +24,7 @@ pub struct Lent {
 impl Default for Lent {
     fn default() -> Lent {
         Lent {
+            sizes: BOX,
             edition: 1,
             table: TABLE_WORDS,
             work: WORK_WORDS,
@@ -55,9 +58,9 @@ pub struct Answer {
 /// A program and its type, or why there is none.
 pub type Prepared = Result<(tree::Program, types::Type), Refusal>;
 
-/// How the bytes of a sheet become a program in an edition: as a source, or as a
-/// stored sheet.
-pub type Prepare = fn(&[u8], u32) -> Prepared;
+/// How the bytes of a sheet become a program, in an edition and within sizes: as
+/// a source, or as a stored sheet.
+pub type Prepare = fn(&[u8], &Lent) -> Prepared;
 
 pub fn check(source: &[u8], lent: &Lent) -> Answer {
     check_by(prepare, source, lent)
@@ -70,10 +73,10 @@ pub fn run(source: &[u8], lent: &Lent) -> Answer {
 /// The answer of Check: value, units and printed are of no meaning there and
 /// stay 0, and so does the work memory, which Check is never lent.
 pub fn check_by(prepare: Prepare, sheet: &[u8], lent: &Lent) -> Answer {
-    if lent.table < TABLE_WORDS {
+    if lent.table < lent.sizes.table {
         return refused(Refusal::new(40, 0), Left::AsBefore);
     }
-    let answer = match prepare(sheet, lent.edition) {
+    let answer = match prepare(sheet, lent) {
         Ok((_, kind)) => Answer {
             kind: kind.code(),
             ..refused(Refusal::new(0, 0), Left::RequiredZero)
@@ -87,13 +90,13 @@ pub fn check_by(prepare: Prepare, sheet: &[u8], lent: &Lent) -> Answer {
 }
 
 pub fn run_by(prepare: Prepare, sheet: &[u8], lent: &Lent) -> Answer {
-    if lent.table < TABLE_WORDS || lent.work < WORK_WORDS {
+    if lent.table < lent.sizes.table || lent.work < WORK_WORDS {
         return refused(Refusal::new(40, 0), Left::AsBefore);
     }
     if lent.allowance > MOST_UNITS {
         return refused(Refusal::new(41, 0), Left::RequiredZero);
     }
-    let (program, kind) = match prepare(sheet, lent.edition) {
+    let (program, kind) = match prepare(sheet, lent) {
         Ok(prepared) => prepared,
         Err(refusal) => return refused(refusal, Left::RequiredZero),
     };
@@ -120,14 +123,16 @@ pub fn is_edition(edition: u32) -> bool {
 
 /// Everything the services share of a source once the loans are known to be long
 /// enough and the allowance is not too large.
-pub fn prepare(source: &[u8], edition: u32) -> Prepared {
+pub fn prepare(source: &[u8], lent: &Lent) -> Prepared {
+    let Lent { sizes, edition, .. } = *lent;
     if !is_edition(edition) {
         return Err(Refusal::new(42, 0));
     }
-    if source.len() > MOST_BYTES {
+    if source.len() > sizes.bytes {
         return Err(Refusal::new(10, 0));
     }
-    understand(&text::tokens(source, edition)?, source.len())
+    let tokens = text::tokens_within(source, edition, sizes.tokens)?;
+    understand(&tokens, source.len())
 }
 
 /// The program that the tokens are. 20 is told at the token that no program

@@ -5,9 +5,9 @@
 //! edition 2
 //! allowance 10
 //! output 0
-//! table 12288
+//! table 16384
 //! work 16384
-//! room 8192
+//! room 49152
 //! buffer 131072
 //! | the sheet, one line
 //! | and another, with an LF between the two

@@ -195,6 +195,7 @@ mod tests {
                 work: call.work.len(),
                 output: call.output.len(),
                 allowance: call.allowance,
+                ..Lent::default()
             };
             let mut trial = match call.service {
                 Service::CheckPair | Service::RunPair => {

@@ -6,7 +6,7 @@
 //! stead or left out, until nothing makes them worse.
 
 use crate::layers::{closed, layers, long_calls, Fit, Layer};
-use crate::nests::{sheet, Shape, LISTS};
+use crate::nests::{lists, sheet, Shape};
 use crate::services::Service;
 use crate::text::MOST_TOKENS;
 use std::collections::HashMap;
@@ -76,8 +76,8 @@ pub fn search(service: Service, measure: &mut dyn FnMut(&str) -> u64) -> Vec<Fou
 
 impl Search<'_> {
     fn all(&mut self) {
-        for sheet in LISTS {
-            self.measure(sheet.to_string());
+        for sheet in lists() {
+            self.measure(sheet);
         }
         let mut alone = self.alone();
         alone.sort_by_key(|(taken, _)| std::cmp::Reverse(*taken));

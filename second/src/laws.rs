@@ -6,6 +6,8 @@ use crate::cases::check_from_run;
 use crate::profile::profile;
 use crate::promise::{fits, larger, ENDS};
 use crate::services::{wanted, Service};
+use crate::sizes::BEFORE;
+use crate::store;
 use crate::stored_laws;
 use crate::text::{self, Kind};
 use crate::trial::Trial;
@@ -23,6 +25,7 @@ pub fn hold(trial: &Trial) -> Result<(), String> {
     laws.extend(edition_laws(trial, &answer));
     laws.extend(stored_laws::all(trial, &answer));
     laws.extend(profile_laws(trial, &answer));
+    laws.extend(size_laws(trial, &answer));
     match laws.iter().find(|(holds, _)| !holds) {
         Some((_, law)) => Err(law.to_string()),
         None => Ok(()),
@@ -136,6 +139,39 @@ fn profile_laws(trial: &Trial, answer: &Answer) -> Vec<Law> {
 fn chooses(sheet: &[u8], edition: u32) -> bool {
     let chooses = |kind: &Kind| matches!(kind, Kind::Fixed("if" | "&&" | "||"));
     kinds(sheet, edition).iter().any(chooses)
+}
+
+/// R13.4: what a box with the sizes before does not refuse for them it answers as
+/// this one does; it says 14 to a stored count that is too large for it.
+fn size_laws(trial: &Trial, answer: &Answer) -> Vec<Law> {
+    if answer.number == 40 {
+        return vec![];
+    }
+    let before = Lent {
+        sizes: BEFORE,
+        ..trial.lent
+    };
+    let kept = |then: &Answer, now: &Answer| [10, 14].contains(&then.number) || then == now;
+    let told = answer::run(&trial.sheet, &before);
+    let stored = trial.stored().unwrap_or_default();
+    let run_stored = |lent: &Lent| answer::run_by(store::prepare, &stored, lent);
+    let (then, now) = (run_stored(&before), run_stored(&trial.lent));
+    let count = store::lines(&stored).first().cloned().flatten();
+    let large = count.is_some_and(|c| c.len() == 2 && c > vec![4, 0]);
+    let due = !large || [41, 42].contains(&then.number) || (then.number, then.place) == (14, 1);
+    let write = |lent: &Lent| write::write(&trial.sheet, lent, trial.room);
+    let text = write(&before);
+    // 44 speaks of a source's size too.
+    let written = [10, 14, 44].contains(&text.number) || text == write(&trial.lent);
+    let pay = profile(&trial.sheet, &before);
+    let profiled = [10, 14].contains(&pay.number) || pay == profile(&trial.sheet, &trial.lent);
+    vec![
+        (kept(&told, answer), "another answer than before"),
+        (kept(&then, &now), "another answer of the stored sheet"),
+        (due, "a count above 0400 before"),
+        (written, "another text than before"),
+        (profiled, "another profile than before"),
+    ]
 }
 
 /// R12.14: a sheet that is the same tokens in both editions has one answer.

@@ -42,6 +42,7 @@ mod shift_mirror;
 pub mod shift_trial;
 pub mod shifts;
 pub mod shrink;
+pub mod sizes;
 pub mod slips;
 pub mod store;
 pub mod stored_laws;

@@ -1,8 +1,9 @@
 //! Sheets that are a walk of layers, nested as far as the tokens allow.
 
+use crate::answer::MOST_BYTES;
 use crate::layers::{Kind, Layer};
 use crate::quote;
-use crate::text::{tokens, MOST_TOKENS};
+use crate::text::{tokens_within, MOST_TOKENS};
 
 #[derive(Clone, Copy, Debug, PartialEq, Eq)]
 pub enum Shape {
@@ -35,7 +36,7 @@ pub fn sheet(walk: &[&Layer], shape: Shape) -> String {
 
 fn count(text: &str) -> usize {
     let bytes = quote::decode(text).expect("a text of this module");
-    tokens(&bytes, 2).expect("tokens").len()
+    tokens_within(&bytes, 2, usize::MAX).expect("tokens").len()
 }
 
 /// The functions that the walk calls, but for the one named.
@@ -64,11 +65,18 @@ fn afters(walk: &[&Layer]) -> String {
     walk.iter().rev().map(|l| l.after.as_str()).collect()
 }
 
+/// The leaf has one token or two, and all together as many as may be.
 fn nested(walk: &[&Layer], open: bool) -> String {
+    let around = |leaf: usize| nested_around(walk, open, leaf);
+    let fits = |sheet: &String| count(sheet) <= MOST_TOKENS;
+    [1, 2].map(around).into_iter().find(fits).expect("one fits")
+}
+
+fn nested_around(walk: &[&Layer], open: bool, leaf: usize) -> String {
     let definitions = definitions(walk, None);
     let shut = |layers: &[&Layer]| if open { String::new() } else { afters(layers) };
     let size = |layers: &[&Layer]| count(&befores(layers)) + count(&shut(layers));
-    let room = MOST_TOKENS - count(&definitions) - 2;
+    let room = MOST_TOKENS - count(&definitions) - leaf;
     // An open walk of nothing but left sides has no tokens.
     let times = room.checked_div(size(walk)).unwrap_or(0);
     // What is left over is filled with the beginning of the walk.
@@ -105,19 +113,29 @@ fn body(walk: &[&Layer], parameters: usize, times: usize, book: bool) -> String 
     format!("{definitions}{head}{inside}}}{last}")
 }
 
-/// What is long without being a nest of nodes.
-pub const LISTS: [&str; 10] = [
-    "\\{2047*/*\\}\\{2047*/*\\}",
-    "\\{2047*/*\\}\\{2047**/\\}1",
-    "def f(a:int\\{1011* ref\\}):int{1}1",
-    "def f():int\\{1014* ref\\}{1}1",
-    "def f(a:int\\{252*,a:int\\}):int{1}1",
-    "def f(a:int\\{252*,a:int\\}",
-    "\\{102*def f():int{1}\\}1",
-    "\\{33*def f():int{1}\\}\\{512*1+\\}1",
-    "def f():int{\\{1011*-\\}1}f()",
-    "\\{1023*1 \\}1",
-];
+/// What is long without being a nest of nodes: as many bytes or tokens as may be.
+pub fn lists() -> Vec<String> {
+    let times = |count: usize, text: &str| format!("\\{{{count}*{text}\\}}");
+    let comments = MOST_BYTES / 4 - 1;
+    let parameters = times((MOST_TOKENS - 13) / 4, ",a:int");
+    let function = "def f():int{1}";
+    vec![
+        times(2 * comments, "/*"),
+        format!("{}{}1", times(comments, "/*"), times(comments, "*/")),
+        format!("def f(a:int{}):int{{1}}1", times(MOST_TOKENS - 13, " ref")),
+        format!("def f():int{}{{1}}1", times(MOST_TOKENS - 10, " ref")),
+        format!("def f(a:int{parameters}):int{{1}}1"),
+        format!("def f(a:int{parameters}"),
+        times((MOST_TOKENS - 1) / 9, function) + "1",
+        format!(
+            "{}{}1",
+            times(33, function),
+            times((MOST_TOKENS - 298) / 2, "1+")
+        ),
+        format!("def f():int{{{}1}}f()", times(MOST_TOKENS - 12, "-")),
+        times(MOST_TOKENS - 1, "1 ") + "1",
+    ]
+}
 
 #[cfg(test)]
 mod tests {
@@ -125,6 +143,21 @@ mod tests {
     use crate::answer::{self, Lent};
     use crate::layers::{closed, layers, Fit};
     use crate::on_big_stack;
+
+    /// The longest nests have all the tokens that there may be.
+    #[test]
+    fn nests_are_as_long_as_may_be() {
+        let all = layers();
+        let walk = |index: usize| closed(&all, &[index], Fit::Typed).expect("closed");
+        let walks: Vec<Vec<usize>> = (0..all.len()).map(walk).collect();
+        for shape in [Shape::Nested, Shape::Open] {
+            let length = |walk: &Vec<usize>| {
+                let walk: Vec<&Layer> = walk.iter().map(|l| &all[*l]).collect();
+                count(&sheet(&walk, shape))
+            };
+            assert_eq!(walks.iter().map(length).max(), Some(MOST_TOKENS));
+        }
+    }
 
     /// A nest that is refused is not run, and measures nothing.
     #[test]

@@ -1,7 +1,7 @@
 //! The pay profile: sheets that cannot run out of units, and how many they may
 //! use at most.
 
-use crate::answer::{prepare, Left, Lent, MOST_UNITS, TABLE_WORDS};
+use crate::answer::{prepare, Left, Lent, MOST_UNITS};
 use crate::tree::{Form, Node, Program};
 use crate::Refusal;
 use std::collections::HashMap;
@@ -17,10 +17,10 @@ pub struct Profiled {
 }
 
 pub fn profile(source: &[u8], lent: &Lent) -> Profiled {
-    if lent.table < TABLE_WORDS {
+    if lent.table < lent.sizes.table {
         return refused(Refusal::new(40, 0), Left::AsBefore);
     }
-    let told = prepare(source, lent.edition).and_then(|(program, kind)| {
+    let told = prepare(source, lent).and_then(|(program, kind)| {
         if let Some(place) = forbidden(&program) {
             return Err(Refusal::new(43, place));
         }

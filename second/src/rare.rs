@@ -8,6 +8,7 @@ use crate::long;
 use crate::loops;
 use crate::profiles;
 use crate::sheets::Writer;
+use crate::text::MOST_TOKENS;
 use crate::types::Type;
 
 pub fn sheet(chance: &mut Chance) -> Vec<u8> {
@@ -44,6 +45,8 @@ pub fn sheet(chance: &mut Chance) -> Vec<u8> {
         endless,
         long::long_text,
         long::many_words,
+        long::long_program,
+        long::long_program,
     ]);
     make(chance).into_bytes()
 }
@@ -152,7 +155,7 @@ fn wrong_type(chance: &mut Chance) -> String {
 
 fn deep_prefixes(chance: &mut Chance) -> String {
     let (prefix, end) = chance.pick(&[("-", "1"), ("not ", "true"), ("-", "(2147483647+1)")]);
-    let count = chance.pick(&[509, 510, 511, 512, 513, 1021, 1022, 1023]);
+    let count = chance.pick(&[509, 510, 511, 512, 513, MOST_TOKENS - 2, MOST_TOKENS - 1]);
     format!("{}{end}", prefix.repeat(count))
 }
 
@@ -170,7 +173,7 @@ fn deep_nest(chance: &mut Chance) -> String {
         ("", "1", "+1"),
         ("1+(", "2", ")"),
     ]);
-    let most = 1022 / (open.len() + close.len()).max(2);
+    let most = (MOST_TOKENS - 2) / (open.len() + close.len()).max(2);
     let count = if chance.one_in(2) {
         chance.between(100, most.max(101))
     } else {

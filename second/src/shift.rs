@@ -21,8 +21,8 @@ pub fn begin(book: &[u8], lent: &Lent) -> Result<(), Refusal> {
     if lent.allowance > MOST_UNITS {
         return Err(Refusal::new(41, 0));
     }
-    let (program, _) = prepare(&whole(book, b"0"), lent.edition)
-        .map_err(|refusal| in_book(refusal, book, b"0"))?;
+    let (program, _) =
+        prepare(&whole(book, b"0"), lent).map_err(|refusal| in_book(refusal, book, b"0"))?;
     if !has_pay(&program) || !ends_in_zero(&program, book) {
         return Err(Refusal::new(47, 0));
     }

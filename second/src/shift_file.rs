@@ -5,7 +5,7 @@
 //! edition 2
 //! allowance 100
 //! output 0
-//! table 12288
+//! table 16384
 //! work 16384
 //! | the book, one line
 //! | and another, with an LF between the two
@@ -93,6 +93,7 @@ pub fn show(title: &str, trial: &ShiftTrial) -> String {
         work,
         output,
         allowance,
+        ..
     } = lent;
     let mut text =
         format!("* {title}\nedition {edition}\nallowance {allowance}\noutput {output}\n");

@@ -25,6 +25,7 @@ impl Mirror {
             work: call.work.len(),
             output: 0,
             allowance: call.allowance,
+            ..Lent::default()
         };
         let refused = begin(call.source, &lent).err();
         let Refusal { number, place } = refused.unwrap_or(Refusal::new(0, 0));

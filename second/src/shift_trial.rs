@@ -161,7 +161,7 @@ impl Lending<'_> {
     /// Whether the book by itself, with all room, is refused at a place in it.
     fn is_in_book(&self) -> bool {
         let whole = crate::pair::whole(&self.trial.book, b"0");
-        let told = crate::answer::prepare(&whole, self.trial.lent.edition);
+        let told = crate::answer::prepare(&whole, &self.trial.lent);
         told.is_err_and(|refusal| refusal.place < self.trial.book.len())
     }
 

@@ -1,8 +1,8 @@
 //! Stored sheets: lines of hexadecimal, the first one the count of the tokens,
 //! then the spelling of one token on each.
 
-use crate::answer::{is_edition, understand, Lent, Prepared, MOST_BYTES};
-use crate::text::{self, Kind, Token, MOST_TOKENS};
+use crate::answer::{is_edition, understand, Lent, Prepared};
+use crate::text::{self, Kind, Token};
 use crate::write::{write_out, Written};
 use crate::Refusal;
 
@@ -30,27 +30,27 @@ pub fn form_of(source: &[u8], edition: u32) -> Option<Vec<u8>> {
 
 /// A program out of a stored sheet. Places are numbers of lines, and the end of
 /// the source is one past the last line.
-pub fn prepare(stored: &[u8], edition: u32) -> Prepared {
-    if !is_edition(edition) {
+pub fn prepare(stored: &[u8], lent: &Lent) -> Prepared {
+    if !is_edition(lent.edition) {
         return Err(Refusal::new(42, 0));
     }
-    let tokens = tokens(stored, edition)?;
+    let tokens = tokens(stored, lent)?;
     understand(&tokens, tokens.len() + 2)
 }
 
 /// The tokens of a stored sheet, each with its line for a place.
-pub fn tokens(stored: &[u8], edition: u32) -> Result<Vec<Token>, Refusal> {
+pub fn tokens(stored: &[u8], lent: &Lent) -> Result<Vec<Token>, Refusal> {
     let lines = lines(stored);
     let count = lines.first().and_then(|line| count(line.as_deref()?));
     let count = count.ok_or(Refusal::new(60, 1))?;
-    if count > MOST_TOKENS {
+    if count > lent.sizes.tokens {
         return Err(Refusal::new(14, 1));
     }
     let mut found = Vec::new();
     for (line, place) in lines[1..].iter().zip(2..) {
         let bytes = line.as_ref().ok_or(Refusal::new(60, place))?;
         found.push(Token {
-            kind: only_token(bytes, edition).ok_or(Refusal::new(62, place))?,
+            kind: only_token(bytes, lent.edition).ok_or(Refusal::new(62, place))?,
             place,
             length: bytes.len(),
         });
@@ -58,7 +58,7 @@ pub fn tokens(stored: &[u8], edition: u32) -> Result<Vec<Token>, Refusal> {
     if found.len() != count {
         return Err(Refusal::new(61, 1));
     }
-    if found.iter().map(|token| token.length).sum::<usize>() > MOST_BYTES {
+    if found.iter().map(|token| token.length).sum::<usize>() > lent.sizes.bytes {
         return Err(Refusal::new(10, 0));
     }
     Ok(found)
@@ -110,13 +110,39 @@ fn only_token(bytes: &[u8], edition: u32) -> Option<Kind> {
 #[cfg(test)]
 mod tests {
     use super::*;
+    use crate::sizes::BEFORE;
 
     #[test]
     fn the_sheet_of_the_paper() {
         let stored = b"0003\n31\n2B\n32\n";
         assert_eq!(form_of(b"1+2", 1).unwrap(), stored);
-        let places: Vec<usize> = tokens(stored, 1).unwrap().iter().map(|t| t.place).collect();
+        let tokens = tokens(stored, &Lent::default()).unwrap();
+        let places: Vec<usize> = tokens.iter().map(|t| t.place).collect();
         assert_eq!(places, [2, 3, 4]);
+    }
+
+    /// R13.4: a box with the sizes before says 14 to a count above `0400`, whatever
+    /// is behind it, and reads all up to there as this one does.
+    #[test]
+    fn a_box_before_says_14() {
+        let old = Lent {
+            sizes: BEFORE,
+            ..Lent::default()
+        };
+        let sheet = |count: usize| format!("{count:04X}\n{}31\n", "2D\n".repeat(count - 1));
+        for stored in [sheet(1025), sheet(1360), "0401\nx".into(), "FFFF\n".into()] {
+            let told = tokens(stored.as_bytes(), &old);
+            assert_eq!(told, Err(Refusal::new(14, 1)), "{stored}");
+        }
+        for stored in [sheet(1), sheet(1023), sheet(1024), "0400\nx".into()] {
+            let told = tokens(stored.as_bytes(), &old);
+            assert_eq!(
+                told,
+                tokens(stored.as_bytes(), &Lent::default()),
+                "{stored}"
+            );
+        }
+        assert!(tokens(sheet(1025).as_bytes(), &Lent::default()).is_ok());
     }
 
     #[test]

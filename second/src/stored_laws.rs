@@ -44,7 +44,7 @@ fn writer(trial: &Trial, answer: &Answer) -> Vec<Law> {
     if number != 0 {
         return vec![(due, "stored otherwise than refused")];
     }
-    let back = store::tokens(&text, lent.edition).unwrap_or_default();
+    let back = store::tokens(&text, lent).unwrap_or_default();
     let own = text::tokens(sheet, lent.edition).unwrap_or_default();
     vec![
         (due, "stored though refused"),
@@ -80,7 +80,7 @@ fn run_again(trial: &Trial, answer: &Answer) -> Vec<Law> {
 fn one_form(trial: &Trial) -> Vec<Law> {
     let edition = trial.lent.edition;
     let stored = trial.stored().unwrap_or_default();
-    let Ok(tokens) = store::tokens(&stored, edition) else {
+    let Ok(tokens) = store::tokens(&stored, &trial.lent) else {
         return vec![];
     };
     let spelled: Vec<Vec<u8>> = store::lines(&stored).into_iter().flatten().collect();

@@ -1,9 +1,10 @@
 //! Bytes to tokens.
 
+use crate::sizes::BOX;
 use crate::values::float;
 use crate::Refusal;
 
-pub const MOST_TOKENS: usize = 1024;
+pub const MOST_TOKENS: usize = BOX.tokens;
 const LARGEST: u64 = 2_147_483_647;
 /// Of a float, before and behind its point together.
 pub const MOST_DIGITS: usize = 15;
@@ -49,6 +50,11 @@ impl Token {
 
 /// The tokens of a source in edition 1 or 2.
 pub fn tokens(source: &[u8], edition: u32) -> Result<Vec<Token>, Refusal> {
+    tokens_within(source, edition, MOST_TOKENS)
+}
+
+/// The same where so many tokens are the most.
+pub fn tokens_within(source: &[u8], edition: u32, most: usize) -> Result<Vec<Token>, Refusal> {
     let mut found = Vec::new();
     let mut at = 0;
     while at < source.len() {
@@ -64,7 +70,7 @@ pub fn tokens(source: &[u8], edition: u32) -> Result<Vec<Token>, Refusal> {
             // is too large is told before there being one token too many.
             let read = token(rest, edition);
             let (kind, length) = read.map_err(|number| Refusal::new(number, at))?;
-            if found.len() == MOST_TOKENS {
+            if found.len() == most {
                 return Err(Refusal::new(14, at));
             }
             found.push(Token {

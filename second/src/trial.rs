@@ -215,6 +215,7 @@ fn make_loans(chance: &mut Chance, sheet: &[u8], edition: u32) -> Lent {
         work,
         output,
         allowance: MOST_UNITS,
+        ..Lent::default()
     };
     let allowance = match chance.below(30) {
         0 => 0,

@@ -1,7 +1,7 @@
 //! The writer: a sheet that passes, written out again with one space between
 //! two tokens and an LF at the end.
 
-use crate::answer::{prepare, Left, Lent, MOST_BYTES, TABLE_WORDS};
+use crate::answer::{prepare, Left, Lent};
 use crate::text;
 use crate::Refusal;
 
@@ -15,7 +15,7 @@ pub struct Written {
 }
 
 pub fn write(source: &[u8], lent: &Lent, room: usize) -> Written {
-    write_out(source, lent, tokens_apart, room.min(MOST_BYTES))
+    write_out(source, lent, tokens_apart, room.min(lent.sizes.bytes))
 }
 
 /// What both writers share: the source's own refusal comes first, then 44 if
@@ -26,10 +26,10 @@ pub fn write_out(
     text_of: fn(&[&[u8]]) -> Vec<u8>,
     longest: usize,
 ) -> Written {
-    if lent.table < TABLE_WORDS {
+    if lent.table < lent.sizes.table {
         return refused(Refusal::new(40, 0), Left::AsBefore);
     }
-    if let Err(refusal) = prepare(source, lent.edition) {
+    if let Err(refusal) = prepare(source, lent) {
         return refused(refusal, Left::RequiredZero);
     }
     let tokens = text::tokens(source, lent.edition).expect("a sheet that passes has tokens");

@@ -9,3 +9,4 @@ pub mod Pairs
 pub mod Stored
 pub mod Shift
 pub mod Profiles
+pub mod Sizes

@@ -6,14 +6,14 @@ use mathlib.Core.Option.{Option, none, some}
 use mathlib.Core.Path.{_≡_}
 use Prim.Native.Nat.{ℕ, _+_, _≤_, _<_, max}
 use lib.ListN.{length}
-use Rattle.language.specs.Sizes.{PAY-COUNT, TABLE}
+use Rattle.language.specs.Sizes.{Sizes, BOX, PAY-COUNT}
 use Rattle.language.specs.Tokens.{Token, same}
 use Rattle.language.specs.Trees.{Name, Exp, name, literal, unary, binary, follow, group}
 use Rattle.language.specs.Trees.{block, call, bind, branch, loop, Exps, last, more, Def}
 use Rattle.language.specs.Trees.{Ty, Program, Scope, empty, push, nearest, PUTCHAR, counted}
 use Rattle.language.specs.Meaning.{type-number}
 use Rattle.language.specs.Numbers.{Refusal, short-memory, endless-node, many-units, Told, passed, refused}
-use Rattle.language.specs.Answers.{Origin, Passes, Refused, left}
+use Rattle.language.specs.Answers.{Origin, PassesUnder, RefusedUnder, left}
 
 -- ---- what may go on without end
 
@@ -100,24 +100,31 @@ pub record ProfileReport (P : Type 0) : Type 0 where
 abbrev pub profile-report : {P : Type 0} → Told → P → ℕ → ℕ → ProfileReport P
 profile-report a x t n = record { told = a; place = x; type = t; count = n }
 
-module _ {P : Type 0} (o : Origin P) where
+module _ (σ : Sizes) {P : Type 0} (o : Origin P) where
   -- the report, for so many words of table memory
-  pub data Profiled (table : ℕ) : ProfileReport P → Type 0 where
-    profile-short : table < TABLE → Profiled table (profile-report (refused short-memory) (o .nowhere) 0 0)
+  pub data ProfiledUnder (table : ℕ) : ProfileReport P → Type 0 where
+    profile-short : table < σ .table → ProfiledUnder table (profile-report (refused short-memory) (o .nowhere) 0 0)
     -- what does not pass is refused as it is by check
-    profile-refused : {r : Refusal} {x : P} → TABLE ≤ table → Refused o r x
-        → Profiled table (profile-report (refused r) x 0 0)
+    profile-refused : {r : Refusal} {x : P} → σ .table ≤ table → RefusedUnder σ o r x
+        → ProfiledUnder table (profile-report (refused r) x 0 0)
     profile-endless : {ts : List Token} {p : Program} {t : Ty} {i : ℕ}
-        → TABLE ≤ table → Passes o ts p t → first-endless p ≡ some i
-        → Profiled table (profile-report (refused endless-node) (o .at ts i) 0 0)
+        → σ .table ≤ table → PassesUnder σ o ts p t → first-endless p ≡ some i
+        → ProfiledUnder table (profile-report (refused endless-node) (o .at ts i) 0 0)
     profile-many : {ts : List Token} {p : Program} {t : Ty}
-        → TABLE ≤ table → Passes o ts p t → first-endless p ≡ none → PAY-COUNT < units-most p
-        → Profiled table (profile-report (refused many-units) (o .nowhere) 0 0)
+        → σ .table ≤ table → PassesUnder σ o ts p t → first-endless p ≡ none → PAY-COUNT < units-most p
+        → ProfiledUnder table (profile-report (refused many-units) (o .nowhere) 0 0)
     profile-passed : {ts : List Token} {p : Program} {t : Ty}
-        → TABLE ≤ table → Passes o ts p t → first-endless p ≡ none → units-most p ≤ PAY-COUNT
-        → Profiled table (profile-report passed (o .nowhere) (type-number t) (units-most p))
+        → σ .table ≤ table → PassesUnder σ o ts p t → first-endless p ≡ none → units-most p ≤ PAY-COUNT
+        → ProfiledUnder table (profile-report passed (o .nowhere) (type-number t) (units-most p))
 
   -- The contract of profile: its report, and the table memory as it is left.
-  pub record Profile (table : List ℕ) (report : ProfileReport P) (table′ : List ℕ) : Type 0 where
-    pub answer : Profiled (length table) report
-    pub table-left : table′ ≡ left (report .told) TABLE table
+  pub record ProfileUnder (table : List ℕ) (report : ProfileReport P) (table′ : List ℕ) : Type 0 where
+    pub answer : ProfiledUnder (length table) report
+    pub table-left : table′ ≡ left (report .told) (σ .table) table
+
+-- under the box's sizes
+abbrev pub Profiled : {P : Type 0} → Origin P → ℕ → ProfileReport P → Type 0
+Profiled o = ProfiledUnder BOX o
+
+abbrev pub Profile : {P : Type 0} → Origin P → List ℕ → ProfileReport P → List ℕ → Type 0
+Profile o = ProfileUnder BOX o

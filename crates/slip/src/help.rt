@@ -41,7 +41,7 @@ slip --version                     editions and sizes
 --                                 no word behind it is an option
 
 A sheet is a file; - is standard input. PICKS and RATE are 0 to 2147483647, ALLOWANCE is 0 to 1000000.
-A stored sheet may have 65535 bytes; its places are told as lines, counted from 1.
+A stored sheet may have 131071 bytes; its places are told as lines, counted from 1.
 A book is a sheet of functions, pay among them. A line of a shift is a loom in 4 digits of hexadecimal, then
 picks and rate in 8 each, in capitals, and a line feed; there may be 65536 of them. ALLOWANCE is for each.
 What the sheet prints goes to standard output, the report to standard error; the report of a shift goes to

@@ -16,10 +16,14 @@ use language::TABLE;
 use language::WORK;
 use page::Number;
 
+// Bytes of a stored sheet that are read at the most: the form of every sheet has fewer, two for each of its bytes, an LF
+// for each token and the count's line.
+const STORED: usize = 131072;
+
 // Writes the stored form of a whole sheet, if it passes. There is room for that of every sheet.
 fn form(asked: Asked, edition: u32, sheet: &[u8]) -> u32 {
     let mut words = [0u32; TABLE];
-    let mut bytes = io::large_buffer();
+    let mut bytes = [0u8; STORED];
     let table: &mut [u32] = &mut words;
     let out: &mut [u8] = &mut bytes;
     let answer = grumpy::store(edition, sheet, table, out);
@@ -44,7 +48,9 @@ fn load(word: usize, bytes: &mut [u8]) -> Sheet {
     if length < bytes.len() {
         return Sheet::Bytes(length);
     }
-    output::tell(b"slip: the stored sheet has more than 65535 bytes, and no sheet needs so many\n");
+    output::tell(
+        b"slip: the stored sheet has more than 131071 bytes, and no sheet needs so many\n",
+    );
     Sheet::Nothing
 }
 
@@ -55,7 +61,7 @@ fn examine(edition: u32, stored: &[u8]) -> Checked {
 }
 
 pub fn check(asked: Asked, edition: u32) -> u32 {
-    let mut bytes = io::large_buffer();
+    let mut bytes = [0u8; STORED];
     let Sheet::Bytes(length) = load(asked.sheet, &mut bytes) else {
         return reports::failed(asked);
     };
@@ -86,7 +92,7 @@ fn run_lines(asked: Asked, edition: u32, stored: &[u8], allowance: u64) -> u32 {
 }
 
 pub fn run(asked: Asked, edition: u32) -> u32 {
-    let mut bytes = io::large_buffer();
+    let mut bytes = [0u8; STORED];
     let Number::Of(allowance) = input::allowance(asked.second) else {
         return reports::failed(asked);
     };
