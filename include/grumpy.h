@@ -1,6 +1,7 @@
-/* The box: reads, checks, runs, rewrites and stores a rate sheet written in Grumpy, and pays a shift by one.
+/* The box: reads, checks, runs, rewrites and stores a rate sheet written in Grumpy, tells how much it can use, and
+ * pays a shift by one.
  *
- * Eleven functions. They keep nothing between calls, ask for no memory of their own but the stack, of which
+ * Twelve functions. They keep nothing between calls, ask for no memory of their own but the stack, of which
  * GRUMPY_STACK bytes are enough, and call nothing from outside but memset. They may be called from several
  * threads at once, each with memory of its own.
  *
@@ -33,6 +34,10 @@
  *     report[4]  the units used
  *     report[5]  the bytes printed
  *
+ * and grumpy_profile
+ *
+ *     report[3]  the units that the sheet can use at most; 0 unless the number is 0
+ *
  * A float, of type GRUMPY_FLOAT, is the double with these bits; every not-a-number has the same,
  * 0x7FF8000000000000, and no other float has them:
  *
@@ -41,6 +46,12 @@
  *
  * The calling thread has to have the usual control of floats (MXCSR): rounding to nearest, no exception
  * trapped, subnormal numbers kept. C programs have it unless they change it.
+ *
+ * The pay profile. A sheet without loops and without a function that calls itself must finish; grumpy_profile says
+ * whether a sheet is one, and counts its units before anything is run: one for each node, of an `if` the dearer
+ * branch, for a call also the callee's body. Run with an allowance of at least the count, it uses no more than the
+ * count and never ends with GRUMPY_OUT_OF_UNITS, whatever its output is. A sheet that does not pass is refused as
+ * by grumpy_check; then comes GRUMPY_ENDLESS, and then GRUMPY_MANY_UNITS.
  *
  * Stored sheets. grumpy_store writes a sheet's stored form, lines of hexadecimal, and grumpy_check_stored and
  * grumpy_run_stored take such lines in the source's stead: any bytes, in any memory. They answer what the sheet
@@ -103,11 +114,12 @@ extern "C" {
 #endif
 
 /* lent memory, in words of 32 bits, and reports, in words of 64 bits */
-#define GRUMPY_TABLE 12288
+#define GRUMPY_TABLE 16384
 #define GRUMPY_WORK 16384
 #define GRUMPY_CHECK_REPORT 3
 #define GRUMPY_RUN_REPORT 6
 #define GRUMPY_WRITE_REPORT 3
+#define GRUMPY_PROFILE_REPORT 4
 #define GRUMPY_CHECK_PAIR_REPORT 6
 #define GRUMPY_RUN_PAIR_REPORT 9
 #define GRUMPY_SHIFT_STATE 21
@@ -123,10 +135,12 @@ extern "C" {
  * (tools/stack) and tried on the worst sheets that a search has found, not proved */
 #define GRUMPY_STACK 786432
 
-/* the largest source in bytes, the longest stored form of one, and the largest allowance in units */
-#define GRUMPY_SOURCE 8192
-#define GRUMPY_STORED 17413
+/* the largest source in bytes, the longest stored form of one, the largest allowance in units, and the largest count
+ * of a pay sheet */
+#define GRUMPY_SOURCE 49152
+#define GRUMPY_STORED 99669
 #define GRUMPY_ALLOWANCE 1000000
+#define GRUMPY_PAY_COUNT 1000000
 
 /* the most lines of a shift */
 #define GRUMPY_SHIFT_LINES 65536
@@ -137,7 +151,7 @@ extern "C" {
 #define GRUMPY_STRANGE_BYTE 11    /* a byte that begins no token */
 #define GRUMPY_OPEN_COMMENT 12    /* a comment that is never closed */
 #define GRUMPY_LARGE_NUMBER 13    /* a number that is too large to write */
-#define GRUMPY_MANY_TOKENS 14     /* more than 1,024 tokens */
+#define GRUMPY_MANY_TOKENS 14     /* more than 1,360 tokens */
 #define GRUMPY_LONG_FLOAT 15      /* a number with a point and more than 15 digits */
 #define GRUMPY_NOT_A_PROGRAM 20   /* the tokens have no reading; the place is where it goes wrong */
 #define GRUMPY_MANY_FUNCTIONS 30  /* a 33rd function, or a ninth parameter */
@@ -151,7 +165,9 @@ extern "C" {
 #define GRUMPY_SHORT_MEMORY 40    /* a lent memory or the report is too short */
 #define GRUMPY_LARGE_ALLOWANCE 41 /* the allowance is too large */
 #define GRUMPY_NO_EDITION 42      /* the edition is neither 1 nor 2 */
+#define GRUMPY_ENDLESS 43         /* by the profile: a loop, or a call of the function itself */
 #define GRUMPY_LONG_TEXT 44       /* longer than `out`, or a text longer than a source; nothing is written */
+#define GRUMPY_MANY_UNITS 45      /* by the profile: more than 1,000,000 units */
 #define GRUMPY_MANY_LINES 46      /* a shift of more than 65,536 lines */
 #define GRUMPY_NO_BOOK 47         /* no `pay` from two ints to int, or something outside the functions */
 #define GRUMPY_OUT_OF_UNITS 50    /* the allowance is used up */
@@ -197,6 +213,12 @@ uint32_t grumpy_write(uint32_t edition,
                       uint32_t *table, size_t table_length,
                       uint8_t *out, size_t out_length,
                       uint64_t *report, size_t report_length);
+
+/* Reads and checks a sheet, and counts the units that it can use at most, if it must finish. */
+uint32_t grumpy_profile(uint32_t edition,
+                        const uint8_t *source, size_t source_length,
+                        uint32_t *table, size_t table_length,
+                        uint64_t *report, size_t report_length);
 
 /* Reads and checks a sheet, and writes its stored form if it passes: lines of hexadecimal, capitals, each with
  * its line feed, first the count of its tokens in four digits and then each token as it is spelled. An `out` of

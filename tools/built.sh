@@ -7,7 +7,7 @@
 #   older FILE      removes programs of its kind, as proved-KEY, that other sources were built to
 #   runner          sets the array `run` to the words before a program for x86-64
 #   archive         builds the archive for C, proved, where there is none of this source
-WANTED='rattle-kit-5b logic 064da1ca440f63e7'
+WANTED='rattle-kit-5b-plain logic 097e4c862dff5811'
 UNPROVED='slip: the proofs were not checked in this build; ./slip --prove checks them, in some minutes'
 
 key() { # CRATE

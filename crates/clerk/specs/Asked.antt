@@ -163,6 +163,8 @@ first-word Task.Store a t i = with-plain (a .plain) a i
 first-word Task.CheckStored a t i = with-plain (a .plain) a i
 first-word Task.RunStored a t i = with-plain (a .plain) a i
 first-word Task.Shift a t i = with-plain (a .plain) a i
+first-word Task.Profile a t i = with-plain (a .plain) a i
+first-word Task.ProfileWhole a t i = with-plain (a .plain) a i
 first-word Task.Help a t i = a
 first-word Task.Version a t i = a
 
@@ -183,6 +185,8 @@ with-whole Task.Store a i = with-strange a i
 with-whole Task.CheckStored a i = with-strange a i
 with-whole Task.RunStored a i = with-strange a i
 with-whole Task.Shift a i = with-strange a i
+with-whole Task.Profile a i = with-task a Task.ProfileWhole
+with-whole Task.ProfileWhole a i = a
 with-whole Task.Help a i = a
 with-whole Task.Version a i = a
 
@@ -242,6 +246,8 @@ fitting Task.Store n = one-word n
 fitting Task.CheckStored n = one-word n
 fitting Task.RunStored n = two-words n
 fitting Task.Shift n = two-or-three n
+fitting Task.Profile n = one-word n
+fitting Task.ProfileWhole n = one-word n
 fitting Task.Help n = true
 fitting Task.Version n = true
 

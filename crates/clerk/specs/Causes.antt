@@ -30,6 +30,8 @@ refusal-placed Refusal.LongText = false
 refusal-placed Refusal.NotHexadecimal = true
 refusal-placed Refusal.WrongCount = true
 refusal-placed Refusal.NotOneToken = true
+refusal-placed Refusal.EndlessNode = true
+refusal-placed Refusal.ManyUnits = false
 
 -- a call that was set under the sheet is no place for who wrote the sheet
 abbrev pub cause-placed : Cause → Bool

@@ -11,7 +11,7 @@ use Rattle.pairs.specs.declared.Spot.{Spot}
 use Rattle.shift.specs.declared.Why.{Why}
 use Rattle.clerk.specs.declared.causes.Cause as cause
 use Rattle.clerk.specs.declared.ends.End.{End}
-use Rattle.clerk.specs.declared.ends.End.the-variants.{Passed, Value, Refused, Stopped}
+use Rattle.clerk.specs.declared.ends.End.the-variants.{Passed, Counted, Value, Refused, Stopped}
 
 abbrev pub is-long : Refusal → Bool
 is-long Refusal.ShortMemory = false
@@ -25,6 +25,8 @@ is-long Refusal.LongText = false
 is-long Refusal.NotHexadecimal = false
 is-long Refusal.WrongCount = false
 is-long Refusal.NotOneToken = false
+is-long Refusal.EndlessNode = false
+is-long Refusal.ManyUnits = false
 
 abbrev pub is-unread : Refusal → Bool
 is-unread Refusal.ShortMemory = false
@@ -38,6 +40,8 @@ is-unread Refusal.LongText = false
 is-unread Refusal.NotHexadecimal = false
 is-unread Refusal.WrongCount = false
 is-unread Refusal.NotOneToken = false
+is-unread Refusal.EndlessNode = false
+is-unread Refusal.ManyUnits = false
 
 -- ---- a rate sheet, with a call under it as the second sheet
 
@@ -106,6 +110,7 @@ unread-end (checked.the-variants.Refused r p) = is-unread r
 -- 0 where all is well, and else 1
 abbrev pub status-of : End → ℕ
 status-of (Passed k) = 0
+status-of (Counted k n) = 0
 status-of (Value k v u n) = 0
 status-of (Refused w p) = 1
 status-of (Stopped w p k u n) = 1
@@ -117,6 +122,7 @@ told-status over = cond over 1 0
 -- how many bytes were printed
 abbrev pub printed-of : End → ℕ
 printed-of (Passed k) = 0
+printed-of (Counted k n) = 0
 printed-of (Value k v u n) = n
 printed-of (Refused w p) = 0
 printed-of (Stopped w p k u n) = n

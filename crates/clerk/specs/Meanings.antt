@@ -29,6 +29,8 @@ CommandIs t Task.Store = t ≡ spell "store"
 CommandIs t Task.CheckStored = t ≡ spell "check-stored"
 CommandIs t Task.RunStored = t ≡ spell "run-stored"
 CommandIs t Task.Shift = t ≡ spell "shift"
+CommandIs t Task.Profile = t ≡ spell "profile"
+CommandIs t Task.ProfileWhole = ⊥
 CommandIs t Task.Help = t ≡ spell "--help"
 CommandIs t Task.Version = t ≡ spell "--version"
 
@@ -37,6 +39,7 @@ abbrev pub NoCommand : List ℕ → Type 0
 NoCommand t =
     Not t (spell "check") × Not t (spell "run") × Not t (spell "write") × Not t (spell "store")
     × Not t (spell "check-stored") × Not t (spell "run-stored") × Not t (spell "shift")
+    × Not t (spell "profile")
 
 -- what is told of a word by what it means: its spelling, or for a word that has no row of its own, that it has none
 abbrev pub Means : List ℕ → Word → Type 0

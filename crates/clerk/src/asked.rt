@@ -17,6 +17,8 @@ pub enum Task {
     CheckStored,
     RunStored,
     Shift,
+    Profile,
+    ProfileWhole,
     Help,
     Version,
 }
@@ -183,6 +185,8 @@ fn first(asked: Asked, task: Task, i: usize) -> Asked
         Task::CheckStored => plain(asked, i),
         Task::RunStored => plain(asked, i),
         Task::Shift => plain(asked, i),
+        Task::Profile => plain(asked, i),
+        Task::ProfileWhole => plain(asked, i),
         Task::Help => asked,
         Task::Version => asked,
     }
@@ -201,7 +205,7 @@ fn command(asked: Asked, task: Task, i: usize) -> Asked
     }
 }
 
-// `--whole` belongs to `check`.
+// `--whole` belongs to `check` and `profile`.
 fn whole(asked: Asked, i: usize) -> Asked
     ensures { λ r. ⌜ r ≡ with-whole (asked .task) asked i ⌝ }
 {
@@ -216,6 +220,8 @@ fn whole(asked: Asked, i: usize) -> Asked
         Task::CheckStored => unknown(asked, i),
         Task::RunStored => unknown(asked, i),
         Task::Shift => unknown(asked, i),
+        Task::Profile => tasked(asked, Task::ProfileWhole),
+        Task::ProfileWhole => asked,
         Task::Help => asked,
         Task::Version => asked,
     }

@@ -51,6 +51,8 @@ fn has_place(refusal: Refusal) -> bool
         Refusal::NotHexadecimal => true,
         Refusal::WrongCount => true,
         Refusal::NotOneToken => true,
+        Refusal::EndlessNode => true,
+        Refusal::ManyUnits => false,
     }
 }
 

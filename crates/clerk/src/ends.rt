@@ -18,6 +18,8 @@ use shift::Why;
 pub enum End {
     // It passed, and has the type with this number.
     Passed(u32),
+    // The same by the profile: it can use no more than so many units.
+    Counted(u32, u32),
     Value {
         type_number: u32,
         value: Value,
@@ -51,7 +53,7 @@ fn side(called: bool, why: Refusal, place: usize) -> End
 }
 
 // A sheet was refused with a call under it.
-fn refused(why: Refusal, spot: Spot) -> End
+pub fn refused(why: Refusal, spot: Spot) -> End
     ensures { λ r. ⌜ r ≡ refused-under why spot ⌝ }
 {
     if is_long(why) {
@@ -228,6 +230,7 @@ pub fn status(end: End) -> u32
 {
     match end {
         End::Passed(_) => 0,
+        End::Counted(_, _) => 0,
         End::Value {
             type_number: _,
             value: _,
@@ -258,6 +261,7 @@ pub fn printed(end: End) -> usize
 {
     match end {
         End::Passed(_) => 0,
+        End::Counted(_, _) => 0,
         End::Value {
             type_number: _,
             value: _,

@@ -2,6 +2,7 @@
 // box, which put text into lent bytes. The program over them only reads and writes.
 pub mod asked;
 pub mod causes;
+pub mod counts;
 pub mod ends;
 pub mod fields;
 pub mod machines;

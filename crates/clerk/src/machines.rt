@@ -2,6 +2,8 @@
 ghost use Rattle.io.specs.Counts.{Counts};
 use crate::causes;
 use crate::causes::Cause;
+use crate::counts::Limits;
+use crate::counts::Most;
 use crate::ends::End;
 use crate::fields;
 use crate::fields::field;
@@ -72,12 +74,24 @@ fn cause(out: &mut [u8], at: usize, sheet: &[u8], places: Places, why: Cause, pl
     a
 }
 
-fn ran(out: &mut [u8], at: usize, units: u32, allowance: u64, printed: usize) -> usize
+// The count of a sheet's profile, where it is known.
+fn bound(out: &mut [u8], at: usize, most: Most) -> usize
     ensures { λ r. ⌜ Counts r (now (out .exit)) ⌝ }
 {
+    match most {
+        Most::Unknown => put(out, at, b""),
+        Most::Units(count) => field(out, at, b"count", count as u64),
+    }
+}
+
+fn ran(out: &mut [u8], at: usize, units: u32, limits: Limits, printed: usize) -> usize
+    ensures { λ r. ⌜ Counts r (now (out .exit)) ⌝ }
+{
+    let most = limits.most;
     let a = field(out, at, b"units", units as u64);
-    let b = field(out, a, b"allowance", allowance);
-    field(out, b, b"printed", printed as u64)
+    let b = field(out, a, b"allowance", limits.allowance);
+    let c = bound(out, b, most);
+    field(out, c, b"printed", printed as u64)
 }
 
 // The whole report, with the status that the program ends with.
@@ -87,7 +101,7 @@ pub fn report(
     file: &[u8],
     source: &[u8],
     places: Places,
-    allowance: u64,
+    limits: Limits,
     end: End,
 ) -> usize
     ensures { λ r. ⌜ Counts r (now (out .exit)) ⌝ }
@@ -99,6 +113,11 @@ pub fn report(
             let c = well(out, b);
             fields::type_line(out, c, type_number)
         }
+        End::Counted(type_number, count) => {
+            let c = well(out, b);
+            let d = fields::type_line(out, c, type_number);
+            field(out, d, b"count", count as u64)
+        }
         End::Value {
             type_number,
             value,
@@ -108,7 +127,7 @@ pub fn report(
             let c = well(out, b);
             let d = fields::type_line(out, c, type_number);
             let e = fields::value_lines(out, d, value);
-            ran(out, e, units, allowance, printed)
+            ran(out, e, units, limits, printed)
         }
         End::Refused(why, place) => cause(out, b, source, places, why, place),
         End::Stopped {
@@ -120,7 +139,7 @@ pub fn report(
         } => {
             let c = cause(out, b, source, places, why, place);
             let d = fields::type_line(out, c, type_number);
-            ran(out, d, units, allowance, printed)
+            ran(out, d, units, limits, printed)
         }
     }
 }

@@ -72,5 +72,8 @@ pub fn meaning(text: &[u8]) -> Word
     if same(text, b"shift") {
         return Word::Command(Task::Shift);
     }
+    if same(text, b"profile") {
+        return Word::Command(Task::Profile);
+    }
     option(text)
 }

@@ -4,6 +4,8 @@ ghost use Rattle.page.specs.Text.{Adds};
 ghost use Rattle.clerk.specs.Told.{number-words, line-words, Positioned};
 use crate::causes;
 use crate::causes::Cause;
+use crate::counts::Limits;
+use crate::counts::Most;
 use crate::ends::End;
 use crate::fields;
 use crate::places::Places;
@@ -130,14 +132,39 @@ fn well(out: &mut [u8], at: usize) -> usize
     put(out, at, b"number 0: all is well\n")
 }
 
-fn units(out: &mut [u8], at: usize, used: u32, allowance: u64) -> usize
+// How many units it can use, where that is known.
+fn bound(out: &mut [u8], at: usize, most: Most) -> usize
     ensures { λ r. ⌜ Counts r (now (out .exit)) ⌝ }
 {
+    match most {
+        Most::Unknown => put(out, at, b""),
+        Most::Units(count) => {
+            let a = put(out, at, b", at most ");
+            let b = decimal(out, a, count as u64);
+            put(out, b, b" by the profile")
+        }
+    }
+}
+
+fn units(out: &mut [u8], at: usize, used: u32, limits: Limits) -> usize
+    ensures { λ r. ⌜ Counts r (now (out .exit)) ⌝ }
+{
+    let most = limits.most;
     let a = put(out, at, b"units ");
     let b = decimal(out, a, used as u64);
     let c = put(out, b, b" of ");
-    let d = decimal(out, c, allowance);
-    put(out, d, b"\n")
+    let d = decimal(out, c, limits.allowance);
+    let e = bound(out, d, most);
+    put(out, e, b"\n")
+}
+
+// What the profile tells of a sheet that passes it.
+fn counted(out: &mut [u8], at: usize, count: u32) -> usize
+    ensures { λ r. ⌜ Counts r (now (out .exit)) ⌝ }
+{
+    let a = put(out, at, b"units at most ");
+    let b = decimal(out, a, count as u64);
+    put(out, b, b"\n")
 }
 
 // The whole report. `file` is the sheet's name.
@@ -146,7 +173,7 @@ pub fn report(
     file: &[u8],
     sheet: &[u8],
     places: Places,
-    allowance: u64,
+    limits: Limits,
     end: End,
 ) -> usize
     ensures { λ r. ⌜ Counts r (now (out .exit)) ⌝ }
@@ -155,6 +182,11 @@ pub fn report(
         End::Passed(type_number) => {
             let a = well(out, 0);
             fields::type_line(out, a, type_number)
+        }
+        End::Counted(type_number, count) => {
+            let a = well(out, 0);
+            let b = fields::type_line(out, a, type_number);
+            counted(out, b, count)
         }
         End::Value {
             type_number,
@@ -165,7 +197,7 @@ pub fn report(
             let a = well(out, 0);
             let b = fields::type_line(out, a, type_number);
             let c = fields::value_lines(out, b, value);
-            units(out, c, used, allowance)
+            units(out, c, used, limits)
         }
         End::Refused(why, place) => cause(out, 0, file, sheet, places, why, place),
         End::Stopped {
@@ -177,7 +209,7 @@ pub fn report(
         } => {
             let a = cause(out, 0, file, sheet, places, why, place);
             let b = fields::type_line(out, a, type_number);
-            units(out, b, used, allowance)
+            units(out, b, used, limits)
         }
     }
 }

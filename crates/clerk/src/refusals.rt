@@ -19,6 +19,8 @@ pub fn is_long(why: Refusal) -> bool
         Refusal::NotHexadecimal => false,
         Refusal::WrongCount => false,
         Refusal::NotOneToken => false,
+        Refusal::EndlessNode => false,
+        Refusal::ManyUnits => false,
     }
 }
 
@@ -38,5 +40,7 @@ pub fn is_unread(why: Refusal) -> bool
         Refusal::NotHexadecimal => false,
         Refusal::WrongCount => false,
         Refusal::NotOneToken => false,
+        Refusal::EndlessNode => false,
+        Refusal::ManyUnits => false,
     }
 }

@@ -79,6 +79,8 @@ fn fits(task: Task, plain: Count) -> bool
         Task::CheckStored => one(plain),
         Task::RunStored => two(plain),
         Task::Shift => two_or_three(plain),
+        Task::Profile => one(plain),
+        Task::ProfileWhole => one(plain),
         Task::Help => true,
         Task::Version => true,
     }

@@ -15,7 +15,7 @@ fn flaw(out: &mut [u8], at: usize, why: Flaw) -> usize
         Flaw::StrangeByte => put(out, at, b"a byte that begins no token"),
         Flaw::OpenComment => put(out, at, b"a comment that is never closed"),
         Flaw::LargeNumber => put(out, at, b"a number over 2147483647"),
-        Flaw::ManyTokens => put(out, at, b"more than 1024 tokens"),
+        Flaw::ManyTokens => put(out, at, b"more than 1360 tokens"),
         Flaw::LongFloat => put(out, at, b"a number with a point and more than 15 digits"),
     }
 }
@@ -50,7 +50,7 @@ fn refusal(out: &mut [u8], at: usize, why: Refusal) -> usize
         Refusal::ShortMemory => put(out, at, b"a memory is too short"),
         Refusal::LargeAllowance => put(out, at, b"the allowance is over 1000000"),
         Refusal::NoEdition => put(out, at, b"the edition is neither 1 nor 2"),
-        Refusal::LongSource => put(out, at, b"the sheet has more than 8192 bytes"),
+        Refusal::LongSource => put(out, at, b"the sheet has more than 49152 bytes"),
         Refusal::Text(why) => flaw(out, at, why),
         Refusal::NoReading => put(
             out,
@@ -66,6 +66,12 @@ fn refusal(out: &mut [u8], at: usize, why: Refusal) -> usize
         Refusal::NotHexadecimal => put(out, at, b"not a whole line of hexadecimal digits"),
         Refusal::WrongCount => put(out, at, b"the count is not that of the lines under it"),
         Refusal::NotOneToken => put(out, at, b"the line is not exactly one token"),
+        Refusal::EndlessNode => put(
+            out,
+            at,
+            b"a pay sheet has no loop and no function that calls itself",
+        ),
+        Refusal::ManyUnits => put(out, at, b"the sheet may use more than 1000000 units"),
     }
 }
 
@@ -86,11 +92,15 @@ fn called(out: &mut [u8], at: usize, why: Refusal) -> usize
     ensures { λ r. ⌜ Counts r (now (out .exit)) ⌝ }
 {
     match why {
-        Refusal::LongSource => put(out, at, b"with its call the sheet has more than 8192 bytes"),
+        Refusal::LongSource => put(
+            out,
+            at,
+            b"with its call the sheet has more than 49152 bytes",
+        ),
         Refusal::Text(_) => put(
             out,
             at,
-            b"with its call the sheet has more than 1024 tokens",
+            b"with its call the sheet has more than 1360 tokens",
         ),
         Refusal::NoReading => put(
             out,

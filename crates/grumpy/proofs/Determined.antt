@@ -1,26 +1,29 @@
--- The contracts determine the answers: no two answers of check, of run, of write or of store, and no two memories or outputs,
--- meet them for the same input. An answer can be told from its report.
+-- The contracts determine the answers: no two answers of check, of run, of write, of store or of profile, and no two memories or
+-- outputs, meet them for the same input. An answer can be told from its report.
 use mathlib.Core.List.{List}
 use mathlib.Core.Path.{_≡_, refl, sym, ap, _∙_}
 use Prim.Native.Nat.{ℕ}
 use Rattle.language.specs.Numbers.{Told, passed, refused, stopped}
 use Rattle.language.specs.Answers.{CheckReport, Check, RunReport, Run}
 use Rattle.language.specs.Writing.{WriteReport, Write, Store}
+use Rattle.language.specs.Profile.{ProfileReport, Profile}
 use Rattle.language.specs.Edition.{text-in, stored-in}
 use Rattle.language.proofs.Answers.Editions.{text-in-lawful}
 use Rattle.language.proofs.Answers.OneAnswer.{one-check, one-run}
 use Rattle.language.proofs.Writing.OneWriting.{one-write}
 use Rattle.language.proofs.Stored.Editions.{stored-in-lawful}
 use Rattle.language.proofs.Stored.OneStoring.{one-store}
+use Rattle.language.proofs.Profiles.OneProfile.{one-profile}
 use Rattle.layout.specs.declared.values.Value.{Value}
 use Rattle.numbers.proofs.Apart.{refusal-of, refusal-back, stop-of, stop-back}
 use Rattle.numbers.specs.declared.Refusal.{Refusal}
 use Rattle.numbers.specs.declared.Stop.{Stop}
 use Rattle.runner.proofs.Unique.{value-of, value-back}
-use Rattle.grumpy.specs.Reports.{checked-report, ran-report, wrote-report}
+use Rattle.grumpy.specs.Reports.{checked-report, ran-report, wrote-report, profiled-report}
 use Rattle.grumpy.specs.declared.answers.Checked.{Checked}
 use Rattle.grumpy.specs.declared.answers.Ran.{Ran}
 use Rattle.grumpy.specs.declared.answers.Wrote.{Wrote}
+use Rattle.grumpy.specs.declared.answers.Profiled.{Profiled}
 
 -- ---- answers from reports
 
@@ -62,6 +65,19 @@ wrote-of r = wrote-by (r .told) r
 wrote-back : (r : Wrote) → wrote-of (wrote-report r) ≡ r
 wrote-back (Wrote.Written n) = refl
 wrote-back (Wrote.Refused y i) = ap (λ (y : Refusal). Wrote.Refused y i) (refusal-back y)
+
+-- nor does profile
+abbrev profiled-by : Told → ProfileReport ℕ → Profiled
+profiled-by passed r = Profiled.Passed (r .type) (r .count)
+profiled-by (refused y) r = Profiled.Refused (refusal-of y) (r .place)
+profiled-by (stopped w) r = Profiled.Passed 0 0
+
+abbrev profiled-of : ProfileReport ℕ → Profiled
+profiled-of r = profiled-by (r .told) r
+
+profiled-back : (r : Profiled) → profiled-of (profiled-report r) ≡ r
+profiled-back (Profiled.Passed t n) = refl
+profiled-back (Profiled.Refused y i) = ap (λ (y : Refusal). Profiled.Refused y i) (refusal-back y)
 
 -- ---- one answer
 
@@ -105,3 +121,9 @@ pub store-determined : {edition : ℕ} {source table output : List ℕ} {t′ o�
 store-determined {edition} {source} r q a b =
     let e = one-store (text-in-lawful edition source) a b in
     (sym (wrote-back r) ∙ ap wrote-of (e .0) ∙ wrote-back q, e .1, e .2)
+
+pub profile-determined : {edition : ℕ} {source table t′ u′ : List ℕ} (r q : Profiled) → Profile (text-in edition source) table (profiled-report r) t′
+    → Profile (text-in edition source) table (profiled-report q) u′ → (r ≡ q) × (t′ ≡ u′)
+profile-determined {edition} {source} r q a b =
+    let e = one-profile (text-in-lawful edition source) a b in
+    (sym (profiled-back r) ∙ ap profiled-of (e .0) ∙ profiled-back q, e .1)

@@ -11,6 +11,7 @@ use Rattle.language.specs.Answers.{Origin, Refused, cleared, left, CheckReport,
 use Rattle.language.specs.Answers.{Enough, Ran, run-short, run-large, run-refused, run-ended}
 use Rattle.language.specs.Writing.{WriteReport, Wrote, write-short, write-refused, write-long, write-passed}
 use Rattle.language.specs.Writing.{Stores, store-short, store-refused, store-long, store-passed}
+use Rattle.language.specs.Profile.{ProfileReport, Profiled, profile-short, profile-refused, profile-endless, profile-many, profile-passed}
 use Rattle.language.proofs.Answers.Endings.{IsRun, is-run}
 use Rattle.language.proofs.Answers.Origins.{Lawful, refused-clears}
 
@@ -46,6 +47,15 @@ module _ {P : Type 0} {o : Origin P} (law : Lawful o) where
   stores-left h (store-refused k a) n words = refused-left a n words
   stores-left h (store-long k a f) n words = refl
   stores-left h (store-passed k a f) n words = refl
+
+  pub profiled-left : {table : ℕ} {r : ProfileReport P} → TABLE ≤ table → Profiled o table r
+      → (n : ℕ) (words : List ℕ) → left (r .told) n words ≡ cleared n words
+  unfolding left
+  profiled-left h (profile-short k) n words = absurd (omega arith)
+  profiled-left h (profile-refused k a) n words = refused-left a n words
+  profiled-left h (profile-endless k a e) n words = refl
+  profiled-left h (profile-many k a e m) n words = refl
+  profiled-left h (profile-passed k a e m) n words = refl
 
   pub ran-left : {l : Lent} {r : RunReport P} {bs : List ℕ} → Enough l → Ran o l r bs → (n : ℕ) (words : List ℕ) → left (r .told) n words ≡ cleared n words
   unfolding left

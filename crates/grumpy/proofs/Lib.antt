@@ -10,3 +10,5 @@ pub mod HeadOffice
 pub mod Moves
 pub mod TwoSheets
 pub mod Knowing
+pub mod Profiling
+pub mod PayDemands

@@ -6,18 +6,22 @@ use Rattle.language.specs.State.{nothing}
 use Rattle.language.specs.Answers.{CheckReport, check-report, RunReport, refusal}
 use Rattle.language.specs.Numbers.{refused, stopped}
 use Rattle.language.specs.Pairs.{Place, place-of}
+use Rattle.language.specs.Profile.{profile-report}
 use Rattle.language.proofs.Answers.Pairs.{moved, check-moved, run-moved}
+use Rattle.language.proofs.Profiles.TwoSheets.{profile-moved}
 use Rattle.layout.specs.declared.values.Value.{Value}
 use Rattle.numbers.specs.Meanings.{refusal-meant, stop-meant}
 use Rattle.numbers.specs.declared.Refusal.{Refusal}
 use Rattle.numbers.specs.declared.Stop.{Stop}
 use Rattle.pairs.specs.Spots.{meant}
 use Rattle.pairs.specs.declared.Spot.{Spot}
-use Rattle.grumpy.specs.Reports.{checked-report, ran-report, pair-checked-report, pair-ran-report}
+use Rattle.grumpy.specs.Reports.{checked-report, ran-report, profiled-report, pair-checked-report, pair-ran-report, pair-profiled-report}
 use Rattle.grumpy.specs.declared.answers.Checked.{Checked}
 use Rattle.grumpy.specs.declared.answers.Ran.{Ran}
 use Rattle.grumpy.specs.declared.answers.PairChecked.{PairChecked}
+use Rattle.grumpy.specs.declared.answers.PairProfiled.{PairProfiled}
 use Rattle.grumpy.specs.declared.answers.PairRan.{PairRan}
+use Rattle.grumpy.specs.declared.answers.Profiled.{Profiled}
 
 module _ (first second : List ℕ) where
   -- a refusal's place, by its case
@@ -36,6 +40,19 @@ module _ (first second : List ℕ) where
   refused-moved a y i x e f =
       subst (λ (a : Checked). pair-checked-report (PairChecked.Refused y x) ≡ check-moved first second (checked-report a)) (sym e)
       (ap (λ (p : Place). check-report (refused (refusal-meant y)) p 0) f)
+
+  -- of profile
+  pub counted-moved : (a : Profiled) (t n : ℕ) → a ≡ Profiled.Passed t n
+      → pair-profiled-report (PairProfiled.Passed t n) ≡ profile-moved first second (profiled-report a)
+  counted-moved a t n e =
+      subst (λ (a : Profiled). pair-profiled-report (PairProfiled.Passed t n) ≡ profile-moved first second (profiled-report a)) (sym e) refl
+
+  pub not-counted-moved : (a : Profiled) (y : Refusal) (i : ℕ) (x : Spot) → a ≡ Profiled.Refused y i
+      → meant x ≡ moved first second (refused (refusal-meant y)) i
+      → pair-profiled-report (PairProfiled.Refused y x) ≡ profile-moved first second (profiled-report a)
+  not-counted-moved a y i x e f =
+      subst (λ (a : Profiled). pair-profiled-report (PairProfiled.Refused y x) ≡ profile-moved first second (profiled-report a)) (sym e)
+      (ap (λ (p : Place). profile-report (refused (refusal-meant y)) p 0 0) f)
 
   -- of run
   pub value-moved : (a : Ran) (t : ℕ) (v : Value) (u n : ℕ) → a ≡ Ran.Value t v u n

@@ -12,9 +12,12 @@ use Rattle.language.specs.Numbers.{Told, passed, refused, stopped}
 use Rattle.language.specs.Answers.{CheckReport, Check, RunReport, Run}
 use Rattle.language.specs.Edition.{text-in, pair-in}
 use Rattle.language.specs.Pairs.{joined, Place}
+use Rattle.language.specs.Profile.{ProfileReport, Profile}
 use Rattle.language.proofs.Answers.OneAnswer.{one-check, one-run}
 use Rattle.language.proofs.Answers.Editions.{pair-in-lawful}
 use Rattle.language.proofs.Answers.Pairs.{check-moved, run-moved, pair-check, pair-run}
+use Rattle.language.proofs.Profiles.OneProfile.{one-profile}
+use Rattle.language.proofs.Profiles.TwoSheets.{profile-moved, pair-profile}
 use Rattle.language.proofs.Pairs.Places.{Inside}
 use Rattle.language.proofs.Pairs.Told.{checked-inside, ran-inside}
 use Rattle.layout.specs.declared.values.Value.{Value}
@@ -24,11 +27,13 @@ use Rattle.numbers.specs.declared.Stop.{Stop}
 use Rattle.pairs.specs.Spots.{meant, Part, Cut, Shows}
 use Rattle.pairs.specs.declared.Spot.{Spot}
 use Rattle.runner.proofs.Unique.{value-of, value-back}
-use Rattle.grumpy.specs.Reports.{checked-report, ran-report, pair-checked-report, pair-ran-report}
+use Rattle.grumpy.specs.Reports.{checked-report, ran-report, profiled-report, pair-checked-report, pair-ran-report, pair-profiled-report}
 use Rattle.grumpy.specs.declared.answers.Checked.{Checked}
 use Rattle.grumpy.specs.declared.answers.Ran.{Ran}
 use Rattle.grumpy.specs.declared.answers.PairChecked.{PairChecked}
+use Rattle.grumpy.specs.declared.answers.PairProfiled.{PairProfiled}
 use Rattle.grumpy.specs.declared.answers.PairRan.{PairRan}
+use Rattle.grumpy.specs.declared.answers.Profiled.{Profiled}
 
 -- ---- from the joined text
 
@@ -47,6 +52,13 @@ run-paired edition first second table work out table′ work′ out′ allowance
     subst (λ (y : RunReport Place). Run (pair-in edition first second) table work out allowance y table′ work′ out′) (sym e)
     (pair-run edition first second x)
 
+pub profile-paired : (edition : ℕ) (first second table table′ : List ℕ) (a : Profiled) (r : PairProfiled)
+    → Profile (text-in edition (joined first second)) table (profiled-report a) table′
+    → pair-profiled-report r ≡ profile-moved first second (profiled-report a)
+    → Profile (pair-in edition first second) table (pair-profiled-report r) table′
+profile-paired edition first second table table′ a r x e =
+    subst (λ (y : ProfileReport Place). Profile (pair-in edition first second) table y table′) (sym e) (pair-profile edition first second x)
+
 -- ---- one answer
 
 abbrev spot-of : Place → Spot
@@ -63,6 +75,18 @@ checked-of r = checked-by (r .told) r
 checked-back : (r : PairChecked) → checked-of (pair-checked-report r) ≡ r
 checked-back (PairChecked.Passed t) = refl
 checked-back (PairChecked.Refused y x) = ap (λ (y : Refusal). PairChecked.Refused y x) (refusal-back y)
+
+abbrev profiled-by : Told → ProfileReport Place → PairProfiled
+profiled-by passed r = PairProfiled.Passed (r .type) (r .count)
+profiled-by (refused y) r = PairProfiled.Refused (refusal-of y) (spot-of (r .place))
+profiled-by (stopped w) r = PairProfiled.Passed 0 0
+
+abbrev profiled-of : ProfileReport Place → PairProfiled
+profiled-of r = profiled-by (r .told) r
+
+profiled-back : (r : PairProfiled) → profiled-of (pair-profiled-report r) ≡ r
+profiled-back (PairProfiled.Passed t n) = refl
+profiled-back (PairProfiled.Refused y x) = ap (λ (y : Refusal). PairProfiled.Refused y x) (refusal-back y)
 
 abbrev ran-by : Told → RunReport Place → PairRan
 ran-by passed r = PairRan.Value (r .type) (value-of (r .value)) (r .units) (r .printed)
@@ -83,6 +107,13 @@ pub check-pair-determined : {edition : ℕ} {first second table t′ u′ : List
 check-pair-determined {edition} {first} {second} r q a b =
     let e = one-check (pair-in-lawful edition first second) a b in
     (sym (checked-back r) ∙ ap checked-of (e .0) ∙ checked-back q, e .1)
+
+pub profile-pair-determined : {edition : ℕ} {first second table t′ u′ : List ℕ} (r q : PairProfiled)
+    → Profile (pair-in edition first second) table (pair-profiled-report r) t′ → Profile (pair-in edition first second) table (pair-profiled-report q) u′
+    → (r ≡ q) × (t′ ≡ u′)
+profile-pair-determined {edition} {first} {second} r q a b =
+    let e = one-profile (pair-in-lawful edition first second) a b in
+    (sym (profiled-back r) ∙ ap profiled-of (e .0) ∙ profiled-back q, e .1)
 
 pub run-pair-determined : {edition : ℕ} {first second table work output : List ℕ} {allowance : ℕ} {t′ w′ o′ t″ w″ o″ : List ℕ} (r q : PairRan)
     → Run (pair-in edition first second) table work output allowance (pair-ran-report r) t′ w′ o′

@@ -1,3 +1,4 @@
 pub mod Reports
 pub mod Outcomes
 pub mod Writings
+pub mod Profilings

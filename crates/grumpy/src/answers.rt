@@ -35,9 +35,20 @@ pub enum Wrote {
     Refused(Refusal, usize),
 }
 
+// A type's number and how many units the sheet can use, or a refusal and the byte it is told at.
+pub enum Profiled {
+    Passed(u32, u32),
+    Refused(Refusal, usize),
+}
+
 // The same of two sheets: a refusal or a stop is told at a spot, which names the sheet and the line.
 pub enum PairChecked {
     Passed(u32),
+    Refused(Refusal, Spot),
+}
+
+pub enum PairProfiled {
+    Passed(u32, u32),
     Refused(Refusal, Spot),
 }
 

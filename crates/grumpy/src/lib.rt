@@ -1,28 +1,33 @@
 // The services of the box. Check reads a sheet and answers its type or a refusal; run checks it again and
-// runs it; write checks it and writes it out again, and store writes its stored form. Check and run also take a
-// stored sheet; and two sheets, a rule book and a loom's, and read them as one. All take the number of an edition
-// first, any number, any bytes, any lent memory and any allowance, and tell what the table of numbers has; what
-// they leave in lent memory follows from that.
+// runs it; write checks it and writes it out again, and store writes its stored form; profile checks it and
+// answers how many units it can use. Check and run also take a stored sheet; and two sheets, a rule book and a
+// loom's, and read them as one, as profile does. All take the number of an edition first, any number, any bytes,
+// any lent memory and any allowance, and tell what the table of numbers has; what they leave in lent memory follows
+// from that.
 ghost use mathlib.Core.Path.{_≡_};
 ghost use Rattle.language.specs.Answers.{Check, Run};
 ghost use Rattle.language.specs.Edition.{text-in, stored-in, pair-in, is-known};
 ghost use Rattle.language.specs.Outline.{Outline};
+ghost use Rattle.language.specs.Profile.{Profile};
 ghost use Rattle.language.specs.Writing.{Write, Store};
 ghost use Rattle.outlines.specs.Reports.{wanted, outlined-report};
 ghost use Rattle.pairs.specs.Spots.{Shows};
 ghost use Rattle.sheets.specs.Forms.{origin-of};
-ghost use Rattle.grumpy.specs.Reports.{checked-report, ran-report, wrote-report};
-ghost use Rattle.grumpy.specs.Reports.{pair-checked-report, pair-ran-report};
+ghost use Rattle.grumpy.specs.Reports.{checked-report, ran-report, wrote-report, profiled-report};
+ghost use Rattle.grumpy.specs.Reports.{pair-checked-report, pair-ran-report, pair-profiled-report};
 
 pub mod answers;
 mod outcomes;
 mod places;
+mod profilings;
 mod storings;
 mod writings;
 
 use crate::answers::Checked;
 use crate::answers::PairChecked;
+use crate::answers::PairProfiled;
 use crate::answers::PairRan;
+use crate::answers::Profiled;
 use crate::answers::Ran;
 use crate::answers::Wrote;
 use language::ALLOWANCE;
@@ -225,6 +230,23 @@ pub fn store(edition: u32, source: &[u8], table: &mut [u32], out: &mut [u8]) -> 
     let answer = storings::store_or_refuse(source, table, out, seen);
     memory::clear(table, 0, TABLE);
     answer
+}
+
+// A pay sheet must finish: it passes, has no endless node, and cannot use too many units.
+pub fn profile(edition: u32, source: &[u8], table: &mut [u32]) -> Profiled
+    ensures { λ r. ⌜ Profile (text-in edition (now (source .entry))) (now (table .entry)) (profiled-report r)
+        (now (table .exit)) ⌝ }
+{
+    profilings::profile_form(edition, source, source, Form::Text(View::Plain), table)
+}
+
+// The same of two sheets.
+pub fn profile_pair(edition: u32, first: &[u8], second: &[u8], table: &mut [u32]) -> PairProfiled
+    ensures { λ r. ⌜ Profile (pair-in edition (now (first .entry)) (now (second .entry))) (now (table .entry))
+        (pair-profiled-report r) (now (table .exit)) ⌝ }
+{
+    let answer = profilings::profile_form(edition, first, second, Form::Text(View::Joined), table);
+    places::profiled(first, second, answer)
 }
 
 // Whether a number names an edition.

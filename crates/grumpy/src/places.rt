@@ -2,12 +2,16 @@
 ghost use mathlib.Core.Path.{_≡_};
 ghost use Rattle.language.specs.Numbers.{refused};
 ghost use Rattle.language.proofs.Answers.Pairs.{moved, check-moved, run-moved};
+ghost use Rattle.language.proofs.Profiles.TwoSheets.{profile-moved};
 ghost use Rattle.numbers.specs.Meanings.{refusal-meant};
 ghost use Rattle.pairs.specs.Spots.{meant};
 ghost use Rattle.grumpy.specs.Reports.{checked-report, ran-report, pair-checked-report, pair-ran-report};
+ghost use Rattle.grumpy.specs.Reports.{profiled-report, pair-profiled-report};
 use crate::answers::Checked;
 use crate::answers::PairChecked;
+use crate::answers::PairProfiled;
 use crate::answers::PairRan;
+use crate::answers::Profiled;
 use crate::answers::Ran;
 use numbers::Refusal;
 use pairs::Spot;
@@ -28,6 +32,8 @@ fn refused_at(first: &[u8], second: &[u8], why: Refusal, place: usize) -> Spot
         Refusal::NotHexadecimal => pairs::spot_at(first, second, place),
         Refusal::WrongCount => pairs::spot_at(first, second, place),
         Refusal::NotOneToken => pairs::spot_at(first, second, place),
+        Refusal::EndlessNode => pairs::spot_at(first, second, place),
+        Refusal::ManyUnits => pairs::front(),
     }
 }
 
@@ -40,6 +46,19 @@ pub fn checked(first: &[u8], second: &[u8], answer: Checked) -> PairChecked
         Checked::Refused(why, place) => {
             let spot = refused_at(first, second, why, place);
             PairChecked::Refused(why, spot)
+        }
+    }
+}
+
+pub fn profiled(first: &[u8], second: &[u8], answer: Profiled) -> PairProfiled
+    ensures { λ r. ⌜ pair-profiled-report r ≡ profile-moved (now (first .entry)) (now (second .entry))
+        (profiled-report answer) ⌝ }
+{
+    match answer {
+        Profiled::Passed(type_number, count) => PairProfiled::Passed(type_number, count),
+        Profiled::Refused(why, place) => {
+            let spot = refused_at(first, second, why, place);
+            PairProfiled::Refused(why, spot)
         }
     }
 }

@@ -18,7 +18,8 @@ use Rattle.language.specs.Sizes.{TABLE, WORK}
 use Rattle.language.specs.State.{Stop, no-unit, too-deep, out-of-range, zero-divisor, cell-freed, cells-full, not-a-byte, output-full, zero-step}
 use Rattle.language.proofs.Shift.Cuts.{one-fed}
 use Rattle.language.proofs.Shift.OneReport.{one-admission, one-shift}
-use Rattle.tally.specs.Stands.{Stands, stop-at}
+use Rattle.tally.specs.Stands.{Stands, stop-at, report-in}
+use Rattle.tally.specs.Sums.{no-sums}
 use Rattle.tally.specs.declared.lines.Part.{Part}
 use Rattle.tally.specs.declared.sums.Sums.{Sums}
 use Rattle.shift.specs.After.{After, Keeps}
@@ -29,8 +30,8 @@ use Rattle.shift.specs.declared.Admission.{Admission}
 use Rattle.shift.specs.declared.State.{State}
 use Rattle.grumpy_c.specs.Words.{with-front, nine}
 use Rattle.grumpy_c.specs.States.{STATE, state-words, state-in}
-use Rattle.grumpy_c.specs.Shifts.{BEGIN, FEED, FINISH, told-number, fed-number, report-words, Left, as-before, held, refuses, BeganC, begin-no-room, begin-told, FedC}
-use Rattle.grumpy_c.specs.Shifts.{feed-no-room, feed-told, FinishedC, finish-no-room, finish-told}
+use Rattle.grumpy_c.specs.Shifts.{BEGIN, FEED, FINISH, told-number, fed-number, report-words, Left, as-before, held, refuses, BeganC}
+use Rattle.grumpy_c.specs.Shifts.{begin-no-room, begin-told, FedC, feed-no-room, feed-told, FinishedC, finish-no-room, finish-told}
 use Rattle.grumpy_c.proofs.StateWords.{nine-same}
 
 -- ---- lengths
@@ -140,7 +141,7 @@ module _ {edition : ℕ} {book piece table work out state report t′ w′ o′ 
       (a ∙ sym g, b ∙ sym i, c ∙ sym j, d ∙ sym l, e ∙ sym p, f ∙ sym q)
   feed-determined after (feed-no-room h a b c d e f) (feed-told k l g i j p) = short-long (length state) (length report) STATE FEED h k l
   feed-determined after (feed-told h i a b c d) (feed-no-room k g j l p q e) = short-long (length state) (length report) STATE FEED k h i
-  feed-determined after (feed-told {x} h i a b c d) (feed-told {y} k l e f g j) =
+  feed-determined after (feed-told {a = x} h i a b c d) (feed-told {a = y} k l e f g j) =
       let z = one-admission (a .admits) (e .admits) in
       let q = one-feed output input after (a .tells) (e .tells) z in
       let p = b ∙ one-number (x .told) (y .told) z (ap (λ (s : State). s .over) (q .0)) ∙ sym f in (
@@ -171,4 +172,4 @@ module _ {edition : ℕ} {state report r′ r″ : List ℕ} {m n : ℕ} (ed : �
   finish-determined after (finish-told h i (Promises.no-edition u) b c) (finish-told k j (finished v g) d e) = no-such v u
   finish-determined after (finish-told h i (Promises.no-edition u) b c) (finish-told k j (Promises.no-edition v) d e) =
       let y = b ∙ sym d in
-      (y, c ∙ ap (λ (n : ℕ). with-front report (report-words n _)) y ∙ sym e)
+      (y, c ∙ ap (λ (n : ℕ). with-front report (report-words n (report-in no-sums))) y ∙ sym e)

@@ -11,7 +11,7 @@ use lib.ListN.{length}
 use Rattle.language.specs.Answers.{Lent}
 use Rattle.language.specs.Edition as Edition
 use Rattle.language.specs.Numbers.{short-memory, large-allowance, no-edition, long-source, text, no-reading, types, long-text}
-use Rattle.language.specs.Numbers.{not-hexadecimal, wrong-count, not-one-token}
+use Rattle.language.specs.Numbers.{not-hexadecimal, wrong-count, not-one-token, endless-node, many-units}
 use Rattle.language.specs.Shift.{ShiftRefusal, sheet, no-book, many-lines, turned-away, Admits, Report}
 use Rattle.language.specs.Shift as Shift
 use Rattle.language.specs.Tokens.{Vocabulary}
@@ -49,6 +49,8 @@ not-kept (some (sheet long-text)) other = refl
 not-kept (some (sheet not-hexadecimal)) other = refl
 not-kept (some (sheet wrong-count)) other = refl
 not-kept (some (sheet not-one-token)) other = refl
+not-kept (some (sheet endless-node)) other = refl
+not-kept (some (sheet many-units)) other = refl
 not-kept (some no-book) other = refl
 not-kept (some many-lines) other = refl
 

@@ -1,14 +1,15 @@
 // The C interface of the box. All functions take the number of an edition first. They return the paper's
 // number and write a report: number, place, type, and for run also value (64-bit two's complement; a float's
-// bits), units and bytes printed; for write and store bytes written in the type's stead; for two sheets also the
-// sheet, and where the line that is shown begins and ends in it; the places of a stored sheet are lines. A report
-// that is too short is answered like memory that is too short, and nothing is changed.
+// bits), units and bytes printed, for profile the count; for write and store bytes written in the type's stead; for
+// two sheets also the sheet, and where the line that is shown begins and ends in it; the places of a stored sheet are
+// lines. A report that is too short is answered like memory that is too short, and nothing is changed.
 ghost use Prim.Native.Nat.{_≤_};
 ghost use lib.ListN.{length};
 ghost use Rattle.grumpy_c.specs.Reports.{ToldChecked, ToldRan, ToldWrote, CheckedC, RanC, WroteC};
 ghost use Rattle.grumpy_c.specs.Stored.{StoredC, StoredCheckedC, StoredRanC};
 ghost use Rattle.grumpy_c.specs.Pairs.{ToldPairChecked, ToldPairRan, PairCheckedC, PairRanC};
 
+mod profilings;
 mod reports;
 mod shifts;
 mod states;
@@ -18,7 +19,6 @@ use crate::reports::write_pair_check_report;
 use crate::reports::write_pair_run_report;
 use crate::reports::write_run_report;
 use crate::reports::write_three;
-use crate::words::word;
 use grumpy::answers::Checked;
 use grumpy::answers::PairChecked;
 use grumpy::answers::PairRan;
@@ -70,7 +70,7 @@ fn report_ran(report: &mut [u64], answer: Ran) -> u32
             units,
             printed,
         } => {
-            let bits = word(value);
+            let bits = words::word(value);
             write_run_report(report, 0, 0, type_number, bits, units, printed);
             0
         }
@@ -235,7 +235,7 @@ fn report_pair_ran(report: &mut [u64], answer: PairRan) -> u32
             units,
             printed,
         } => {
-            let bits = word(value);
+            let bits = words::word(value);
             write_pair_run_report(report, 0, pairs::front(), type_number, bits, units, printed);
             0
         }

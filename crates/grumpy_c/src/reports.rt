@@ -4,6 +4,7 @@ ghost use Prim.Native.Nat.{_+_, _≤_};
 ghost use lib.ListN.{length};
 ghost use Rattle.pairs.specs.Spots.{meant};
 ghost use Rattle.grumpy_c.specs.Pairs.{spot-words};
+ghost use Rattle.grumpy_c.specs.Profilings.{four};
 ghost use Rattle.grumpy_c.specs.Reports.{three, six};
 use pairs::Spot;
 
@@ -33,6 +34,20 @@ pub fn write_run_report(
     report[3] = value;
     report[4] = units as u64;
     report[5] = printed as u64;
+}
+
+pub fn write_profile_report(
+    report: &mut [u64],
+    number: u32,
+    place: usize,
+    type_number: u32,
+    count: u32,
+)
+    requires { ⌜ 4 ≤ length (now report) ⌝ }
+    ensures { λ _. ⌜ now (report .exit) ≡ four (now (report .entry)) number place «type_number» count ⌝ }
+{
+    write_three(report, number, place, type_number as u64);
+    report[3] = count as u64;
 }
 
 // The sheet, and where its line begins and ends, from word k on.

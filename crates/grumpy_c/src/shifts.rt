@@ -11,8 +11,8 @@ ghost use Rattle.language.specs.Answers.{keeps};
 ghost use Rattle.tally.specs.Stands.{report-in};
 ghost use Rattle.grumpy_c.specs.Words.{with-front};
 ghost use Rattle.grumpy_c.specs.States.{STATE};
-ghost use Rattle.grumpy_c.specs.Shifts.{BEGIN, FEED, FINISH, told-number, admission-number, fed-number, ending-number};
-ghost use Rattle.grumpy_c.specs.Shifts.{report-words, Left, refuses, BeganC, FedC, FinishedC};
+ghost use Rattle.grumpy_c.specs.Shifts.{BEGIN, FEED, FINISH, told-number, admission-number, fed-number};
+ghost use Rattle.grumpy_c.specs.Shifts.{ending-number, report-words, Left, refuses, BeganC, FedC, FinishedC};
 use crate::states;
 use crate::states::STATE;
 use crate::words;
@@ -62,6 +62,8 @@ fn keeps(refusal: Refusal) -> bool
         Refusal::NotHexadecimal => false,
         Refusal::WrongCount => false,
         Refusal::NotOneToken => false,
+        Refusal::EndlessNode => false,
+        Refusal::ManyUnits => false,
     }
 }
 

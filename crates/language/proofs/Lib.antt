@@ -8,3 +8,5 @@ pub mod Writing
 pub mod Pairs
 pub mod Stored
 pub mod Shift
+pub mod Profiles
+pub mod Sizes

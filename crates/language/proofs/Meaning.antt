@@ -16,3 +16,5 @@ pub mod StopPlaces
 pub mod Passing
 pub mod OldMeaning
 pub mod SameAsBefore
+pub mod Finishing
+pub mod Profiled

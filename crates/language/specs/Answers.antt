@@ -1,6 +1,7 @@
 -- What check and run answer for everything they can be lent, and what they leave in it (S004, S091 to S101). It goes in
 -- three steps: where the tokens come from, what becomes of tokens, and what becomes of a program. Only the first knows
--- places.
+-- places. What a name that ends in Under says is of any sizes σ (R13.5); without it, of the box's, and contracts cite
+-- those.
 use mathlib.Core.Bool.{Bool, true, false, cond}
 use mathlib.Core.List.{List, [], _++_, reverse}
 use mathlib.Core.Logic.{_⊎_}
@@ -9,19 +10,20 @@ use mathlib.Core.Path.{_≡_}
 use Prim.Native.Nat.{ℕ, _-_, _≤_, _<_}
 use lib.Dec.{ltb}
 use lib.ListN.{length, drop, replicate}
-use Rattle.language.specs.Sizes.{SOURCE, ALLOWANCE, TABLE, WORK}
+use Rattle.language.specs.Sizes.{Sizes, BOX, ALLOWANCE, WORK}
 use Rattle.language.specs.Tokens.{Vocabulary, Token, place-at}
-use Rattle.language.specs.Text.{Flaw, Splits, Flawed}
+use Rattle.language.specs.Text.{Flaw, SplitsUnder, FlawedUnder}
 use Rattle.language.specs.Trees.{Ty, Program}
 use Rattle.language.specs.Grammar.{Reading}
 use Rattle.language.specs.Starts.{FirstWrong}
-use Rattle.language.specs.Types.{HasType}
-use Rattle.language.specs.Faults.{Reason, HasFault}
+use Rattle.language.specs.Types.{HasTypeUnder}
+use Rattle.language.specs.Faults.{Reason, HasFaultUnder}
 use Rattle.language.specs.State.{Value, nothing, State, Outcome, value, stop, stuck}
 use Rattle.language.specs.Meaning.{run, type-number}
 use Rattle.language.specs.Numbers.{Refusal, short-memory, large-allowance, no-edition, long-source}
 use Rattle.language.specs.Numbers.{text, no-reading, types, Told, passed, refused, stopped}
 use Rattle.language.specs.Numbers.{long-text, not-hexadecimal, wrong-count, not-one-token}
+use Rattle.language.specs.Numbers.{long-text, endless-node, many-units}
 
 -- ---- where tokens come from
 
@@ -46,44 +48,68 @@ place-in o ts (at i) = o .at ts i
 
 -- A text by a vocabulary. Its places are bytes (S044): a token's is where it begins, and the end's is the length of the
 -- text.
-pub data TextDenies (voc : Vocabulary) (source : List ℕ) : Refusal → ℕ → Type 0 where
-  too-long : SOURCE < length source → TextDenies voc source long-source 0
-  flawed : {f : Flaw} {p : ℕ} → length source ≤ SOURCE → Flawed voc source f p → TextDenies voc source (text f) p
+module _ (σ : Sizes) (voc : Vocabulary) (source : List ℕ) where
+  pub data TextDeniesUnder : Refusal → ℕ → Type 0 where
+    too-long : σ .source < length source → TextDeniesUnder long-source 0
+    flawed : {f : Flaw} {p : ℕ} → length source ≤ σ .source → FlawedUnder σ voc source f p → TextDeniesUnder (text f) p
 
-pub record TextGives (voc : Vocabulary) (source : List ℕ) (ts : List Token) : Type 0 where
-  pub short : length source ≤ SOURCE
-  pub splits : Splits voc source ts
+  pub record TextGivesUnder (ts : List Token) : Type 0 where
+    pub short : length source ≤ σ .source
+    pub splits : SplitsUnder σ voc source ts
+
+  abbrev pub text-under : Origin ℕ
+  text-under = record {
+    gives = TextGivesUnder;
+    denies = TextDeniesUnder;
+    nowhere = 0;
+    at = λ ts i. cond (ltb i (length ts)) (place-at ts i) (length source);
+  }
+
+abbrev pub TextDenies : Vocabulary → List ℕ → Refusal → ℕ → Type 0
+TextDenies = TextDeniesUnder BOX
+
+abbrev pub TextGives : Vocabulary → List ℕ → List Token → Type 0
+TextGives = TextGivesUnder BOX
 
 abbrev pub from-text : Vocabulary → List ℕ → Origin ℕ
-from-text voc source = record {
-  gives = TextGives voc source;
-  denies = TextDenies voc source;
-  nowhere = 0;
-  at = λ ts i. cond (ltb i (length ts)) (place-at ts i) (length source);
-}
+from-text = text-under BOX
 
 -- ---- what becomes of tokens
 
--- they are a program of this type
-pub record Proper (ts : List Token) (p : Program) (t : Ty) : Type 0 where
-  pub reads : Reading ts p
-  pub typed : HasType p t
+module _ (σ : Sizes) (ts : List Token) where
+  -- they are a program of this type
+  pub record ProperUnder (p : Program) (t : Ty) : Type 0 where
+    pub reads : Reading ts p
+    pub typed : HasTypeUnder σ p t
 
--- or not, and why and at which token; a fault's order is in Faults
-pub data Denied (ts : List Token) : Refusal → Spot → Type 0 where
-  -- R01.3: at the first token with which no program goes on, or at the end
-  unread : {i : ℕ} → FirstWrong ts i → Denied ts no-reading (at i)
-  faulty : {p : Program} {r : Reason} {i : ℕ} → Reading ts p → HasFault p r i → Denied ts (types r) (at i)
+  -- or not, and why and at which token; a fault's order is in Faults
+  pub data DeniedUnder : Refusal → Spot → Type 0 where
+    -- R01.3: at the first token with which no program goes on, or at the end
+    unread : {i : ℕ} → FirstWrong ts i → DeniedUnder no-reading (at i)
+    faulty : {p : Program} {r : Reason} {i : ℕ} → Reading ts p → HasFaultUnder σ p r i → DeniedUnder (types r) (at i)
 
 -- The two steps together: what an origin comes to.
-module _ {P : Type 0} (o : Origin P) where
-  pub record Passes (ts : List Token) (p : Program) (t : Ty) : Type 0 where
+module _ (σ : Sizes) {P : Type 0} (o : Origin P) where
+  pub record PassesUnder (ts : List Token) (p : Program) (t : Ty) : Type 0 where
     pub given : o .gives ts
-    pub proper : Proper ts p t
+    pub proper : ProperUnder σ ts p t
 
-  pub data Refused : Refusal → P → Type 0 where
-    by-origin : {r : Refusal} {x : P} → o .denies r x → Refused r x
-    by-tokens : {ts : List Token} {r : Refusal} {s : Spot} → o .gives ts → Denied ts r s → Refused r (place-in o ts s)
+  pub data RefusedUnder : Refusal → P → Type 0 where
+    by-origin : {r : Refusal} {x : P} → o .denies r x → RefusedUnder r x
+    by-tokens : {ts : List Token} {r : Refusal} {s : Spot} → o .gives ts → DeniedUnder σ ts r s
+        → RefusedUnder r (place-in o ts s)
+
+abbrev pub Proper : List Token → Program → Ty → Type 0
+Proper = ProperUnder BOX
+
+abbrev pub Denied : List Token → Refusal → Spot → Type 0
+Denied = DeniedUnder BOX
+
+abbrev pub Passes : {P : Type 0} → Origin P → List Token → Program → Ty → Type 0
+Passes o = PassesUnder BOX o
+
+abbrev pub Refused : {P : Type 0} → Origin P → Refusal → P → Type 0
+Refused o = RefusedUnder BOX o
 
 -- ---- what becomes of a program
 
@@ -121,6 +147,8 @@ keeps long-text = false
 keeps not-hexadecimal = false
 keeps wrong-count = false
 keeps not-one-token = false
+keeps endless-node = false
+keeps many-units = false
 
 unfoldable pub cleared : ℕ → List ℕ → List ℕ
 cleared n words = replicate n 0 ++ drop n words
@@ -141,18 +169,25 @@ pub record CheckReport (P : Type 0) : Type 0 where
 abbrev pub check-report : {P : Type 0} → Told → P → ℕ → CheckReport P
 check-report a x t = record { told = a; place = x; type = t }
 
-module _ {P : Type 0} (o : Origin P) where
+module _ (σ : Sizes) {P : Type 0} (o : Origin P) where
   -- the report, for so many words of table memory
-  pub data Checked (table : ℕ) : CheckReport P → Type 0 where
-    check-short : table < TABLE → Checked table (check-report (refused short-memory) (o .nowhere) 0)
-    check-refused : {r : Refusal} {x : P} → TABLE ≤ table → Refused o r x → Checked table (check-report (refused r) x 0)
-    check-passed : {ts : List Token} {p : Program} {t : Ty}
-        → TABLE ≤ table → Passes o ts p t → Checked table (check-report passed (o .nowhere) (type-number t))
+  pub data CheckedUnder (table : ℕ) : CheckReport P → Type 0 where
+    check-short : table < σ .table → CheckedUnder table (check-report (refused short-memory) (o .nowhere) 0)
+    check-refused : {r : Refusal} {x : P} → σ .table ≤ table → RefusedUnder σ o r x
+        → CheckedUnder table (check-report (refused r) x 0)
+    check-passed : {ts : List Token} {p : Program} {t : Ty} → σ .table ≤ table → PassesUnder σ o ts p t
+        → CheckedUnder table (check-report passed (o .nowhere) (type-number t))
 
   -- The contract of check: its report, and the table memory as it is left.
-  pub record Check (table : List ℕ) (report : CheckReport P) (table′ : List ℕ) : Type 0 where
-    pub answer : Checked (length table) report
-    pub table-left : table′ ≡ left (report .told) TABLE table
+  pub record CheckUnder (table : List ℕ) (report : CheckReport P) (table′ : List ℕ) : Type 0 where
+    pub answer : CheckedUnder (length table) report
+    pub table-left : table′ ≡ left (report .told) (σ .table) table
+
+abbrev pub Checked : {P : Type 0} → Origin P → ℕ → CheckReport P → Type 0
+Checked o = CheckedUnder BOX o
+
+abbrev pub Check : {P : Type 0} → Origin P → List ℕ → CheckReport P → List ℕ → Type 0
+Check o = CheckUnder BOX o
 
 -- ---- run
 
@@ -173,9 +208,12 @@ pub record Lent : Type 0 where
   pub output : ℕ
   pub allowance : ℕ
 
-pub record Enough (l : Lent) : Type 0 where
-  pub table : TABLE ≤ l .table
+pub record EnoughUnder (σ : Sizes) (l : Lent) : Type 0 where
+  pub table : σ .table ≤ l .table
   pub work : WORK ≤ l .work
+
+abbrev pub Enough : Lent → Type 0
+Enough = EnoughUnder BOX
 
 -- S096
 abbrev pub refusal : {P : Type 0} → Refusal → P → RunReport P
@@ -191,23 +229,32 @@ after-run o ts t e = record {
   printed = length (e .printed);
 }
 
-module _ {P : Type 0} (o : Origin P) where
+module _ (σ : Sizes) {P : Type 0} (o : Origin P) where
   -- the report, and the bytes printed
-  pub data Ran (l : Lent) : RunReport P → List ℕ → Type 0 where
-    run-short : (l .table < TABLE) ⊎ (l .work < WORK) → Ran l (refusal short-memory (o .nowhere)) []
-    run-large : Enough l → ALLOWANCE < l .allowance → Ran l (refusal large-allowance (o .nowhere)) []
-    run-refused : {r : Refusal} {x : P} → Enough l → l .allowance ≤ ALLOWANCE → Refused o r x → Ran l (refusal r x) []
+  pub data RanUnder (l : Lent) : RunReport P → List ℕ → Type 0 where
+    run-short : (l .table < σ .table) ⊎ (l .work < WORK) → RanUnder l (refusal short-memory (o .nowhere)) []
+    run-large : EnoughUnder σ l → ALLOWANCE < l .allowance → RanUnder l (refusal large-allowance (o .nowhere)) []
+    run-refused : {r : Refusal} {x : P} → EnoughUnder σ l → l .allowance ≤ ALLOWANCE → RefusedUnder σ o r x
+        → RanUnder l (refusal r x) []
     run-ended : {ts : List Token} {p : Program} {t : Ty} {e : Ending}
-        → Enough l → l .allowance ≤ ALLOWANCE → Passes o ts p t
+        → EnoughUnder σ l → l .allowance ≤ ALLOWANCE → PassesUnder σ o ts p t
         → ending (l .allowance) (run p (l .allowance) (l .output)) ≡ some e
-        → Ran l (after-run o ts t e) (e .printed)
+        → RanUnder l (after-run o ts t e) (e .printed)
 
   -- The contract of run: its report, and the two memories and the output as they are left (S098 to S100).
-  pub record Run (table work output : List ℕ) (allowance : ℕ) (report : RunReport P)
+  pub record RunUnder (table work output : List ℕ) (allowance : ℕ) (report : RunReport P)
       (table′ work′ output′ : List ℕ) : Type 0 where
     pub printed : List ℕ
-    pub answer : Ran record { table = length table; work = length work; output = length output; allowance = allowance }
+    pub answer : RanUnder
+        record { table = length table; work = length work; output = length output; allowance = allowance }
         report printed
-    pub table-left : table′ ≡ left (report .told) TABLE table
+    pub table-left : table′ ≡ left (report .told) (σ .table) table
     pub work-left : work′ ≡ left (report .told) WORK work
     pub output-left : output′ ≡ printed ++ drop (length printed) output
+
+abbrev pub Ran : {P : Type 0} → Origin P → Lent → RunReport P → List ℕ → Type 0
+Ran o = RanUnder BOX o
+
+abbrev pub Run : {P : Type 0} → Origin P → List ℕ → List ℕ → List ℕ → ℕ → RunReport P
+    → List ℕ → List ℕ → List ℕ → Type 0
+Run o = RunUnder BOX o

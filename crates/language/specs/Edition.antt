@@ -6,11 +6,12 @@ use mathlib.Core.Option.{Option, none, some}
 use mathlib.Core.Path.{_≡_}
 use Prim.Native.Nat.{ℕ}
 use lib.Dec.{eqb}
+use Rattle.language.specs.Sizes.{Sizes, BOX}
 use Rattle.language.specs.Tokens.{Vocabulary, EDITION-1, EDITION-2, Token}
 use Rattle.language.specs.Numbers.{Refusal, no-edition}
-use Rattle.language.specs.Answers.{Origin, from-text}
-use Rattle.language.specs.Stored.{from-stored}
-use Rattle.language.specs.Pairs.{Place, from-pair}
+use Rattle.language.specs.Answers.{Origin, text-under}
+use Rattle.language.specs.Stored.{stored-under}
+use Rattle.language.specs.Pairs.{Place, pair-under}
 
 -- the vocabulary that a number names
 unfoldable pub edition : ℕ → Option Vocabulary
@@ -44,11 +45,21 @@ module _ {P : Type 0} (n : ℕ) (o : Vocabulary → Origin P) where
   }
 
 -- a text, a stored sheet and two sheets, as callers lend them
+module _ (σ : Sizes) (n : ℕ) where
+  abbrev pub text-in-under : List ℕ → Origin ℕ
+  text-in-under source = in-edition n λ voc. text-under σ voc source
+
+  abbrev pub stored-in-under : List ℕ → Origin ℕ
+  stored-in-under input = in-edition n λ voc. stored-under σ voc input
+
+  abbrev pub pair-in-under : List ℕ → List ℕ → Origin Place
+  pair-in-under first second = in-edition n λ voc. pair-under σ voc first second
+
 abbrev pub text-in : ℕ → List ℕ → Origin ℕ
-text-in n source = in-edition n λ voc. from-text voc source
+text-in = text-in-under BOX
 
 abbrev pub stored-in : ℕ → List ℕ → Origin ℕ
-stored-in n input = in-edition n λ voc. from-stored voc input
+stored-in = stored-in-under BOX
 
 abbrev pub pair-in : ℕ → List ℕ → List ℕ → Origin Place
-pair-in n first second = in-edition n λ voc. from-pair voc first second
+pair-in = pair-in-under BOX

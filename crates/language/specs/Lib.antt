@@ -13,6 +13,7 @@ pub mod Numbers
 pub mod Answers
 pub mod Stored
 pub mod Writing
+pub mod Profile
 pub mod Pairs
 pub mod Edition
 pub mod Outline

@@ -1,5 +1,5 @@
--- The table of numbers (S068 to S090, R01.2, R03.5, R08.2, R09.6, R12.2, R12.9): what an answer tells, and the number
--- of it. 21 stood for too many nodes, which no reading has; it is not used again (R02.4).
+-- The table of numbers (S068 to S090, R01.2, R03.5, R08.2, R09.6, R10.2, R10.4, R12.2, R12.9): what an answer tells,
+-- and the number of it. 21 stood for too many nodes, which no reading has; it is not used again (R02.4).
 use Prim.Native.Nat.{ℕ}
 use Rattle.language.specs.Text.{Flaw, strange-byte, open-comment, large-number, many-tokens, long-float}
 use Rattle.language.specs.Faults.{Reason, no-binding, no-function, wrong-number, wrong-argument}
@@ -19,6 +19,8 @@ pub data Refusal : Type 0 where
   long-text : Refusal
   -- a stored sheet's line or count is wrong (R09.6, R09.8)
   not-hexadecimal wrong-count not-one-token : Refusal
+  -- a pay sheet may go on without end, or may use too many units
+  endless-node many-units : Refusal
 
 -- a program passed or ran to a value, or nothing was run, or a run stopped
 pub data Told : Type 0 where
@@ -63,6 +65,8 @@ refusal-number long-text = 44
 refusal-number not-hexadecimal = 60
 refusal-number wrong-count = 61
 refusal-number not-one-token = 62
+refusal-number endless-node = 43
+refusal-number many-units = 45
 
 abbrev pub stop-number : Stop → ℕ
 stop-number no-unit = 50

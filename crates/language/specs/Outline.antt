@@ -6,13 +6,14 @@ use mathlib.Core.Path.{_≡_}
 use Prim.Native.Nat.{ℕ, _≤_, _<_}
 use lib.Dec.{eqb}
 use lib.ListN.{length}
-use Rattle.language.specs.Sizes.{TABLE}
+use Rattle.language.specs.Sizes.{Sizes, BOX}
 use Rattle.language.specs.Tokens.{Token, same}
 use Rattle.language.specs.Trees.{Name, Ty, Literal, whole, truth, trivial, decimal, Exp, name, literal, unary}
-use Rattle.language.specs.Trees.{binary, follow, group, block, call, bind, branch, loop, counted, Param, Def, Program}
+use Rattle.language.specs.Trees.{binary, follow, group, block, call, bind, branch, loop, counted, Param}
+use Rattle.language.specs.Trees.{Def, Program}
 use Rattle.language.specs.Meaning.{type-number}
 use Rattle.language.specs.Numbers.{Refusal, short-memory, Told, passed, refused}
-use Rattle.language.specs.Answers.{Origin, Passes, Refused, left}
+use Rattle.language.specs.Answers.{Origin, PassesUnder, RefusedUnder, left}
 
 abbrev pub is-whole : Literal → Bool
 is-whole (whole n) = true
@@ -63,14 +64,21 @@ pub record OutlineReport : Type 0 where
 abbrev pub outline-refusal : Refusal → OutlineReport
 outline-refusal r = record { told = refused r; alone = false; there = false }
 
-module _ {P : Type 0} (o : Origin P) (w : Wanted) where
-  pub data Outlined (table : ℕ) : OutlineReport → Type 0 where
-    outline-short : table < TABLE → Outlined table (outline-refusal short-memory)
-    outline-refused : {r : Refusal} {x : P} → TABLE ≤ table → Refused o r x → Outlined table (outline-refusal r)
-    outline-passed : {ts : List Token} {p : Program} {t : Ty} → TABLE ≤ table → Passes o ts p t
-        → Outlined table record { told = passed; alone = is-number (p .main); there = has-function w (p .defs) }
+module _ (σ : Sizes) {P : Type 0} (o : Origin P) (w : Wanted) where
+  pub data OutlinedUnder (table : ℕ) : OutlineReport → Type 0 where
+    outline-short : table < σ .table → OutlinedUnder table (outline-refusal short-memory)
+    outline-refused : {r : Refusal} {x : P} → σ .table ≤ table → RefusedUnder σ o r x
+        → OutlinedUnder table (outline-refusal r)
+    outline-passed : {ts : List Token} {p : Program} {t : Ty} → σ .table ≤ table → PassesUnder σ o ts p t
+        → OutlinedUnder table record { told = passed; alone = is-number (p .main); there = has-function w (p .defs) }
 
   -- The contract of the service: its report, and the table memory as it is left.
-  pub record Outline (table : List ℕ) (report : OutlineReport) (table′ : List ℕ) : Type 0 where
-    pub answer : Outlined (length table) report
-    pub table-left : table′ ≡ left (report .told) TABLE table
+  pub record OutlineUnder (table : List ℕ) (report : OutlineReport) (table′ : List ℕ) : Type 0 where
+    pub answer : OutlinedUnder (length table) report
+    pub table-left : table′ ≡ left (report .told) (σ .table) table
+
+abbrev pub Outlined : {P : Type 0} → Origin P → Wanted → ℕ → OutlineReport → Type 0
+Outlined o = OutlinedUnder BOX o
+
+abbrev pub Outline : {P : Type 0} → Origin P → Wanted → List ℕ → OutlineReport → List ℕ → Type 0
+Outline o = OutlineUnder BOX o

@@ -6,11 +6,11 @@ use Prim.Native.Char.{code}
 use Prim.Native.Nat.{ℕ, zero, suc, _+_, _-_, _≤_, _<_}
 use lib.Dec.{ltb, leb}
 use lib.ListN.{length, drop}
-use Rattle.language.specs.Sizes.{SOURCE}
+use Rattle.language.specs.Sizes.{Sizes, BOX}
 use Rattle.language.specs.Tokens.{Vocabulary, Token}
-use Rattle.language.specs.Text.{byte, is-in-line, Flaw, Flawed}
+use Rattle.language.specs.Text.{byte, is-in-line, Flaw, FlawedUnder}
 use Rattle.language.specs.Numbers.{Refusal, long-source, text}
-use Rattle.language.specs.Answers.{Origin, TextGives, from-text}
+use Rattle.language.specs.Answers.{Origin, TextGivesUnder, text-under}
 
 -- R07.2: the first, one LF, then the second
 abbrev pub joined : List ℕ → List ℕ → List ℕ
@@ -58,15 +58,22 @@ front = record { sheet = 1; at = 0; begins = 0; ends = 0 }
 
 -- ---- the two as an origin of tokens
 
-pub data PairDenies (voc : Vocabulary) (first second : List ℕ) : Refusal → Place → Type 0 where
-  too-long : SOURCE < length (joined first second) → PairDenies voc first second long-source front
-  flawed : {f : Flaw} {p : ℕ} → length (joined first second) ≤ SOURCE → Flawed voc (joined first second) f p
-      → PairDenies voc first second (text f) (place-of first second p)
+module _ (σ : Sizes) (voc : Vocabulary) (first second : List ℕ) where
+  pub data PairDeniesUnder : Refusal → Place → Type 0 where
+    too-long : σ .source < length (joined first second) → PairDeniesUnder long-source front
+    flawed : {f : Flaw} {p : ℕ} → length (joined first second) ≤ σ .source → FlawedUnder σ voc (joined first second) f p
+        → PairDeniesUnder (text f) (place-of first second p)
+
+  abbrev pub pair-under : Origin Place
+  pair-under = record {
+    gives = TextGivesUnder σ voc (joined first second);
+    denies = PairDeniesUnder;
+    nowhere = front;
+    at = λ ts i. place-of first second (text-under σ voc (joined first second) .at ts i);
+  }
+
+abbrev pub PairDenies : Vocabulary → List ℕ → List ℕ → Refusal → Place → Type 0
+PairDenies = PairDeniesUnder BOX
 
 abbrev pub from-pair : Vocabulary → List ℕ → List ℕ → Origin Place
-from-pair voc first second = record {
-  gives = TextGives voc (joined first second);
-  denies = PairDenies voc first second;
-  nowhere = front;
-  at = λ ts i. place-of first second (from-text voc (joined first second) .at ts i);
-}
+from-pair = pair-under BOX

@@ -7,9 +7,9 @@ use Prim.Native.Char.{code}
 use Prim.Native.Nat.{ℕ, _+_, _-_, _/_, _%_, _≤_, _<_}
 use lib.Dec.{ltb}
 use lib.ListN.{length}
-use Rattle.language.specs.Sizes.{SOURCE, TOKENS, BYTE}
+use Rattle.language.specs.Sizes.{Sizes, BOX, BYTE}
 use Rattle.language.specs.Tokens.{Vocabulary, Token}
-use Rattle.language.specs.Text.{byte, many-tokens, Splits}
+use Rattle.language.specs.Text.{byte, many-tokens, SplitsWhole}
 use Rattle.language.specs.Numbers.{Refusal, text, long-source, not-hexadecimal, wrong-count, not-one-token}
 use Rattle.language.specs.Answers.{Origin}
 
@@ -72,41 +72,60 @@ module _ (voc : Vocabulary) where
   -- what t is spelled with is t and nothing else: no blank, no comment, no second token, no number over its limit
   pub record Lone (t : Token) : Type 0 where
     pub bytes : Bytes (t .spelling)
-    pub splits : Splits voc (t .spelling) (t ∷ [])
+    pub splits : SplitsWhole voc (t .spelling) (t ∷ [])
 
   pub data AllLone : List Token → Type 0 where
     lone-none : AllLone []
     lone-more : {t : Token} {ts : List Token} → Lone t → AllLone ts → AllLone (t ∷ ts)
 
+module _ (σ : Sizes) (voc : Vocabulary) where
   -- it is the stored form of tokens
-  pub record StoredGives (input : List ℕ) (ts : List Token) : Type 0 where
+  pub record StoredGivesUnder (input : List ℕ) (ts : List Token) : Type 0 where
     pub form : input ≡ stored ts
-    pub tokens : AllLone ts
-    pub few : length ts ≤ TOKENS
-    pub short : spelled-bytes ts ≤ SOURCE
+    pub tokens : AllLone voc ts
+    pub few : length ts ≤ σ .tokens
+    pub short : spelled-bytes ts ≤ σ .source
 
   -- good lines: a count that is not too large, then those of the tokens ts; `rest` stands behind them
-  pub record GoodLines (input : List ℕ) (n : ℕ) (ts : List Token) (rest : List ℕ) : Type 0 where
+  pub record GoodLinesUnder (input : List ℕ) (n : ℕ) (ts : List Token) (rest : List ℕ) : Type 0 where
     pub lines : input ≡ count-line n ++ (token-lines ts ++ rest)
-    pub few : n ≤ TOKENS
-    pub tokens : AllLone ts
+    pub few : n ≤ σ .tokens
+    pub tokens : AllLone voc ts
 
-  pub data StoredDenies (input : List ℕ) : Refusal → ℕ → Type 0 where
+  pub data StoredDeniesUnder (input : List ℕ) : Refusal → ℕ → Type 0 where
     -- R09.6, R09.7, of the first line; nothing at all has none
-    no-count : ((n : ℕ) (rest : List ℕ) → FirstCount input n rest → ⊥) → StoredDenies input not-hexadecimal 1
-    large-count : {n : ℕ} {rest : List ℕ} → FirstCount input n rest → TOKENS < n
-        → StoredDenies input (text many-tokens) 1
+    no-count : ((n : ℕ) (rest : List ℕ) → FirstCount input n rest → ⊥) → StoredDeniesUnder input not-hexadecimal 1
+    large-count : {n : ℕ} {rest : List ℕ} → FirstCount input n rest → σ .tokens < n
+        → StoredDeniesUnder input (text many-tokens) 1
     -- R09.6, of the line behind those of ts, be they more than were counted
-    no-line : {n b : ℕ} {ts : List Token} {rest : List ℕ} → GoodLines input n ts (b ∷ rest)
-        → ((s more : List ℕ) → FirstLine (b ∷ rest) s more → ⊥) → StoredDenies input not-hexadecimal (length ts + 2)
-    no-token : {n : ℕ} {ts : List Token} {rest s more : List ℕ} → GoodLines input n ts rest → FirstLine rest s more
-        → ((t : Token) → t .spelling ≡ s → Lone t → ⊥) → StoredDenies input not-one-token (length ts + 2)
+    no-line : {n b : ℕ} {ts : List Token} {rest : List ℕ} → GoodLinesUnder input n ts (b ∷ rest)
+        → ((s more : List ℕ) → FirstLine (b ∷ rest) s more → ⊥)
+        → StoredDeniesUnder input not-hexadecimal (length ts + 2)
+    no-token : {n : ℕ} {ts : List Token} {rest s more : List ℕ} → GoodLinesUnder input n ts rest → FirstLine rest s more
+        → ((t : Token) → t .spelling ≡ s → Lone voc t → ⊥) → StoredDeniesUnder input not-one-token (length ts + 2)
     -- R09.8, where every line is good
-    miscounted : {n : ℕ} {ts : List Token} → GoodLines input n ts [] → (n ≡ length ts → ⊥)
-        → StoredDenies input wrong-count 1
-    overlong : {ts : List Token} → GoodLines input (length ts) ts [] → SOURCE < spelled-bytes ts
-        → StoredDenies input long-source 0
+    miscounted : {n : ℕ} {ts : List Token} → GoodLinesUnder input n ts [] → (n ≡ length ts → ⊥)
+        → StoredDeniesUnder input wrong-count 1
+    overlong : {ts : List Token} → GoodLinesUnder input (length ts) ts [] → σ .source < spelled-bytes ts
+        → StoredDeniesUnder input long-source 0
 
   -- R09.9: a token's place is its line, the end's the line behind the last
-  abbrev pub from-stored : List ℕ → Origin ℕ
-  from-stored input = record { gives = StoredGives input; denies = StoredDenies input; nowhere = 0; at = λ ts i. i + 2 }
+  abbrev pub stored-under : List ℕ → Origin ℕ
+  stored-under input = record {
+    gives = StoredGivesUnder input;
+    denies = StoredDeniesUnder input;
+    nowhere = 0;
+    at = λ ts i. i + 2;
+  }
+
+abbrev pub StoredGives : Vocabulary → List ℕ → List Token → Type 0
+StoredGives = StoredGivesUnder BOX
+
+abbrev pub GoodLines : Vocabulary → List ℕ → ℕ → List Token → List ℕ → Type 0
+GoodLines = GoodLinesUnder BOX
+
+abbrev pub StoredDenies : Vocabulary → List ℕ → Refusal → ℕ → Type 0
+StoredDenies = StoredDeniesUnder BOX
+
+abbrev pub from-stored : Vocabulary → List ℕ → Origin ℕ
+from-stored = stored-under BOX

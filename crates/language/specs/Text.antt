@@ -10,7 +10,7 @@ use Prim.Native.Nat.{ℕ, _+_, _*_, _-_, _≤_, _<_}
 use lib.Dec.{eqb, leb, ltb}
 use lib.ListN.{length, getD}
 use lib.Seq.{slice}
-use Rattle.language.specs.Sizes.{TOKENS, LARGEST, DIGITS}
+use Rattle.language.specs.Sizes.{Sizes, BOX, LARGEST, DIGITS}
 use Rattle.language.specs.Tokens.{Spelling, spell, Vocabulary, Token, NAME, NUMBER, FLOAT-NUMBER, spelled}
 
 -- ---- bytes
@@ -152,22 +152,40 @@ module _ (voc : Vocabulary) where
     next : {p q k v : ℕ} {ts us : List Token} → Reaches t p ts → Piece t p q (token k v) → v ≤ LARGEST
         → us ≡ ts ++ (token-of t p q k v ∷ []) → Reaches t q us
 
-  -- the whole text splits into the tokens ts, which are not too many
-  pub record Splits (t : List ℕ) (ts : List Token) : Type 0 where
-    pub whole : Reaches t (length t) ts
-    pub few : length ts ≤ TOKENS
+  -- the whole text splits into the tokens ts, however many they are
+  abbrev pub SplitsWhole : List ℕ → List Token → Type 0
+  SplitsWhole t ts = Reaches t (length t) ts
+
+-- ---- under sizes
+
+module _ (σ : Sizes) (voc : Vocabulary) where
+  -- it does, and the tokens are not too many
+  pub record SplitsUnder (t : List ℕ) (ts : List Token) : Type 0 where
+    pub whole : SplitsWhole voc t ts
+    pub few : length ts ≤ σ .tokens
 
   -- what is wrong at p, with the tokens ts before it
-  pub data Wrong (t : List ℕ) (p : ℕ) (ts : List Token) : Flaw → Type 0 where
-    strange : p < length t → ((q : ℕ) (c : Content) → Form t p q c → ⊥) → Wrong t p ts strange-byte
-    opened : {q : ℕ} → Piece t p q unclosed → Wrong t p ts open-comment
-    long : {q : ℕ} → Piece t p q overlong → Wrong t p ts long-float
-    large : {q k v : ℕ} → Piece t p q (token k v) → LARGEST < v → Wrong t p ts large-number
-    many : {q k v : ℕ} → Piece t p q (token k v) → v ≤ LARGEST → length ts ≡ TOKENS → Wrong t p ts many-tokens
+  pub data WrongUnder (t : List ℕ) (p : ℕ) (ts : List Token) : Flaw → Type 0 where
+    strange : p < length t → ((q : ℕ) (c : Content) → Form voc t p q c → ⊥) → WrongUnder t p ts strange-byte
+    opened : {q : ℕ} → Piece voc t p q unclosed → WrongUnder t p ts open-comment
+    long : {q : ℕ} → Piece voc t p q overlong → WrongUnder t p ts long-float
+    large : {q k v : ℕ} → Piece voc t p q (token k v) → LARGEST < v → WrongUnder t p ts large-number
+    many : {q k v : ℕ} → Piece voc t p q (token k v) → v ≤ LARGEST → length ts ≡ σ .tokens
+        → WrongUnder t p ts many-tokens
 
   -- the split comes as far as p, and there stands this flaw
-  pub record Flawed (t : List ℕ) (f : Flaw) (p : ℕ) : Type 0 where
+  pub record FlawedUnder (t : List ℕ) (f : Flaw) (p : ℕ) : Type 0 where
     pub tokens : List Token
-    pub before : Reaches t p tokens
-    pub few : length tokens ≤ TOKENS
-    pub here : Wrong t p tokens f
+    pub before : Reaches voc t p tokens
+    pub few : length tokens ≤ σ .tokens
+    pub here : WrongUnder t p tokens f
+
+-- under the box's sizes
+abbrev pub Splits : Vocabulary → List ℕ → List Token → Type 0
+Splits = SplitsUnder BOX
+
+abbrev pub Wrong : Vocabulary → List ℕ → ℕ → List Token → Flaw → Type 0
+Wrong = WrongUnder BOX
+
+abbrev pub Flawed : Vocabulary → List ℕ → Flaw → ℕ → Type 0
+Flawed = FlawedUnder BOX

@@ -1,11 +1,12 @@
--- Which readings have a type (S045 to S054). The rules are 003's; `Typed Δ Γ e t` is its G;D |- e : t.
+-- Which readings have a type (S045 to S054). The rules are 003's; `Typed Δ Γ e t` is its G;D |- e : t. They know three
+-- sizes, of functions, parameters and `ref`, and are said under any σ; the box's are at the end.
 use mathlib.Core.Bool.{Bool}
 use mathlib.Core.List.{List, [], _∷_, map}
 use mathlib.Core.Option.{none, some}
 use mathlib.Core.Path.{_≡_}
 use Prim.Native.Nat.{ℕ, _≤_, _<_}
 use lib.Ieee.{Float}
-use Rattle.language.specs.Sizes.{FUNCTIONS, PARAMETERS, REFS}
+use Rattle.language.specs.Sizes.{Sizes, BOX}
 use Rattle.language.specs.Trees.{Name, Ty, int, bool, unit, float, ref, refs, whole, truth, trivial}
 use Rattle.language.specs.Trees.{decimal, Unary, minus, not, fetch, new, Binary, add, sub, mul, div}
 use Rattle.language.specs.Trees.{less, equal, and, or, assign, Exp, name, literal, unary, binary}
@@ -14,11 +15,11 @@ use Rattle.language.specs.Trees.{more, Param, Def, Program, Scope, empty
 
 -- ---- operators (003's unoptype and binoptype; S052)
 
-pub data UnopType : Unary → Ty → Ty → Type 0 where
-  u-minus : UnopType minus int int
-  u-not : UnopType not bool bool
-  u-fetch : {t : Ty} → UnopType fetch (ref t) t
-  u-new : {t : Ty} → refs t < REFS → UnopType new t (ref t)
+pub data UnopTypeUnder (σ : Sizes) : Unary → Ty → Ty → Type 0 where
+  u-minus : UnopTypeUnder σ minus int int
+  u-not : UnopTypeUnder σ not bool bool
+  u-fetch : {t : Ty} → UnopTypeUnder σ fetch (ref t) t
+  u-new : {t : Ty} → refs t < σ .refs → UnopTypeUnder σ new t (ref t)
 
 -- 003's arithmetic types (R08.4)
 pub data Arithmetic : Ty → Type 0 where
@@ -49,49 +50,45 @@ pub record Sig : Type 0 where
   pub gives : Ty
 
 -- Δ has the functions in sight, Γ the variables; each is looked up in its own (S047 to S049)
-module _ (Δ : Scope Sig) where
+module _ (σ : Sizes) (Δ : Scope Sig) where
   mutual
-    pub data Typed : Scope Ty → Exp → Ty → Type 0 where
-      t-name : {Γ : Scope Ty} {i : ℕ} {x : Name} {t : Ty} → nearest x Γ ≡ some t → Typed Γ (name i x) t
-      t-whole : {Γ : Scope Ty} {i n : ℕ} → Typed Γ (literal i (whole n)) int
+    pub data TypedUnder : Scope Ty → Exp → Ty → Type 0 where
+      t-name : {Γ : Scope Ty} {i : ℕ} {x : Name} {t : Ty} → nearest x Γ ≡ some t → TypedUnder Γ (name i x) t
+      t-whole : {Γ : Scope Ty} {i n : ℕ} → TypedUnder Γ (literal i (whole n)) int
       -- S046
-      t-truth : {Γ : Scope Ty} {i : ℕ} {b : Bool} → Typed Γ (literal i (truth b)) bool
-      t-trivial : {Γ : Scope Ty} {i : ℕ} → Typed Γ (literal i trivial) unit
-      t-decimal : {Γ : Scope Ty} {i : ℕ} {x : Float} → Typed Γ (literal i (decimal x)) float
+      t-truth : {Γ : Scope Ty} {i : ℕ} {b : Bool} → TypedUnder Γ (literal i (truth b)) bool
+      t-trivial : {Γ : Scope Ty} {i : ℕ} → TypedUnder Γ (literal i trivial) unit
+      t-decimal : {Γ : Scope Ty} {i : ℕ} {x : Float} → TypedUnder Γ (literal i (decimal x)) float
       t-unary : {Γ : Scope Ty} {i : ℕ} {o : Unary} {e : Exp} {t u : Ty}
-          → Typed Γ e t → UnopType o t u → Typed Γ (unary i o e) u
+          → TypedUnder Γ e t → UnopTypeUnder σ o t u → TypedUnder Γ (unary i o e) u
       t-binary : {Γ : Scope Ty} {i : ℕ} {o : Binary} {e f : Exp} {t u v : Ty}
-          → Typed Γ e t → Typed Γ f u → BinopType o t u v → Typed Γ (binary i o e f) v
+          → TypedUnder Γ e t → TypedUnder Γ f u → BinopType o t u v → TypedUnder Γ (binary i o e f) v
       -- S051
-      t-follow : {Γ : Scope Ty} {i : ℕ} {e f : Exp} {t : Ty} → Typed Γ e unit → Typed Γ f t → Typed Γ (follow i e f) t
+      t-follow : {Γ : Scope Ty} {i : ℕ} {e f : Exp} {t : Ty} → TypedUnder Γ e unit → TypedUnder Γ f t
+          → TypedUnder Γ (follow i e f) t
       -- S054
-      t-group : {Γ : Scope Ty} {i : ℕ} {e : Exp} {t : Ty} → Typed Γ e t → Typed Γ (group i e) t
-      t-block : {Γ : Scope Ty} {i : ℕ} {e : Exp} {t : Ty} → Typed Γ e t → Typed Γ (block i e) t
+      t-group : {Γ : Scope Ty} {i : ℕ} {e : Exp} {t : Ty} → TypedUnder Γ e t → TypedUnder Γ (group i e) t
+      t-block : {Γ : Scope Ty} {i : ℕ} {e : Exp} {t : Ty} → TypedUnder Γ e t → TypedUnder Γ (block i e) t
       t-call : {Γ : Scope Ty} {i : ℕ} {f : Name} {es : Exps} {ts : List Ty} {t : Ty}
-          → TypedAll Γ es ts → nearest f Δ ≡ some record { takes = ts; gives = t } → Typed Γ (call i f es) t
+          → TypedAllUnder Γ es ts → nearest f Δ ≡ some record { takes = ts; gives = t } → TypedUnder Γ (call i f es) t
       t-bind : {Γ : Scope Ty} {i : ℕ} {x : Name} {e f : Exp} {t u : Ty}
-          → Typed Γ e t → Typed (push x t Γ) f u → Typed Γ (bind i x e f) u
+          → TypedUnder Γ e t → TypedUnder (push x t Γ) f u → TypedUnder Γ (bind i x e f) u
       -- S053
       t-branch : {Γ : Scope Ty} {i : ℕ} {c e f : Exp} {t : Ty}
-          → Typed Γ c bool → Typed Γ e t → Typed Γ f t → Typed Γ (branch i c e f) t
-      t-loop : {Γ : Scope Ty} {i : ℕ} {c e : Exp} → Typed Γ c bool → Typed Γ e unit → Typed Γ (loop i c e) unit
+          → TypedUnder Γ c bool → TypedUnder Γ e t → TypedUnder Γ f t → TypedUnder Γ (branch i c e f) t
+      t-loop : {Γ : Scope Ty} {i : ℕ} {c e : Exp} → TypedUnder Γ c bool → TypedUnder Γ e unit
+          → TypedUnder Γ (loop i c e) unit
       -- R12.5: its name is in sight in the body alone
       t-counted : {Γ : Scope Ty} {i : ℕ} {x : Name} {b : Bool} {es : Exps} {e : Exp} {ts : List Ty}
-          → TypedAll Γ es ts → Bounds ts → Typed (push x int Γ) e unit → Typed Γ (counted i x b es e) unit
+          → TypedAllUnder Γ es ts → Bounds ts → TypedUnder (push x int Γ) e unit
+          → TypedUnder Γ (counted i x b es e) unit
 
-    pub data TypedAll : Scope Ty → Exps → List Ty → Type 0 where
-      t-last : {Γ : Scope Ty} → TypedAll Γ last []
+    pub data TypedAllUnder : Scope Ty → Exps → List Ty → Type 0 where
+      t-last : {Γ : Scope Ty} → TypedAllUnder Γ last []
       t-more : {Γ : Scope Ty} {e : Exp} {es : Exps} {t : Ty} {ts : List Ty}
-          → Typed Γ e t → TypedAll Γ es ts → TypedAll Γ (more e es) (t ∷ ts)
+          → TypedUnder Γ e t → TypedAllUnder Γ es ts → TypedAllUnder Γ (more e es) (t ∷ ts)
 
 -- ---- functions and programs
-
--- `Takes Γ ps Γ′`: the parameters ps, one after another, are fit to be bound, and Γ′ is Γ with them
-pub data Takes : Scope Ty → List Param → Scope Ty → Type 0 where
-  takes-none : {Γ : Scope Ty} → Takes Γ [] Γ
-  takes-more : {Γ Γ′ : Scope Ty} {p : Param} {ps : List Param}
-      → size Γ < PARAMETERS → nearest (p .called) Γ ≡ none → refs (p .type) ≤ REFS
-      → Takes (push (p .called) (p .type) Γ) ps Γ′ → Takes Γ (p ∷ ps) Γ′
 
 abbrev pub sig : Def → Sig
 sig d = record { takes = map (λ (p : Param). p .type) (d .params); gives = d .result }
@@ -105,19 +102,54 @@ with-def Δ d = push (d .called) (sig d) Δ
 abbrev pub given : Scope Sig
 given = push PUTCHAR record { takes = int ∷ []; gives = int } empty
 
+module _ (σ : Sizes) where
+  -- `TakesUnder σ Γ ps Γ′`: the parameters ps, one after another, are fit to be bound, and Γ′ is Γ with them
+  pub data TakesUnder : Scope Ty → List Param → Scope Ty → Type 0 where
+    takes-none : {Γ : Scope Ty} → TakesUnder Γ [] Γ
+    takes-more : {Γ Γ′ : Scope Ty} {p : Param} {ps : List Param}
+        → size Γ < σ .parameters → nearest (p .called) Γ ≡ none → refs (p .type) ≤ σ .refs
+        → TakesUnder (push (p .called) (p .type) Γ) ps Γ′ → TakesUnder Γ (p ∷ ps) Γ′
+
+  abbrev pub RoomUnder : Scope Sig → Type 0
+  RoomUnder Δ = size Δ ≤ σ .functions
+
+  -- the function d is right, where Δ has the functions before it (S050: no name defined twice, no parameter named
+  -- twice)
+  pub data FineUnder (Δ : Scope Sig) (d : Def) : Type 0 where
+    fine : {Γ : Scope Ty}
+        → RoomUnder Δ → nearest (d .called) Δ ≡ none → TakesUnder empty (d .params) Γ → refs (d .result) ≤ σ .refs
+        → TypedUnder σ (with-def Δ d) Γ (d .body) (d .result) → FineUnder Δ d
+
+  pub data TypedFromUnder : Scope Sig → List Def → Exp → Ty → Type 0 where
+    typed-main : {Δ : Scope Sig} {e : Exp} {t : Ty} → TypedUnder σ Δ empty e t → TypedFromUnder Δ [] e t
+    typed-def : {Δ : Scope Sig} {d : Def} {ds : List Def} {e : Exp} {t : Ty}
+        → FineUnder Δ d → TypedFromUnder (with-def Δ d) ds e t → TypedFromUnder Δ (d ∷ ds) e t
+
+  abbrev pub HasTypeUnder : Program → Ty → Type 0
+  HasTypeUnder p t = TypedFromUnder given (p .defs) (p .main) t
+
+-- ---- under the box's sizes
+
+abbrev pub UnopType : Unary → Ty → Ty → Type 0
+UnopType = UnopTypeUnder BOX
+
+abbrev pub Typed : Scope Sig → Scope Ty → Exp → Ty → Type 0
+Typed = TypedUnder BOX
+
+abbrev pub TypedAll : Scope Sig → Scope Ty → Exps → List Ty → Type 0
+TypedAll = TypedAllUnder BOX
+
+abbrev pub Takes : Scope Ty → List Param → Scope Ty → Type 0
+Takes = TakesUnder BOX
+
 abbrev pub Room : Scope Sig → Type 0
-Room Δ = size Δ ≤ FUNCTIONS
+Room = RoomUnder BOX
 
--- the function d is right, where Δ has the functions before it (S050: no name defined twice, no parameter named twice)
-pub data Fine (Δ : Scope Sig) (d : Def) : Type 0 where
-  fine : {Γ : Scope Ty}
-      → Room Δ → nearest (d .called) Δ ≡ none → Takes empty (d .params) Γ → refs (d .result) ≤ REFS
-      → Typed (with-def Δ d) Γ (d .body) (d .result) → Fine Δ d
+abbrev pub Fine : Scope Sig → Def → Type 0
+Fine = FineUnder BOX
 
-pub data TypedFrom : Scope Sig → List Def → Exp → Ty → Type 0 where
-  typed-main : {Δ : Scope Sig} {e : Exp} {t : Ty} → Typed Δ empty e t → TypedFrom Δ [] e t
-  typed-def : {Δ : Scope Sig} {d : Def} {ds : List Def} {e : Exp} {t : Ty}
-      → Fine Δ d → TypedFrom (with-def Δ d) ds e t → TypedFrom Δ (d ∷ ds) e t
+abbrev pub TypedFrom : Scope Sig → List Def → Exp → Ty → Type 0
+TypedFrom = TypedFromUnder BOX
 
 abbrev pub HasType : Program → Ty → Type 0
-HasType p t = TypedFrom given (p .defs) (p .main) t
+HasType = HasTypeUnder BOX

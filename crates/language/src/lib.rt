@@ -4,11 +4,11 @@
 pub mod kinds;
 
 // Bytes of a source, tokens of it, nodes of its reading.
-pub const SOURCE: usize = 8192;
+pub const SOURCE: usize = 49152;
 
-pub const TOKENS: usize = 1024;
+pub const TOKENS: usize = 1360;
 
-pub const NODES: usize = 1024;
+pub const NODES: usize = 1360;
 
 // Functions of a program, parameters of a function, `ref` in a type.
 pub const FUNCTIONS: usize = 32;
@@ -24,8 +24,11 @@ pub const ACTIVE: usize = 512;
 
 pub const CELLS: usize = 1024;
 
+// Units that a pay sheet may count.
+pub const PAY_COUNT: u32 = 1000000;
+
 // Words of 32 bits of each lent memory.
-pub const TABLE: usize = 12288;
+pub const TABLE: usize = 16384;
 
 pub const WORK: usize = 16384;
 

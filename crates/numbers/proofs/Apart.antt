@@ -86,6 +86,8 @@ refusal-of Numbers.long-text = Refusal.LongText
 refusal-of Numbers.not-hexadecimal = Refusal.NotHexadecimal
 refusal-of Numbers.wrong-count = Refusal.WrongCount
 refusal-of Numbers.not-one-token = Refusal.NotOneToken
+refusal-of Numbers.endless-node = Refusal.EndlessNode
+refusal-of Numbers.many-units = Refusal.ManyUnits
 
 pub refusal-back : (y : Refusal) → refusal-of (refusal-meant y) ≡ y
 refusal-back Refusal.ShortMemory = refl
@@ -99,6 +101,8 @@ refusal-back Refusal.LongText = refl
 refusal-back Refusal.NotHexadecimal = refl
 refusal-back Refusal.WrongCount = refl
 refusal-back Refusal.NotOneToken = refl
+refusal-back Refusal.EndlessNode = refl
+refusal-back Refusal.ManyUnits = refl
 
 -- two that mean the same are the same
 pub same-refusal : (y z : Refusal) → refusal-meant y ≡ refusal-meant z → y ≡ z

@@ -45,6 +45,8 @@ refusal-meant Refusal.LongText = Numbers.long-text
 refusal-meant Refusal.NotHexadecimal = Numbers.not-hexadecimal
 refusal-meant Refusal.WrongCount = Numbers.wrong-count
 refusal-meant Refusal.NotOneToken = Numbers.not-one-token
+refusal-meant Refusal.EndlessNode = Numbers.endless-node
+refusal-meant Refusal.ManyUnits = Numbers.many-units
 
 abbrev pub stop-meant : Stop → State.Stop
 stop-meant Stop.NoUnit = State.no-unit

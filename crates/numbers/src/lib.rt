@@ -49,6 +49,9 @@ pub enum Refusal {
     NotHexadecimal,
     WrongCount,
     NotOneToken,
+    // A pay sheet may go on without end, or may use too many units.
+    EndlessNode,
+    ManyUnits,
 }
 
 // Why a run stops before it has a value.
@@ -114,6 +117,8 @@ pub fn of_refusal(refusal: Refusal) -> u32
         Refusal::NotHexadecimal => 60,
         Refusal::WrongCount => 61,
         Refusal::NotOneToken => 62,
+        Refusal::EndlessNode => 43,
+        Refusal::ManyUnits => 45,
     }
 }
 

@@ -24,6 +24,8 @@ pub fn help() -> u32 {
         b"slip RATE-SHEET PICKS RATE         sets pay(PICKS,RATE) under the sheet and runs it
 slip check RATE-SHEET              checks a rate sheet, with a call under it, and runs nothing
 slip check --whole SHEET           checks a whole sheet as it stands
+slip profile RATE-SHEET            tells how many units a rate sheet can use, if it must finish; runs nothing
+slip profile --whole SHEET         the same of a whole sheet as it stands
 slip run SHEET [ALLOWANCE]         runs a whole sheet as it stands, by default with 1000000 units
 slip write SHEET                   writes a whole sheet out again, its tokens with one space between them
 slip store SHEET                   writes the stored form of a whole sheet, lines of hexadecimal
@@ -39,7 +41,7 @@ slip --version                     editions and sizes
 --                                 no word behind it is an option
 
 A sheet is a file; - is standard input. PICKS and RATE are 0 to 2147483647, ALLOWANCE is 0 to 1000000.
-A stored sheet may have 65535 bytes; its places are told as lines, counted from 1.
+A stored sheet may have 131071 bytes; its places are told as lines, counted from 1.
 A book is a sheet of functions, pay among them. A line of a shift is a loom in 4 digits of hexadecimal, then
 picks and rate in 8 each, in capitals, and a line feed; there may be 65536 of them. ALLOWANCE is for each.
 What the sheet prints goes to standard output, the report to standard error; the report of a shift goes to

@@ -10,6 +10,7 @@ mod arguments;
 mod help;
 mod input;
 mod output;
+mod profiling;
 mod reports;
 mod serve;
 mod shifts;

@@ -2,6 +2,8 @@
 use crate::output;
 use clerk::asked::Asked;
 use clerk::causes::Cause;
+use clerk::counts::Limits;
+use clerk::counts::unlimited;
 use clerk::ends;
 use clerk::ends::End;
 use clerk::machines;
@@ -61,9 +63,9 @@ fn slip(printed: &[u8]) -> bool {
 }
 
 // The report for people; true if it could be written.
-fn tell(file: &[u8], sheet: &[u8], places: Places, allowance: u64, end: End) -> bool {
+fn tell(file: &[u8], sheet: &[u8], places: Places, limits: Limits, end: End) -> bool {
     let mut text = [0u8; TEXT];
-    let n = people::report(&mut text, file, sheet, places, allowance, end);
+    let n = people::report(&mut text, file, sheet, places, limits, end);
     output::tell(&text[..n])
 }
 
@@ -73,11 +75,11 @@ fn record(
     file: &[u8],
     sheet: &[u8],
     places: Places,
-    allowance: u64,
+    limits: Limits,
     end: End,
 ) -> bool {
     let mut text = [0u8; TEXT];
-    let n = machines::report(&mut text, status, file, sheet, places, allowance, end);
+    let n = machines::report(&mut text, status, file, sheet, places, limits, end);
     keep(asked, &text[..n])
 }
 
@@ -87,7 +89,7 @@ fn told(
     sheet: &[u8],
     places: Places,
     printed: &[u8],
-    allowance: u64,
+    limits: Limits,
     end: End,
 ) -> u32 {
     let mut file = io::buffer();
@@ -96,30 +98,22 @@ fn told(
         return failed(asked);
     }
     let mut status = ends::status(end);
-    if !tell(&file[..length], sheet, places, allowance, end) {
+    if !tell(&file[..length], sheet, places, limits, end) {
         status = 2;
     }
-    if !record(
-        asked,
-        status,
-        &file[..length],
-        sheet,
-        places,
-        allowance,
-        end,
-    ) {
+    if !record(asked, status, &file[..length], sheet, places, limits, end) {
         status = 2;
     }
     status
 }
 
-pub fn report(asked: Asked, sheet: &[u8], printed: &[u8], allowance: u64, end: End) -> u32 {
-    told(asked, sheet, Places::Bytes, printed, allowance, end)
+pub fn report(asked: Asked, sheet: &[u8], printed: &[u8], limits: Limits, end: End) -> u32 {
+    told(asked, sheet, Places::Bytes, printed, limits, end)
 }
 
 // The same of a stored sheet, of which no bytes are shown.
-pub fn report_stored(asked: Asked, printed: &[u8], allowance: u64, end: End) -> u32 {
-    told(asked, b"", Places::Lines, printed, allowance, end)
+pub fn report_stored(asked: Asked, printed: &[u8], limits: Limits, end: End) -> u32 {
+    told(asked, b"", Places::Lines, printed, limits, end)
 }
 
 fn record_shift(
@@ -142,7 +136,7 @@ fn warn(asked: Asked, over: bool) -> bool {
         let mut file = io::buffer();
         let length = os::arg(asked.second, &mut file);
         let end = End::Refused(Cause::ManyLines, 0);
-        return tell(&file[..length], b"", Places::Bytes, 0, end);
+        return tell(&file[..length], b"", Places::Bytes, unlimited(), end);
     }
     true
 }

@@ -3,6 +3,7 @@ use crate::help;
 use crate::input;
 use crate::input::Sheet;
 use crate::output;
+use crate::profiling;
 use crate::reports;
 use crate::shifts;
 use crate::storing;
@@ -10,6 +11,9 @@ use clerk::asked::Asked;
 use clerk::asked::Task;
 use clerk::asked::Wanted;
 use clerk::causes::Cause;
+use clerk::counts;
+use clerk::counts::Limits;
+use clerk::counts::unlimited;
 use clerk::ends;
 use clerk::ends::End;
 use clerk::tasks;
@@ -36,12 +40,12 @@ fn examine_called(edition: u32, sheet: &[u8], call: &[u8]) -> PairChecked {
 }
 
 // Reports what came of a run; what was printed stands first in `out`.
-fn ran(asked: Asked, sheet: &[u8], out: &[u8], allowance: u64, end: End) -> u32 {
+fn ran(asked: Asked, sheet: &[u8], out: &[u8], limits: Limits, end: End) -> u32 {
     let n = input::within(ends::printed(end), out);
-    reports::report(asked, sheet, &out[..n], allowance, end)
+    reports::report(asked, sheet, &out[..n], limits, end)
 }
 
-// Runs a whole sheet, and reports.
+// Runs a whole sheet, and reports, with what its profile says.
 fn run_whole(asked: Asked, edition: u32, sheet: &[u8], allowance: u64) -> u32 {
     let mut words = [0u32; TABLE];
     let mut cells = [0u32; WORK];
@@ -50,10 +54,17 @@ fn run_whole(asked: Asked, edition: u32, sheet: &[u8], allowance: u64) -> u32 {
     let work: &mut [u32] = &mut cells;
     let out: &mut [u8] = &mut bytes;
     let answer = grumpy::run(edition, sheet, table, work, out, allowance);
-    ran(asked, sheet, out, allowance, ends::of_run(answer))
+    let most = counts::known(grumpy::profile(edition, sheet, table));
+    ran(
+        asked,
+        sheet,
+        out,
+        Limits { allowance, most },
+        ends::of_run(answer),
+    )
 }
 
-// Runs a rate sheet with the call under it, and reports.
+// The same of a rate sheet with the call under it.
 fn run_called(asked: Asked, edition: u32, sheet: &[u8], call: &[u8]) -> u32 {
     let mut words = [0u32; TABLE];
     let mut cells = [0u32; WORK];
@@ -62,13 +73,10 @@ fn run_called(asked: Asked, edition: u32, sheet: &[u8], call: &[u8]) -> u32 {
     let work: &mut [u32] = &mut cells;
     let out: &mut [u8] = &mut bytes;
     let answer = grumpy::run_pair(edition, sheet, call, table, work, out, ALLOWANCE);
-    ran(
-        asked,
-        sheet,
-        out,
-        ALLOWANCE,
-        ends::of_called_run(sheet.len(), answer),
-    )
+    let most = counts::called_known(grumpy::profile_pair(edition, sheet, call, table));
+    let allowance = ALLOWANCE;
+    let end = ends::of_called_run(sheet.len(), answer);
+    ran(asked, sheet, out, Limits { allowance, most }, end)
 }
 
 fn check_whole(asked: Asked, edition: u32) -> u32 {
@@ -78,7 +86,7 @@ fn check_whole(asked: Asked, edition: u32) -> u32 {
     };
     let n = input::within(length, &bytes);
     let end = ends::of_check(examine(edition, &bytes[..n]));
-    reports::report(asked, &bytes[..n], b"", 0, end)
+    reports::report(asked, &bytes[..n], b"", unlimited(), end)
 }
 
 fn run(asked: Asked, edition: u32) -> u32 {
@@ -99,11 +107,11 @@ pub fn wrote(asked: Asked, edition: u32, sheet: &[u8], out: &[u8], answer: Wrote
         Wrote::Written(long) => {
             let n = input::within(long, out);
             let end = ends::of_check(examine(edition, sheet));
-            reports::report(asked, sheet, &out[..n], 0, end)
+            reports::report(asked, sheet, &out[..n], unlimited(), end)
         }
         Wrote::Refused(why, place) => {
             let end = End::Refused(Cause::Refused(why), place);
-            reports::report(asked, sheet, b"", 0, end)
+            reports::report(asked, sheet, b"", unlimited(), end)
         }
     }
 }
@@ -137,31 +145,41 @@ fn judge(edition: u32, sheet: &[u8], call: &[u8]) -> End {
     end
 }
 
-// Checks the sheet with the call under it and, if it is to be paid, runs both.
-fn pay_or_check(asked: Asked, edition: u32, sheet: &[u8], call: &[u8], paid: bool) -> u32 {
+// What is done with a rate sheet and the call under it, if they pass.
+enum Called {
+    Checked,
+    Counted,
+    Paid,
+}
+
+// Checks the sheet with the call under it and, if they pass, does what is asked.
+fn serve_called(asked: Asked, edition: u32, sheet: &[u8], call: &[u8], what: Called) -> u32 {
     let end = judge(edition, sheet, call);
-    if paid {
-        if ends::status(end) == 0 {
-            return run_called(asked, edition, sheet, call);
-        }
+    if ends::status(end) != 0 {
+        return reports::report(asked, sheet, b"", unlimited(), end);
     }
-    reports::report(asked, sheet, b"", 0, end)
+    match what {
+        Called::Checked => reports::report(asked, sheet, b"", unlimited(), end),
+        Called::Counted => profiling::count_called(asked, edition, sheet, call),
+        Called::Paid => run_called(asked, edition, sheet, call),
+    }
 }
 
 // Sets the call under the sheet, as a second sheet; it has no more than 26 bytes.
-fn call(asked: Asked, edition: u32, sheet: &[u8], picks: u32, rate: u32, paid: bool) -> u32 {
+fn call(asked: Asked, edition: u32, sheet: &[u8], picks: u32, rate: u32, what: Called) -> u32 {
     let mut bytes = [0u8; 64];
     let n = page::call(&mut bytes, picks as u64, rate as u64);
-    pay_or_check(asked, edition, sheet, &bytes[..n], paid)
+    serve_called(asked, edition, sheet, &bytes[..n], what)
 }
 
-fn check(asked: Asked, edition: u32) -> u32 {
+// Every call counts the same, whatever its numbers are.
+fn examine_rates(asked: Asked, edition: u32, what: Called) -> u32 {
     let mut bytes = [0u8; SOURCE + 1];
     let Sheet::Bytes(length) = input::load(asked.sheet, &mut bytes) else {
         return reports::failed(asked);
     };
     let n = input::within(length, &bytes);
-    call(asked, edition, &bytes[..n], 0, 0, false)
+    call(asked, edition, &bytes[..n], 0, 0, what)
 }
 
 fn pay(asked: Asked, edition: u32) -> u32 {
@@ -176,14 +194,14 @@ fn pay(asked: Asked, edition: u32) -> u32 {
         return reports::failed(asked);
     };
     let n = input::within(length, &bytes);
-    call(asked, edition, &bytes[..n], picks, rate, true)
+    call(asked, edition, &bytes[..n], picks, rate, Called::Paid)
 }
 
 // An edition that is neither 1 nor 2 is refused by the box.
 fn perform(asked: Asked, task: Task, edition: u32) -> u32 {
     match task {
         Task::Pay => pay(asked, edition),
-        Task::Check => check(asked, edition),
+        Task::Check => examine_rates(asked, edition, Called::Checked),
         Task::CheckWhole => check_whole(asked, edition),
         Task::Run => run(asked, edition),
         Task::Write => write(asked, edition),
@@ -191,6 +209,8 @@ fn perform(asked: Asked, task: Task, edition: u32) -> u32 {
         Task::CheckStored => storing::check(asked, edition),
         Task::RunStored => storing::run(asked, edition),
         Task::Shift => shifts::shift(asked, edition),
+        Task::Profile => examine_rates(asked, edition, Called::Counted),
+        Task::ProfileWhole => profiling::whole(asked, edition),
         Task::Help => help::help(),
         Task::Version => help::version(),
     }
@@ -219,9 +239,9 @@ pub fn serve(asked: Asked) -> u32 {
         Wanted::NoEdition => unclear(asked, b"slip: --edition wants a number behind it, 1 or 2\n"),
         Wanted::Unclear => unclear(
             asked,
-            b"use: slip RATE-SHEET PICKS RATE, slip check [--whole] SHEET, slip run SHEET [ALLOWANCE],
-     slip write SHEET, slip store SHEET, slip check-stored FILE, slip run-stored FILE [ALLOWANCE],
-     slip shift BOOK LINES [ALLOWANCE]
+            b"use: slip RATE-SHEET PICKS RATE, slip check [--whole] SHEET, slip profile [--whole] SHEET,
+     slip run SHEET [ALLOWANCE], slip write SHEET, slip store SHEET, slip check-stored FILE,
+     slip run-stored FILE [ALLOWANCE], slip shift BOOK LINES [ALLOWANCE]
 ",
         ),
     }

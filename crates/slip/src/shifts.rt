@@ -5,6 +5,7 @@ use crate::output;
 use crate::reports;
 use crate::serve::examine;
 use clerk::asked::Asked;
+use clerk::counts::unlimited;
 use clerk::ends;
 use language::SOURCE;
 use language::TABLE;
@@ -41,7 +42,7 @@ fn refuse(asked: Asked, edition: u32, book: &[u8], why: Why, spot: Spot) -> u32 
     if ends::unread_shift(why) {
         end = ends::completed(end, ends::unread(examine(edition, book)));
     }
-    reports::report(asked, book, b"", 0, end)
+    reports::report(asked, book, b"", unlimited(), end)
 }
 
 // Says how far it is, where a stride was passed.
@@ -54,7 +55,7 @@ fn progress(before: u32, after: u32) {
 }
 
 // A piece was fed; behind a line too many no byte changes anything.
-fn fed(state: State) -> Fed {
+fn after(state: State) -> Fed {
     if state.over {
         return Fed {
             reading: Reading::End,
@@ -83,7 +84,7 @@ fn feed(
     match told {
         Admission::Granted => {
             progress(state.sums.lines, next.sums.lines);
-            fed(next)
+            after(next)
         }
         Admission::Refused(why, spot) => Fed {
             reading: Reading::Refused(why, spot),
@@ -146,7 +147,8 @@ fn pieces(
     let mut left = PIECES;
     while 0 < left {
         let fed = read(fd, edition, book, bytes, table, work, out, state);
-        if !goes_on(fed.reading) {
+        let reading = fed.reading;
+        if !goes_on(reading) {
             return fed;
         }
         let next = fed.state;

@@ -5,17 +5,25 @@ use crate::output;
 use crate::reports;
 use crate::serve;
 use clerk::asked::Asked;
+use clerk::counts::Limits;
+use clerk::counts::Most;
+use clerk::counts::unlimited;
 use clerk::ends;
+use clerk::ends::End;
 use grumpy::answers::Checked;
 use language::SOURCE;
 use language::TABLE;
 use language::WORK;
 use page::Number;
 
+// Bytes of a stored sheet that are read at the most: the form of every sheet has fewer, two for each of its bytes, an LF
+// for each token and the count's line.
+const STORED: usize = 131072;
+
 // Writes the stored form of a whole sheet, if it passes. There is room for that of every sheet.
 fn form(asked: Asked, edition: u32, sheet: &[u8]) -> u32 {
     let mut words = [0u32; TABLE];
-    let mut bytes = io::large_buffer();
+    let mut bytes = [0u8; STORED];
     let table: &mut [u32] = &mut words;
     let out: &mut [u8] = &mut bytes;
     let answer = grumpy::store(edition, sheet, table, out);
@@ -40,7 +48,9 @@ fn load(word: usize, bytes: &mut [u8]) -> Sheet {
     if length < bytes.len() {
         return Sheet::Bytes(length);
     }
-    output::tell(b"slip: the stored sheet has more than 65535 bytes, and no sheet needs so many\n");
+    output::tell(
+        b"slip: the stored sheet has more than 131071 bytes, and no sheet needs so many\n",
+    );
     Sheet::Nothing
 }
 
@@ -51,16 +61,21 @@ fn examine(edition: u32, stored: &[u8]) -> Checked {
 }
 
 pub fn check(asked: Asked, edition: u32) -> u32 {
-    let mut bytes = io::large_buffer();
+    let mut bytes = [0u8; STORED];
     let Sheet::Bytes(length) = load(asked.sheet, &mut bytes) else {
         return reports::failed(asked);
     };
     let n = input::within(length, &bytes);
     let end = ends::of_check(examine(edition, &bytes[..n]));
-    reports::report_stored(asked, b"", 0, end)
+    reports::report_stored(asked, b"", unlimited(), end)
 }
 
-// Runs it, and reports; what was printed stands first in `out`.
+// Reports a run; what was printed stands first in `out`.
+fn ran(asked: Asked, out: &[u8], limits: Limits, end: End) -> u32 {
+    let n = input::within(ends::printed(end), out);
+    reports::report_stored(asked, &out[..n], limits, end)
+}
+
 fn run_lines(asked: Asked, edition: u32, stored: &[u8], allowance: u64) -> u32 {
     let mut words = [0u32; TABLE];
     let mut cells = [0u32; WORK];
@@ -69,13 +84,15 @@ fn run_lines(asked: Asked, edition: u32, stored: &[u8], allowance: u64) -> u32 {
     let work: &mut [u32] = &mut cells;
     let out: &mut [u8] = &mut bytes;
     let answer = grumpy::run_stored(edition, stored, table, work, out, allowance);
-    let end = ends::of_run(answer);
-    let n = input::within(ends::printed(end), out);
-    reports::report_stored(asked, &out[..n], allowance, end)
+    let limits = Limits {
+        allowance,
+        most: Most::Unknown,
+    };
+    ran(asked, out, limits, ends::of_run(answer))
 }
 
 pub fn run(asked: Asked, edition: u32) -> u32 {
-    let mut bytes = io::large_buffer();
+    let mut bytes = [0u8; STORED];
     let Number::Of(allowance) = input::allowance(asked.second) else {
         return reports::failed(asked);
     };

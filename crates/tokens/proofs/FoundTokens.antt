@@ -23,7 +23,7 @@ use Rattle.language.specs.Text.{byte, is-digit, is-digit-of, Content, Form, Pie
 use Rattle.language.specs.Text.Content.{token}
 use Rattle.language.specs.Text.Flaw.{long-float}
 use Rattle.language.specs.Text.Form.{blank, line, comment, unended, name, number, based, float, mark}
-use Rattle.language.specs.Text.Wrong.{long}
+use Rattle.language.specs.Text.WrongUnder.{long}
 use Rattle.language.specs.Tokens.{Spelling, Vocabulary, Token, spelled, NUMBER, FLOAT-NUMBER}
 use Rattle.layout.specs.Names.{float-bits}
 use Rattle.tokens.proofs.Editions.{other-words, other-marks}

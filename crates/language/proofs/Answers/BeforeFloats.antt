@@ -5,22 +5,22 @@ use mathlib.Core.List.{List}
 use mathlib.Core.Option.{Option, none, some}
 use mathlib.Core.Path.{_≡_, _∙_, ap, subst}
 use Prim.Native.Nat.{ℕ, _≤_}
-use Rattle.language.specs.Sizes.{ALLOWANCE, TABLE}
+use Rattle.language.specs.Sizes.{Sizes, ALLOWANCE}
 use Rattle.language.specs.Tokens.{EDITION-1, Token}
 use Rattle.language.specs.Trees.{Ty, Program}
 use Rattle.language.specs.State.{Outcome, value}
 use Rattle.language.specs.Meaning.{type-number, run}
 use Rattle.language.specs.Numbers.{passed}
-use Rattle.language.specs.Answers.{Origin, TextGives, from-text, Passes, Ending, ending, CheckReport, check-report, Checked}
-use Rattle.language.specs.Answers.{check-passed, Lent, Enough, RunReport, after-run, Ran, run-ended}
-use Rattle.language.specs.Pairs.{joined, from-pair}
+use Rattle.language.specs.Answers.{Origin, TextGivesUnder, text-under, PassesUnder, Ending, ending, CheckReport, check-report, CheckedUnder}
+use Rattle.language.specs.Answers.{check-passed, Lent, EnoughUnder, RunReport, after-run, RanUnder, run-ended}
+use Rattle.language.specs.Pairs.{joined, pair-under}
 use Rattle.language.proofs.Types.OldTypes.{OldHasType, still-has-type}
 use Rattle.language.proofs.Grammar.BeforeFloats.{ReadBefore, bare-before}
 use Rattle.language.proofs.Meaning.OldMeaning.{old-run}
 use Rattle.language.proofs.Meaning.SameAsBefore.{Plain, Same, same-value, same-stop, same-stuck, same-run, same-outcome}
 use Rattle.language.proofs.Text.Marks.{laws-1}
 use Rattle.language.proofs.Text.PointBefore.{without}
-use Rattle.language.proofs.Answers.Origins.{Lawful, text-lawful}
+use Rattle.language.proofs.Answers.Origins.{LawfulUnder, text-lawful}
 use Rattle.language.proofs.Answers.Endings.{some-ending}
 use Rattle.language.proofs.Answers.OneAnswer.{one-checked, one-ran}
 use Rattle.language.proofs.Answers.Pairs.{pair-lawful}
@@ -40,13 +40,13 @@ plain-ending allowance same-stuck x = subst PlainEnd x tt
 
 -- ---- what passed
 
-pub record PassedBefore (source : List ℕ) (ts : List Token) (p : Program) (t : Ty) : Type 0 where
-  pub given : TextGives (without EDITION-1) source ts
+pub record PassedBefore (σ : Sizes) (source : List ℕ) (ts : List Token) (p : Program) (t : Ty) : Type 0 where
+  pub given : TextGivesUnder σ (without EDITION-1) source ts
   pub reads : ReadBefore ts p
-  pub typed : OldHasType p t
+  pub typed : OldHasType σ p t
 
-module _ {source : List ℕ} {ts : List Token} {p : Program} {t : Ty} (old : PassedBefore source ts p t) where
-  given-now : TextGives EDITION-1 source ts
+module _ {σ : Sizes} {source : List ℕ} {ts : List Token} {p : Program} {t : Ty} (old : PassedBefore σ source ts p t) where
+  given-now : TextGivesUnder σ EDITION-1 source ts
   given-now = record {
     short = old .given .short;
     splits = before-points source .splits (old .reads .reads) (old .given .splits);
@@ -67,20 +67,20 @@ module _ {source : List ℕ} {ts : List Token} {p : Program} {t : Ty} (old : Pas
 
   -- ---- in an origin that has the text: a sheet by itself, or two that are joined
 
-  module _ {P : Type 0} {o : Origin P} (law : Lawful o) (has : TextGives EDITION-1 source ts → o .gives ts) where
-    pub passes-now : Passes o ts p t
+  module _ {P : Type 0} {o : Origin P} (law : LawfulUnder σ o) (has : TextGivesUnder σ EDITION-1 source ts → o .gives ts) where
+    pub passes-now : PassesUnder σ o ts p t
     passes-now = record {
       given = has given-now;
       proper = record { reads = old .reads .reads; typed = still-has-type (old .typed) };
     }
 
     -- check tells the type
-    pub checked-now : {table : ℕ} {r : CheckReport P} → TABLE ≤ table → Checked o table r
+    pub checked-now : {table : ℕ} {r : CheckReport P} → σ .table ≤ table → CheckedUnder σ o table r
         → r ≡ check-report passed (o .nowhere) (type-number t)
     checked-now {table} room a = one-checked law table a (check-passed room passes-now)
 
     -- run tells the end that the program had by the meaning as it was
-    pub ran-now : {l : Lent} {r : RunReport P} {bs : List ℕ} → Enough l → l .allowance ≤ ALLOWANCE → Ran o l r bs
+    pub ran-now : {l : Lent} {r : RunReport P} {bs : List ℕ} → EnoughUnder σ l → l .allowance ≤ ALLOWANCE → RanUnder σ o l r bs
         → (e : Ending) × EndedSo (l .allowance) (l .output) e × (r ≡ after-run o ts t e) × (bs ≡ e .printed)
     ran-now {l} enough fair a =
         let x = some-ending p t (l .allowance) (l .output) (still-has-type (old .typed)) in
@@ -90,8 +90,9 @@ module _ {source : List ℕ} {ts : List Token} {p : Program} {t : Ty} (old : Pas
 -- ---- a sheet by itself, and two sheets
 
 module _ {ts : List Token} {p : Program} {t : Ty} where
-  pub sheet-passes : {source : List ℕ} → PassedBefore source ts p t → Passes (from-text EDITION-1 source) ts p t
+  pub sheet-passes : {σ : Sizes} {source : List ℕ} → PassedBefore σ source ts p t → PassesUnder σ (text-under σ EDITION-1 source) ts p t
   sheet-passes {source} old = passes-now old (text-lawful laws-1 source) (λ g. g)
 
-  pub pair-passes : {first second : List ℕ} → PassedBefore (joined first second) ts p t → Passes (from-pair EDITION-1 first second) ts p t
+  pub pair-passes : {σ : Sizes} {first second : List ℕ} → PassedBefore σ (joined first second) ts p t
+      → PassesUnder σ (pair-under σ EDITION-1 first second) ts p t
   pair-passes {first} {second} old = passes-now old (pair-lawful laws-1 first second) (λ g. g)

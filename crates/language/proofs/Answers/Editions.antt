@@ -8,17 +8,19 @@ use mathlib.Core.Path.{_≡_, refl, sym, subst, _∙_}
 use Prim.Native.Nat.{ℕ}
 use native.Mathlib.Omega.{arith}
 use lib.Dec.{eqb}
+use Rattle.language.specs.Sizes.{Sizes}
 use Rattle.language.specs.Tokens.{Vocabulary, EDITION-1, EDITION-2, Token, spell, same, spelled, NAME}
 use Rattle.language.specs.Text.{word-kind}
 use Rattle.language.specs.Trees.{Ty, Program}
 use Rattle.language.specs.Numbers.{Refusal, no-edition, no-reading, long-text}
-use Rattle.language.specs.Answers.{Origin, from-text, keeps, Passes, Refused, by-origin, by-tokens, CheckReport, Check, RunReport, Run}
-use Rattle.language.specs.Writing.{WriteReport, Write, Store}
-use Rattle.language.specs.Pairs.{from-pair}
-use Rattle.language.specs.Edition.{edition, EditionDenies, unknown, known, EditionGives, in-edition, text-in, pair-in}
+use Rattle.language.specs.Answers.{Origin, text-under, keeps, PassesUnder, RefusedUnder, by-origin, by-tokens, CheckReport, CheckUnder}
+use Rattle.language.specs.Answers.{RunReport, RunUnder}
+use Rattle.language.specs.Writing.{WriteReport, WriteUnder, StoreUnder}
+use Rattle.language.specs.Pairs.{pair-under}
+use Rattle.language.specs.Edition.{edition, EditionDenies, unknown, known, EditionGives, in-edition, text-in-under, pair-in-under, text-in, pair-in}
 use Rattle.language.proofs.Text.Marks.{Laws, laws-1, laws-2}
 use Rattle.language.proofs.Answers.Follow.{Follows, passes-follow, refused-follow, check-follow, run-follow, write-follow, store-follow, follows-back}
-use Rattle.language.proofs.Answers.Origins.{Lawful, text-lawful}
+use Rattle.language.proofs.Answers.Origins.{LawfulUnder, Lawful, of-profile, text-lawful}
 use Rattle.language.proofs.Answers.Pairs.{pair-lawful}
 
 -- ---- the numbers
@@ -41,7 +43,7 @@ named-laws n {v} e = by (eqb n 1) (eqb n 2) e
 
 -- ---- lawful
 
-module _ {P : Type 0} (n : ℕ) (o : Vocabulary → Origin P) (law : (v : Vocabulary) → edition n ≡ some v → Lawful (o v)) where
+module _ {σ : Sizes} {P : Type 0} (n : ℕ) (o : Vocabulary → Origin P) (law : (v : Vocabulary) → edition n ≡ some v → LawfulUnder σ (o v)) where
   pub edition-one-list : (ts us : List Token) → EditionGives n o ts → EditionGives n o us → ts ≡ us
   edition-one-list ts us a b =
       let e = one-edition n (b .named) (a .named) in
@@ -83,7 +85,11 @@ module _ {P : Type 0} (n : ℕ) (o : Vocabulary → Origin P) (law : (v : Vocabu
   edition-not-written r x (unknown a) e = let z : _≡_ {A = ℕ} 0 1 = cc in omega arith
   edition-not-written r x (known {voc = v} a d) e = law v a .not-written x (subst (λ (q : Refusal). o v .denies q x) e d)
 
-  unfoldable pub edition-lawful : Lawful (in-edition n o)
+  pub edition-not-profiled : (r : Refusal) (x : P) → EditionDenies n o r x → of-profile r ≡ false
+  edition-not-profiled r x (unknown a) = refl
+  edition-not-profiled r x (known {voc = v} a d) = law v a .not-profiled r x d
+
+  unfoldable pub edition-lawful : LawfulUnder σ (in-edition n o)
   unfolding some-in
   edition-lawful = record {
     one-list = edition-one-list;
@@ -95,29 +101,38 @@ module _ {P : Type 0} (n : ℕ) (o : Vocabulary → Origin P) (law : (v : Vocabu
     not-memory = edition-not-memory;
     not-reading = λ x a. edition-not-reading no-reading x a refl;
     not-written = λ x a. edition-not-written long-text x a refl;
+    not-profiled = edition-not-profiled;
   }
 
 -- a text and two sheets, whatever number is named
-unfoldable pub text-in-lawful : (n : ℕ) (source : List ℕ) → Lawful (text-in n source)
+unfoldable pub text-in-lawful-under : {σ : Sizes} (n : ℕ) (source : List ℕ) → LawfulUnder σ (text-in-under σ n source)
 unfolding edition-lawful text-lawful
-text-in-lawful n source = edition-lawful n _ λ v e. text-lawful (named-laws n e) source
+text-in-lawful-under n source = edition-lawful n _ λ v e. text-lawful (named-laws n e) source
+
+pub pair-in-lawful-under : {σ : Sizes} (n : ℕ) (first second : List ℕ) → LawfulUnder σ (pair-in-under σ n first second)
+pair-in-lawful-under n first second = edition-lawful n _ λ v e. pair-lawful (named-laws n e) first second
+
+-- under the box's sizes
+unfoldable pub text-in-lawful : (n : ℕ) (source : List ℕ) → Lawful (text-in n source)
+unfolding text-in-lawful-under
+text-in-lawful n source = text-in-lawful-under n source
 
 pub pair-in-lawful : (n : ℕ) (first second : List ℕ) → Lawful (pair-in n first second)
-pair-in-lawful n first second = edition-lawful n _ λ v e. pair-lawful (named-laws n e) first second
+pair-in-lawful n first second = pair-in-lawful-under n first second
 
 -- ---- a number that names none
 
 -- nothing passes, and 42 is all that is refused, whatever the sheet is
 module _ {P : Type 0} (n : ℕ) (o : Vocabulary → Origin P) (e : edition n ≡ none) where
-  pub is-refused : Refused (in-edition n o) no-edition (o EDITION-1 .nowhere)
+  pub is-refused : {σ : Sizes} → RefusedUnder σ (in-edition n o) no-edition (o EDITION-1 .nowhere)
   is-refused = by-origin (unknown e)
 
-  pub only-42 : {r : Refusal} {x : P} → Refused (in-edition n o) r x → (r ≡ no-edition) × (x ≡ o EDITION-1 .nowhere)
+  pub only-42 : {σ : Sizes} {r : Refusal} {x : P} → RefusedUnder σ (in-edition n o) r x → (r ≡ no-edition) × (x ≡ o EDITION-1 .nowhere)
   only-42 (by-origin (unknown a)) = (refl, refl)
   only-42 (by-origin (known a d)) = absurd (none-some (sym e ∙ a))
   only-42 (by-tokens g d) = absurd (none-some (sym e ∙ g .named))
 
-  pub none-passes : {ts : List Token} {p : Program} {t : Ty} → Passes (in-edition n o) ts p t → ⊥
+  pub none-passes : {σ : Sizes} {ts : List Token} {p : Program} {t : Ty} → PassesUnder σ (in-edition n o) ts p t → ⊥
   none-passes x = none-some (sym e ∙ x .given .named)
 
 -- ---- a known number
@@ -127,10 +142,10 @@ pub record Alike {P : Type 0} (o : Vocabulary → Origin P) : Type 0 where
   pub nowhere : (v : Vocabulary) → o v .nowhere ≡ o EDITION-1 .nowhere
   pub at : (v : Vocabulary) (ts : List Token) (i : ℕ) → o v .at ts i ≡ o EDITION-1 .at ts i
 
-pub text-alike : (source : List ℕ) → Alike (λ voc. from-text voc source)
+pub text-alike : {σ : Sizes} (source : List ℕ) → Alike (λ voc. text-under σ voc source)
 text-alike source = record { nowhere = λ v. refl; at = λ v ts i. refl }
 
-pub pair-alike : (first second : List ℕ) → Alike (λ voc. from-pair voc first second)
+pub pair-alike : {σ : Sizes} (first second : List ℕ) → Alike (λ voc. pair-under σ voc first second)
 pair-alike first second = record { nowhere = λ v. refl; at = λ v ts i. refl }
 
 module _ {P : Type 0} (n : ℕ) {o : Vocabulary → Origin P} (alike : Alike o) {v : Vocabulary} (e : edition n ≡ some v) where
@@ -143,30 +158,30 @@ module _ {P : Type 0} (n : ℕ) {o : Vocabulary → Origin P} (alike : Alike o) 
     at = alike .at v;
   }
 
-  pub passes-in : {ts : List Token} {p : Program} {t : Ty} → Passes (o v) ts p t → Passes (in-edition n o) ts p t
+  pub passes-in : {σ : Sizes} {ts : List Token} {p : Program} {t : Ty} → PassesUnder σ (o v) ts p t → PassesUnder σ (in-edition n o) ts p t
   passes-in = passes-follow named-follows
 
-  pub refused-in : {r : Refusal} {x : P} → Refused (o v) r x → Refused (in-edition n o) r x
+  pub refused-in : {σ : Sizes} {r : Refusal} {x : P} → RefusedUnder σ (o v) r x → RefusedUnder σ (in-edition n o) r x
   refused-in = refused-follow named-follows
 
-  pub check-in : {table table′ : List ℕ} {r : CheckReport P} → Check (o v) table r table′ → Check (in-edition n o) table r table′
+  pub check-in : {σ : Sizes} {table table′ : List ℕ} {r : CheckReport P} → CheckUnder σ (o v) table r table′ → CheckUnder σ (in-edition n o) table r table′
   check-in = check-follow named-follows
 
-  pub run-in : {table work output table′ work′ output′ : List ℕ} {allowance : ℕ} {r : RunReport P}
-      → Run (o v) table work output allowance r table′ work′ output′
-      → Run (in-edition n o) table work output allowance r table′ work′ output′
+  pub run-in : {σ : Sizes} {table work output table′ work′ output′ : List ℕ} {allowance : ℕ} {r : RunReport P}
+      → RunUnder σ (o v) table work output allowance r table′ work′ output′
+      → RunUnder σ (in-edition n o) table work output allowance r table′ work′ output′
   run-in = run-follow named-follows
 
-  pub write-in : {table output table′ output′ : List ℕ} {r : WriteReport P} → Write (o v) table output r table′ output′
-      → Write (in-edition n o) table output r table′ output′
+  pub write-in : {σ : Sizes} {table output table′ output′ : List ℕ} {r : WriteReport P} → WriteUnder σ (o v) table output r table′ output′
+      → WriteUnder σ (in-edition n o) table output r table′ output′
   write-in = write-follow named-follows
 
-  pub store-in : {table output table′ output′ : List ℕ} {r : WriteReport P} → Store (o v) table output r table′ output′
-      → Store (in-edition n o) table output r table′ output′
+  pub store-in : {σ : Sizes} {table output table′ output′ : List ℕ} {r : WriteReport P} → StoreUnder σ (o v) table output r table′ output′
+      → StoreUnder σ (in-edition n o) table output r table′ output′
   store-in = store-follow named-follows
 
 -- and its vocabulary what it answers
-pub named-back : {P : Type 0} (n : ℕ) {o : Vocabulary → Origin P} → Alike o → ((v : Vocabulary) → Laws v → Lawful (o v))
+pub named-back : {σ : Sizes} {P : Type 0} (n : ℕ) {o : Vocabulary → Origin P} → Alike o → ((v : Vocabulary) → Laws v → LawfulUnder σ (o v))
     → {v : Vocabulary} → edition n ≡ some v → Follows (in-edition n o) (o v)
 named-back n alike law {v} e =
     follows-back (law v (named-laws n e)) (edition-lawful n _ λ w h. law w (named-laws n h)) (named-follows n alike e)
@@ -182,14 +197,16 @@ unfolding edition
 two-is = refl
 
 -- in edition 1 a text and two sheets answer what they answered before there were editions, and nothing else
-pub text-as-it-was : (source : List ℕ) → Follows (from-text EDITION-1 source) (text-in 1 source) × Follows (text-in 1 source) (from-text EDITION-1 source)
+pub text-as-it-was : {σ : Sizes} (source : List ℕ)
+    → Follows (text-under σ EDITION-1 source) (text-in-under σ 1 source) × Follows (text-in-under σ 1 source) (text-under σ EDITION-1 source)
 text-as-it-was source = (
   named-follows 1 (text-alike source) one-is,
   named-back 1 (text-alike source) (λ v laws. text-lawful laws source) one-is,
 )
 
-pub pair-as-it-was : (first second : List ℕ)
-    → Follows (from-pair EDITION-1 first second) (pair-in 1 first second) × Follows (pair-in 1 first second) (from-pair EDITION-1 first second)
+pub pair-as-it-was : {σ : Sizes} (first second : List ℕ)
+    → Follows (pair-under σ EDITION-1 first second) (pair-in-under σ 1 first second)
+    × Follows (pair-in-under σ 1 first second) (pair-under σ EDITION-1 first second)
 pair-as-it-was first second = (
   named-follows 1 (pair-alike first second) one-is,
   named-back 1 (pair-alike first second) (λ v laws. pair-lawful laws first second) one-is,

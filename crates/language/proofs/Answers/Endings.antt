@@ -2,8 +2,9 @@
 use mathlib.Core.Option.{Option, none, some}
 use mathlib.Core.Path.{_≡_, refl, subst}
 use Prim.Native.Nat.{ℕ}
+use Rattle.language.specs.Sizes.{Sizes}
 use Rattle.language.specs.Trees.{Ty, Program}
-use Rattle.language.specs.Types.{HasType}
+use Rattle.language.specs.Types.{HasTypeUnder}
 use Rattle.language.specs.State.{Outcome, value, stop, stuck}
 use Rattle.language.specs.Meaning.{run}
 use Rattle.language.specs.Numbers.{Told, passed, refused, stopped}
@@ -29,7 +30,7 @@ was-run allowance stuck = tt
 pub is-run : {e : Ending} (allowance : ℕ) (m : Outcome) → ending allowance m ≡ some e → IsRun (e .told)
 is-run allowance m x = subst WasRun x (was-run allowance m)
 
-module _ (p : Program) (t : Ty) (allowance room : ℕ) (typed : HasType p t) where
+module _ {σ : Sizes} (p : Program) (t : Ty) (allowance room : ℕ) (typed : HasTypeUnder σ p t) where
   ends : (m : Outcome) → run p allowance room ≡ m → (e : Ending) × (ending allowance m ≡ some e)
   unfolding ending
   ends (value v s) x = (_, refl)

@@ -13,7 +13,7 @@ use lib.Ieee as Ieee
 use lib.IntN.{ℤ, pos, negsuc}
 use lib.ListN.{length}
 use borrow.Author.Tests.{leb-true}
-use Rattle.language.specs.Sizes.{ALLOWANCE, TABLE, WORK}
+use Rattle.language.specs.Sizes.{BOX, ALLOWANCE, TABLE, WORK}
 use Rattle.language.specs.Tokens.{spell, same, spelled, entry, kind-at, value-at, spelling-at, place-at, Token}
 use Rattle.language.specs.Decimals.{digits-from, behind-point, float-of}
 use Rattle.language.specs.Trees.{Ty, refs, size, nearest, own}
@@ -60,7 +60,7 @@ module _ (n allowance output : ℕ) where
     abbrev Right : Answer → Type 0
     Right a = Ran (text-in n s) lent (a .report) (a .printed)
 
-    answered-right : allowance ≤ ALLOWANCE → (f : Fate ℕ) → Comes (text-in n s) f → Right (answered f)
+    answered-right : allowance ≤ ALLOWANCE → (f : Fate ℕ) → Comes BOX (text-in n s) f → Right (answered f)
     unfolding answered at-end
     answered-right fair (fails r x) a = run-refused record { table = omega arith; work = omega arith } fair a
     answered-right fair (Origins.passes ts p t) a =

@@ -4,15 +4,16 @@ use mathlib.Core.List.{List}
 use mathlib.Core.Logic.{_⊎_, inl, inr}
 use mathlib.Core.Path.{_≡_, sym, subst, _∙_}
 use Prim.Native.Nat.{ℕ}
+use Rattle.language.specs.Sizes.{Sizes}
 use Rattle.language.specs.Tokens.{Token}
 use Rattle.language.specs.Trees.{Ty, Program}
 use Rattle.language.specs.Numbers.{Refusal}
-use Rattle.language.specs.Answers.{Origin, Spot, at, nowhere, place-in, Passes, Refused, by-origin, by-tokens}
-use Rattle.language.specs.Answers.{CheckReport, check-report, Checked, check-short, check-refused, check-passed, Check}
-use Rattle.language.specs.Answers.{RunReport, Lent, Ran, run-short, run-large, run-refused, run-ended, Run}
-use Rattle.language.specs.Writing.{WriteReport, write-report, Wrote, write-short, write-refused, write-long, write-passed, Write}
-use Rattle.language.specs.Writing.{Stores, store-short, store-refused, store-long, store-passed, Store}
-use Rattle.language.proofs.Answers.Origins.{Lawful}
+use Rattle.language.specs.Answers.{Origin, Spot, at, nowhere, place-in, PassesUnder, RefusedUnder, by-origin, by-tokens}
+use Rattle.language.specs.Answers.{CheckReport, check-report, CheckedUnder, check-short, check-refused, check-passed, CheckUnder}
+use Rattle.language.specs.Answers.{RunReport, Lent, RanUnder, run-short, run-large, run-refused, run-ended, RunUnder}
+use Rattle.language.specs.Writing.{WriteReport, write-report, WroteUnder, write-short, write-refused, write-long, write-passed, WriteUnder}
+use Rattle.language.specs.Writing.{StoresUnder, store-short, store-refused, store-long, store-passed, StoreUnder}
+use Rattle.language.proofs.Answers.Origins.{LawfulUnder}
 
 pub record Follows {P : Type 0} (o q : Origin P) : Type 0 where
   pub gives : {ts : List Token} → o .gives ts → q .gives ts
@@ -25,26 +26,26 @@ module _ {P : Type 0} {o q : Origin P} (f : Follows o q) where
   same-spot ts nowhere = sym (f .nowhere)
   same-spot ts (at i) = sym (f .at ts i)
 
-  pub passes-follow : {ts : List Token} {p : Program} {t : Ty} → Passes o ts p t → Passes q ts p t
+  pub passes-follow : {σ : Sizes} {ts : List Token} {p : Program} {t : Ty} → PassesUnder σ o ts p t → PassesUnder σ q ts p t
   passes-follow x = record { given = f .gives (x .given); proper = x .proper }
 
-  pub refused-follow : {r : Refusal} {x : P} → Refused o r x → Refused q r x
+  pub refused-follow : {σ : Sizes} {r : Refusal} {x : P} → RefusedUnder σ o r x → RefusedUnder σ q r x
   refused-follow (by-origin d) = by-origin (f .denies d)
-  refused-follow (by-tokens {ts} {r} {s} g d) = subst (Refused q r) (same-spot ts s) (by-tokens (f .gives g) d)
+  refused-follow {σ} (by-tokens {ts} {r} {s} g d) = subst (RefusedUnder σ q r) (same-spot ts s) (by-tokens (f .gives g) d)
 
   -- ---- check
 
-  check-at : {table : ℕ} (r : CheckReport P) {x y : P} → x ≡ y → Checked q table (check-report (r .told) x (r .type))
-      → Checked q table (check-report (r .told) y (r .type))
-  check-at {table} r e a = subst (λ (x : P). Checked q table (check-report (r .told) x (r .type))) e a
+  check-at : {σ : Sizes} {table : ℕ} (r : CheckReport P) {x y : P} → x ≡ y → CheckedUnder σ q table (check-report (r .told) x (r .type))
+      → CheckedUnder σ q table (check-report (r .told) y (r .type))
+  check-at {σ} {table} r e a = subst (λ (x : P). CheckedUnder σ q table (check-report (r .told) x (r .type))) e a
 
-  pub checked-follow : {table : ℕ} {r : CheckReport P} → Checked o table r → Checked q table r
+  pub checked-follow : {σ : Sizes} {table : ℕ} {r : CheckReport P} → CheckedUnder σ o table r → CheckedUnder σ q table r
   checked-follow {r = r} (check-short h) = check-at r (sym (f .nowhere)) (check-short h)
   checked-follow (check-refused h x) = check-refused h (refused-follow x)
   checked-follow {r = r} (check-passed h x) = check-at r (sym (f .nowhere)) (check-passed h (passes-follow x))
 
   -- its contract, the table left included
-  pub check-follow : {table table′ : List ℕ} {r : CheckReport P} → Check o table r table′ → Check q table r table′
+  pub check-follow : {σ : Sizes} {table table′ : List ℕ} {r : CheckReport P} → CheckUnder σ o table r table′ → CheckUnder σ q table r table′
   check-follow x = record { answer = checked-follow (x .answer); table-left = x .table-left }
 
   -- ---- run
@@ -52,10 +53,10 @@ module _ {P : Type 0} {o q : Origin P} (f : Follows o q) where
   abbrev at-place : P → RunReport P → RunReport P
   at-place x r = record { told = r .told; place = x; type = r .type; value = r .value; units = r .units; printed = r .printed }
 
-  run-at : {l : Lent} (r : RunReport P) {bs : List ℕ} {x y : P} → x ≡ y → Ran q l (at-place x r) bs → Ran q l (at-place y r) bs
-  run-at {l} r {bs} e a = subst (λ (x : P). Ran q l (at-place x r) bs) e a
+  run-at : {σ : Sizes} {l : Lent} (r : RunReport P) {bs : List ℕ} {x y : P} → x ≡ y → RanUnder σ q l (at-place x r) bs → RanUnder σ q l (at-place y r) bs
+  run-at {σ} {l} r {bs} e a = subst (λ (x : P). RanUnder σ q l (at-place x r) bs) e a
 
-  pub ran-follow : {l : Lent} {r : RunReport P} {bs : List ℕ} → Ran o l r bs → Ran q l r bs
+  pub ran-follow : {σ : Sizes} {l : Lent} {r : RunReport P} {bs : List ℕ} → RanUnder σ o l r bs → RanUnder σ q l r bs
   ran-follow {r = r} (run-short h) = run-at r (sym (f .nowhere)) (run-short h)
   ran-follow {r = r} (run-large h a) = run-at r (sym (f .nowhere)) (run-large h a)
   ran-follow (run-refused h a x) = run-refused h a (refused-follow x)
@@ -63,8 +64,8 @@ module _ {P : Type 0} {o q : Origin P} (f : Follows o q) where
       run-at r (same-spot ts (e .spot)) (run-ended h a (passes-follow x) z)
 
   -- its contract, memories and output included
-  pub run-follow : {table work output table′ work′ output′ : List ℕ} {allowance : ℕ} {r : RunReport P}
-      → Run o table work output allowance r table′ work′ output′ → Run q table work output allowance r table′ work′ output′
+  pub run-follow : {σ : Sizes} {table work output table′ work′ output′ : List ℕ} {allowance : ℕ} {r : RunReport P}
+      → RunUnder σ o table work output allowance r table′ work′ output′ → RunUnder σ q table work output allowance r table′ work′ output′
   run-follow x = record {
     printed = x .printed;
     answer = ran-follow (x .answer);
@@ -75,36 +76,36 @@ module _ {P : Type 0} {o q : Origin P} (f : Follows o q) where
 
   -- ---- write
 
-  write-at : {table output : ℕ} (r : WriteReport P) {bs : List ℕ} {x y : P} → x ≡ y
-      → Wrote q table output (write-report (r .told) x (r .written)) bs → Wrote q table output (write-report (r .told) y (r .written)) bs
-  write-at {table} {output} r {bs} e a = subst (λ (x : P). Wrote q table output (write-report (r .told) x (r .written)) bs) e a
+  write-at : {σ : Sizes} {table output : ℕ} (r : WriteReport P) {bs : List ℕ} {x y : P} → x ≡ y
+      → WroteUnder σ q table output (write-report (r .told) x (r .written)) bs → WroteUnder σ q table output (write-report (r .told) y (r .written)) bs
+  write-at {σ} {table} {output} r {bs} e a = subst (λ (x : P). WroteUnder σ q table output (write-report (r .told) x (r .written)) bs) e a
 
-  pub wrote-follow : {table output : ℕ} {r : WriteReport P} {bs : List ℕ} → Wrote o table output r bs → Wrote q table output r bs
+  pub wrote-follow : {σ : Sizes} {table output : ℕ} {r : WriteReport P} {bs : List ℕ} → WroteUnder σ o table output r bs → WroteUnder σ q table output r bs
   wrote-follow {r = r} (write-short h) = write-at r (sym (f .nowhere)) (write-short h)
   wrote-follow (write-refused h x) = write-refused h (refused-follow x)
   wrote-follow {r = r} (write-long h x k) = write-at r (sym (f .nowhere)) (write-long h (passes-follow x) k)
   wrote-follow {r = r} (write-passed h x k) = write-at r (sym (f .nowhere)) (write-passed h (passes-follow x) k)
 
   -- its contract, table and output included
-  pub write-follow : {table output table′ output′ : List ℕ} {r : WriteReport P} → Write o table output r table′ output′
-      → Write q table output r table′ output′
+  pub write-follow : {σ : Sizes} {table output table′ output′ : List ℕ} {r : WriteReport P} → WriteUnder σ o table output r table′ output′
+      → WriteUnder σ q table output r table′ output′
   write-follow x = record { text = x .text; answer = wrote-follow (x .answer); table-left = x .table-left; output-left = x .output-left }
 
   -- ---- store
 
-  store-at : {table output : ℕ} (r : WriteReport P) {bs : List ℕ} {x y : P} → x ≡ y
-      → Stores q table output (write-report (r .told) x (r .written)) bs → Stores q table output (write-report (r .told) y (r .written)) bs
-  store-at {table} {output} r {bs} e a = subst (λ (x : P). Stores q table output (write-report (r .told) x (r .written)) bs) e a
+  store-at : {σ : Sizes} {table output : ℕ} (r : WriteReport P) {bs : List ℕ} {x y : P} → x ≡ y
+      → StoresUnder σ q table output (write-report (r .told) x (r .written)) bs → StoresUnder σ q table output (write-report (r .told) y (r .written)) bs
+  store-at {σ} {table} {output} r {bs} e a = subst (λ (x : P). StoresUnder σ q table output (write-report (r .told) x (r .written)) bs) e a
 
-  pub stores-follow : {table output : ℕ} {r : WriteReport P} {bs : List ℕ} → Stores o table output r bs → Stores q table output r bs
+  pub stores-follow : {σ : Sizes} {table output : ℕ} {r : WriteReport P} {bs : List ℕ} → StoresUnder σ o table output r bs → StoresUnder σ q table output r bs
   stores-follow {r = r} (store-short h) = store-at r (sym (f .nowhere)) (store-short h)
   stores-follow (store-refused h x) = store-refused h (refused-follow x)
   stores-follow {r = r} (store-long h x k) = store-at r (sym (f .nowhere)) (store-long h (passes-follow x) k)
   stores-follow {r = r} (store-passed h x k) = store-at r (sym (f .nowhere)) (store-passed h (passes-follow x) k)
 
   -- its contract, table and output included
-  pub store-follow : {table output table′ output′ : List ℕ} {r : WriteReport P} → Store o table output r table′ output′
-      → Store q table output r table′ output′
+  pub store-follow : {σ : Sizes} {table output table′ output′ : List ℕ} {r : WriteReport P} → StoreUnder σ o table output r table′ output′
+      → StoreUnder σ q table output r table′ output′
   store-follow x = record { form = x .form; answer = stores-follow (x .answer); table-left = x .table-left; output-left = x .output-left }
 
 -- ---- further, and the other way
@@ -117,7 +118,7 @@ follows-on f g = record {
   at = λ ts i. f .at ts i ∙ g .at ts i;
 }
 
-module _ {P : Type 0} {o q : Origin P} (law : Lawful o) (law′ : Lawful q) (f : Follows o q) where
+module _ {σ : Sizes} {P : Type 0} {o q : Origin P} (law : LawfulUnder σ o) (law′ : LawfulUnder σ q) (f : Follows o q) where
   gives-back : {ts : List Token} → q .gives ts → ((us : List Token) × o .gives us) ⊎ ((r : Refusal) × (x : P) × o .denies r x) → o .gives ts
   gives-back {ts} g (inl (us, h)) = subst (o .gives) (law′ .one-list us ts (f .gives h) g) h
   gives-back {ts} g (inr (r, x, d)) = absurd (law′ .never-both ts r x g (f .denies d))

@@ -1,11 +1,19 @@
 -- Further examples, beside the paper's: one at least for each operator, each rule and each number that those leave out, so
 -- that constants and arithmetic are pinned by proof. The rows are the answers of an interpreter that was written from the
--- paper alone. Left out, as too large to compute: 14 and 55. Of no text with memory enough are 40 and 41 told.
+-- paper alone. Left out, as too large to compute: 10, 14 and 55; of 10 there is a law
+-- at the end. Of no text with memory enough are 40 and 41 told.
 use mathlib.Core.List.{List, [], _∷_, _++_}
-use mathlib.Core.Path.{refl}
-use Prim.Native.Nat.{ℕ, zero, suc}
+use mathlib.Core.Option.{some}
+use mathlib.Core.Path.{_≡_, refl}
+use Prim.Native.Nat.{ℕ, _<_}
 use Prim.Native.String.{String}
 use lib.IntN.{pos, negsuc}
+use lib.ListN.{length}
+use Rattle.language.specs.Sizes.{Sizes}
+use Rattle.language.specs.Tokens.{Vocabulary}
+use Rattle.language.specs.Numbers.{long-source}
+use Rattle.language.specs.Answers.{RefusedUnder, by-origin, too-long}
+use Rattle.language.specs.Edition.{edition, known, text-in-under}
 use Rattle.language.proofs.Answers.Examples.{Example, example, All, worked-out, by-computation}
 
 -- with an output of this length
@@ -208,14 +216,10 @@ types =
     ∷ example "true+x" 100 35 5 0 (pos 0) 0 []
     ∷ []
 
--- sizes: 10, 30 for a 33rd function, 51
+-- sizes: 30 for a 33rd function, 51
 abbrev joined : String → String → String
 joined String.[] t = t
 joined (String._∷_ c s) t = String._∷_ c (joined s t)
-
-abbrev blanks : ℕ → String
-blanks zero = String.[]
-blanks (suc n) = joined " " (blanks n)
 
 abbrev functions : String
 functions =
@@ -227,8 +231,7 @@ functions =
 
 abbrev pub sizes : List Example
 sizes =
-    example (blanks 8193) 100 10 0 0 (pos 0) 0 []
-    ∷ example functions 100 30 480 0 (pos 0) 0 []
+    example functions 100 30 480 0 (pos 0) 0 []
     ∷ example "def f():int{f()}f()" 1000 51 12 1 (pos 0) 513 []
     ∷ []
 
@@ -241,3 +244,8 @@ further =
 pub all-further : All further
 unfolding worked-out
 all-further = by-computation further refl refl
+
+-- and 10 at 0 for every text longer than a source may be, under any sizes
+pub long-refused : {σ : Sizes} {n : ℕ} {voc : Vocabulary} {source : List ℕ} → edition n ≡ some voc → σ .source < length source
+    → RefusedUnder σ (text-in-under σ n source) long-source 0
+long-refused e h = by-origin (known e (too-long h))

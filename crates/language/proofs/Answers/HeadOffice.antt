@@ -5,16 +5,17 @@ use mathlib.Core.Path.{_≡_, refl, sym, ap, subst, _∙_}
 use Prim.Native.Nat.{ℕ, _+_, _-_, _≤_, _<_}
 use native.Mathlib.Omega.{arith}
 use lib.ListN.{length}
-use Rattle.language.specs.Sizes.{ALLOWANCE, TABLE, WORK}
+use Rattle.language.specs.Sizes.{Sizes, BOX, ALLOWANCE, WORK}
 use Rattle.language.specs.Tokens.{Token}
 use Rattle.language.specs.Trees.{Ty, Program}
 use Rattle.language.specs.Grammar.{Reading}
-use Rattle.language.specs.Types.{HasType}
+use Rattle.language.specs.Types.{HasTypeUnder}
 use Rattle.language.specs.State.{Stop, no-unit, Value, State, Outcome, value, stop, stuck}
 use Rattle.language.specs.Meaning.{run, type-number}
 use Rattle.language.specs.Numbers.{Told, passed, refused, stopped, number, stop-number}
-use Rattle.language.specs.Answers.{Origin, nowhere, at, Passes, Ending, ended, ending, CheckReport, Checked, check-short, check-refused}
-use Rattle.language.specs.Answers.{check-passed, Check, Lent, Enough, RunReport, after-run, Ran, run-short, run-large, run-refused, run-ended, Run}
+use Rattle.language.specs.Answers.{Origin, nowhere, at, PassesUnder, Ending, ended, ending, CheckReport, CheckedUnder, check-short, check-refused}
+use Rattle.language.specs.Answers.{check-passed, CheckUnder, Lent, EnoughUnder, RunReport, after-run, RanUnder, run-short, run-large}
+use Rattle.language.specs.Answers.{run-refused, run-ended, RunUnder}
 use Rattle.language.proofs.Meaning.CellTypes.{none-some, some-one}
 use Rattle.language.proofs.Meaning.NeverStuck as NeverStuck
 use Rattle.language.proofs.Meaning.Strict.{strict-run, strict-same}
@@ -22,7 +23,7 @@ use Rattle.language.proofs.Meaning.ValueTypes.{OfType, value-of-type}
 use Rattle.language.proofs.Meaning.StopPlaces.{stop-inside}
 use Rattle.language.proofs.Meaning.MoreUnits.{plus, same-value, same-stop}
 use Rattle.language.proofs.Answers.Endings.{some-ending}
-use Rattle.language.proofs.Answers.Origins.{Lawful}
+use Rattle.language.proofs.Answers.Origins.{LawfulUnder}
 use Rattle.language.proofs.Answers.OneAnswer.{one-ran, one-run}
 
 -- ---- R11.2: never stuck
@@ -37,14 +38,14 @@ pub data Ends {P : Type 0} (o : Origin P) (ts : List Token) (p : Program) (t : T
       → 50 ≤ stop-number w → stop-number w ≤ 58 → Ends o ts p t allowance room r
 
 -- What is so of a sheet for which check gave the report c.
-pub record Sound {P : Type 0} (o : Origin P) (c : CheckReport P) : Type 0 where
+pub record SoundUnder (σ : Sizes) {P : Type 0} (o : Origin P) (c : CheckReport P) : Type 0 where
   -- the sheet's tokens, their reading and its type, which is the one that check told
   pub tokens : List Token
   pub program : Program
   pub type : Ty
   pub given : o .gives tokens
   pub reads : Reading tokens program
-  pub typed : HasType program type
+  pub typed : HasTypeUnder σ program type
   pub type-told : c .type ≡ type-number type
   -- whatever is allowed and however long the output is, its meaning meets no operand of a wrong kind, no name without a
   -- binding and no argument that is missing: each of these is `stuck`, and what is stuck stays so to the end of the run
@@ -53,8 +54,12 @@ pub record Sound {P : Type 0} (o : Origin P) (c : CheckReport P) : Type 0 where
   pub none-unmet : (allowance room : ℕ) → strict-run program allowance room ≡ run program allowance room
   -- with the memory asked for and an allowance up to the limit, run answers with the same type, and a value or a stop
   pub ends : {table work output : List ℕ} {allowance : ℕ} {r : RunReport P} {table′ work′ output′ : List ℕ}
-      → TABLE ≤ length table → WORK ≤ length work → allowance ≤ ALLOWANCE → Run o table work output allowance r table′ work′ output′
+      → σ .table ≤ length table → WORK ≤ length work → allowance ≤ ALLOWANCE → RunUnder σ o table work output allowance r table′ work′ output′
       → (r .type ≡ c .type) × Ends o tokens program type allowance (length output) r
+
+-- under the box's sizes
+abbrev pub Sound : {P : Type 0} → Origin P → CheckReport P → Type 0
+Sound o = SoundUnder BOX o
 
 stop-first : (w : Stop) → 50 ≤ stop-number w
 stop-first Stop.no-unit = omega arith
@@ -78,7 +83,7 @@ stop-last Stop.not-a-byte = omega arith
 stop-last Stop.output-full = omega arith
 stop-last Stop.zero-step = omega arith
 
-module _ {P : Type 0} {o : Origin P} (law : Lawful o) {ts : List Token} {p : Program} {t : Ty} (a : Passes o ts p t) where
+module _ {σ : Sizes} {P : Type 0} {o : Origin P} (law : LawfulUnder σ o) {ts : List Token} {p : Program} {t : Ty} (a : PassesUnder σ o ts p t) where
   -- a program that passed is run to the end of its meaning
   passed-ends : (allowance room : ℕ) {e : Ending} (m : Outcome) → run p allowance room ≡ m → ending allowance m ≡ some e
       → Ends o ts p t allowance room (after-run o ts t e)
@@ -93,7 +98,7 @@ module _ {P : Type 0} {o : Origin P} (law : Lawful o) {ts : List Token} {p : Pro
       with-stop x k (sym (ap (λ (e : Ending). e .told) z)) (sym (ap (λ (e : Ending). after-run o ts t e .place) z)) (stop-first w) (stop-last w)
   passed-ends allowance room stuck x y = absurd (none-some y)
 
-  ran-ends : {l : Lent} {r : RunReport P} {bs : List ℕ} → Enough l → l .allowance ≤ ALLOWANCE → Ran o l r bs
+  ran-ends : {l : Lent} {r : RunReport P} {bs : List ℕ} → EnoughUnder σ l → l .allowance ≤ ALLOWANCE → RanUnder σ o l r bs
       → (r .type ≡ type-number t) × Ends o ts p t (l .allowance) (l .output) r
   ran-ends {l} {r} {bs} enough fair x =
       let z = some-ending p t (l .allowance) (l .output) (a .proper .typed) in
@@ -101,7 +106,7 @@ module _ {P : Type 0} {o : Origin P} (law : Lawful o) {ts : List Token} {p : Pro
       let k = passed-ends (l .allowance) (l .output) (run p (l .allowance) (l .output)) refl (z .1) in
       (ap (λ (r : RunReport P). r .type) (e .0), subst (Ends o ts p t (l .allowance) (l .output)) (sym (e .0)) k)
 
-  sound : (c : CheckReport P) → c .type ≡ type-number t → Sound o c
+  sound : (c : CheckReport P) → c .type ≡ type-number t → SoundUnder σ o c
   sound c told = record {
     tokens = ts;
     program = p;
@@ -117,14 +122,14 @@ module _ {P : Type 0} {o : Origin P} (law : Lawful o) {ts : List Token} {p : Pro
         (k .0 ∙ sym told, k .1);
   }
 
-module _ {P : Type 0} {o : Origin P} (law : Lawful o) where
-  checked-sound : {table : ℕ} {c : CheckReport P} → Checked o table c → c .told ≡ passed → Sound o c
+module _ {σ : Sizes} {P : Type 0} {o : Origin P} (law : LawfulUnder σ o) where
+  checked-sound : {table : ℕ} {c : CheckReport P} → CheckedUnder σ o table c → c .told ≡ passed → SoundUnder σ o c
   checked-sound (check-short h) e = let z : _≡_ {A = ℕ} 0 1 = cc in absurd (omega arith)
   checked-sound (check-refused h a) e = let z : _≡_ {A = ℕ} 0 1 = cc in absurd (omega arith)
   checked-sound (check-passed h a) e = sound law a _ refl
 
   -- Of every sheet that passed.
-  pub passed-sound : {table table′ : List ℕ} {c : CheckReport P} → Check o table c table′ → c .told ≡ passed → Sound o c
+  pub passed-sound : {table table′ : List ℕ} {c : CheckReport P} → CheckUnder σ o table c table′ → c .told ≡ passed → SoundUnder σ o c
   passed-sound a e = checked-sound (a .answer) e
 
 -- ---- R11.3: more units change nothing
@@ -155,8 +160,8 @@ abbrev with-allowance : ℕ → Lent → Lent
 with-allowance n l = record { table = l .table; work = l .work; output = l .output; allowance = n }
 
 module _ {P : Type 0} {o : Origin P} where
-  more-ran : {l : Lent} {r : RunReport P} {bs : List ℕ} (many : ℕ) → l .allowance ≤ many → many ≤ ALLOWANCE → Ran o l r bs
-      → (number (r .told) ≡ 50 → ⊥) → Ran o (with-allowance many l) r bs
+  more-ran : {σ : Sizes} {l : Lent} {r : RunReport P} {bs : List ℕ} (many : ℕ) → l .allowance ≤ many → many ≤ ALLOWANCE → RanUnder σ o l r bs
+      → (number (r .told) ≡ 50 → ⊥) → RanUnder σ o (with-allowance many l) r bs
   more-ran many h k (run-short a) n = run-short a
   more-ran many h k (run-large e a) n = absurd (omega arith)
   more-ran many h k (run-refused e a x) n = run-refused record { table = e .table; work = e .work } k x
@@ -166,8 +171,8 @@ module _ {P : Type 0} {o : Origin P} where
       run-ended record { table = g .table; work = g .work } k x (subst (λ (m : ℕ). ending m (run p m (l .output)) ≡ some e) z w)
 
   -- An answer other than 50 is right for any larger allowance up to the limit, and so is all that was left.
-  pub right-for-more : {table work output : List ℕ} {few many : ℕ} {r : RunReport P} {t′ w′ o′ : List ℕ} → few ≤ many → many ≤ ALLOWANCE
-      → Run o table work output few r t′ w′ o′ → (number (r .told) ≡ 50 → ⊥) → Run o table work output many r t′ w′ o′
+  pub right-for-more : {σ : Sizes} {table work output : List ℕ} {few many : ℕ} {r : RunReport P} {t′ w′ o′ : List ℕ} → few ≤ many → many ≤ ALLOWANCE
+      → RunUnder σ o table work output few r t′ w′ o′ → (number (r .told) ≡ 50 → ⊥) → RunUnder σ o table work output many r t′ w′ o′
   right-for-more h k a n = record {
     printed = a .printed;
     answer = more-ran _ h k (a .answer) n;
@@ -178,8 +183,8 @@ module _ {P : Type 0} {o : Origin P} where
 
 -- Of two runs that are lent the same, of which the one with the smaller allowance did not end in 50: one report (number,
 -- place, type, value, units and how many bytes were printed), every byte of the output, and both memories as they are left.
-pub more-units : {P : Type 0} {o : Origin P} → Lawful o → {table work output : List ℕ} {few many : ℕ} {r q : RunReport P}
+pub more-units : {σ : Sizes} {P : Type 0} {o : Origin P} → LawfulUnder σ o → {table work output : List ℕ} {few many : ℕ} {r q : RunReport P}
     {t′ w′ o′ t″ w″ o″ : List ℕ} → few ≤ many → many ≤ ALLOWANCE
-    → Run o table work output few r t′ w′ o′ → Run o table work output many q t″ w″ o″ → (number (r .told) ≡ 50 → ⊥)
+    → RunUnder σ o table work output few r t′ w′ o′ → RunUnder σ o table work output many q t″ w″ o″ → (number (r .told) ≡ 50 → ⊥)
     → (r ≡ q) × (o′ ≡ o″) × (t′ ≡ t″) × (w′ ≡ w″)
 more-units law h k a b n = let e = one-run law (right-for-more h k a n) b in (e .0, e .3, e .1, e .2)

@@ -4,7 +4,7 @@ use mathlib.Core.List.{List}
 use mathlib.Core.Path.{_≡_}
 use Prim.Native.Nat.{ℕ, _≤_}
 use native.Mathlib.Omega.{arith}
-use Rattle.language.specs.Sizes.{NODES}
+use Rattle.language.specs.Sizes.{Sizes, BOX}
 use Rattle.language.specs.Tokens.{Token}
 use Rattle.language.specs.Text as Text
 use Rattle.language.specs.Trees.{Program, program-nodes}
@@ -13,10 +13,11 @@ use Rattle.language.specs.Faults as Faults
 use Rattle.language.specs.State as State
 use Rattle.language.specs.Numbers.{Refusal, short-memory, large-allowance, no-edition, long-source, text, no-reading, types, long-text}
 use Rattle.language.specs.Numbers.{not-hexadecimal, wrong-count, not-one-token}
+use Rattle.language.specs.Numbers.{endless-node, many-units}
 use Rattle.language.specs.Numbers.{Told, passed, refused, stopped, number, flaw-number, reason-number, stop-number}
 use Rattle.language.specs.Answers.{Origin}
 use Rattle.language.proofs.Grammar.FewNodes.{never-too-large}
-use Rattle.language.proofs.Answers.Origins.{Lawful}
+use Rattle.language.proofs.Answers.Origins.{LawfulUnder}
 
 -- the number that is out of use
 abbrev pub GONE : ℕ
@@ -72,9 +73,15 @@ not-again (refused long-text) e = omega arith
 not-again (refused not-hexadecimal) e = omega arith
 not-again (refused wrong-count) e = omega arith
 not-again (refused not-one-token) e = omega arith
+not-again (refused endless-node) e = omega arith
+not-again (refused many-units) e = omega arith
 not-again (stopped s) e = omega (arith, stop-not s)
 
 -- and none needs it
-pub never-needed : {P : Type 0} {o : Origin P} → Lawful o → (ts : List Token) → o .gives ts → (p : Program) → Reading ts p
-    → program-nodes p ≤ NODES
-never-needed law ts g p r = never-too-large ts p r (law .few ts g)
+pub never-needed : {σ : Sizes} {P : Type 0} {o : Origin P} → σ .tokens ≤ σ .nodes → LawfulUnder σ o → (ts : List Token) → o .gives ts
+    → (p : Program) → Reading ts p → program-nodes p ≤ σ .nodes
+never-needed {σ} room law ts g p r = never-too-large ts σ room p r (law .few ts g)
+
+-- the box's sizes are such (R13.3)
+pub box-has-nodes : BOX .tokens ≤ BOX .nodes
+box-has-nodes = omega arith

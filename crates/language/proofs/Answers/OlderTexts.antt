@@ -5,14 +5,15 @@ use mathlib.Core.Path.{_≡_, refl, subst}
 use Prim.Native.Nat.{ℕ}
 use native.Mathlib.Omega.{arith}
 use lib.ListN.{length}
+use Rattle.language.specs.Sizes.{Sizes}
 use Rattle.language.specs.Tokens.{Vocabulary, EDITION-1, Token}
 use Rattle.language.specs.Text as Text
 use Rattle.language.specs.Trees.{Ty, Program}
 use Rattle.language.specs.Grammar.{Reading}
 use Rattle.language.specs.Meaning.{type-number}
 use Rattle.language.specs.Numbers.{Refusal, passed, refused}
-use Rattle.language.specs.Answers.{Origin, Spot, nowhere, at, place-in, from-text, Passes, CheckReport, Checked, check-short}
-use Rattle.language.specs.Answers.{check-refused, check-passed, RunReport, Lent, Ending, Ran, run-short, run-large, run-refused, run-ended}
+use Rattle.language.specs.Answers.{Origin, Spot, nowhere, at, place-in, text-under, PassesUnder, CheckReport, CheckedUnder, check-short}
+use Rattle.language.specs.Answers.{check-refused, check-passed, RunReport, Lent, Ending, RanUnder, run-short, run-large, run-refused, run-ended}
 use Rattle.language.proofs.Grammar.NumberThenName.{number-then-name}
 use Rattle.language.proofs.Text.Marks.{laws-1}
 use Rattle.language.proofs.Text.Tables.{every}
@@ -24,29 +25,30 @@ use Rattle.language.proofs.Text.Points.{pointless}
 
 -- a text that has a reading splits now as by the vocabulary
 pub record Carries (voc : Vocabulary) (source : List ℕ) : Type 0 where
-  pub splits : {ts : List Token} {p : Program} → Reading ts p → Text.Splits voc source ts → Text.Splits EDITION-1 source ts
+  pub splits : {σ : Sizes} {ts : List Token} {p : Program} → Reading ts p → Text.SplitsUnder σ voc source ts → Text.SplitsUnder σ EDITION-1 source ts
 
 module _ {voc : Vocabulary} {source : List ℕ} (carries : Carries voc source) where
-  abbrev before : Origin ℕ
-  before = from-text voc source
+  abbrev before : Sizes → Origin ℕ
+  before σ = text-under σ voc source
 
   -- it passes, with the same tokens, the same reading and the same type
-  pub passes-as-before : {ts : List Token} {p : Program} {t : Ty} → Passes before ts p t → Passes (from-text EDITION-1 source) ts p t
+  pub passes-as-before : {σ : Sizes} {ts : List Token} {p : Program} {t : Ty} → PassesUnder σ (before σ) ts p t
+      → PassesUnder σ (text-under σ EDITION-1 source) ts p t
   passes-as-before x = record {
     given = record { short = x .given .short; splits = carries .splits (x .proper .reads) (x .given .splits) };
     proper = x .proper;
   }
 
   -- so what check told of it, it tells
-  pub check-as-before : {table : ℕ} {r : CheckReport ℕ} → Checked before table r → r .told ≡ passed
-      → Checked (from-text EDITION-1 source) table r
+  pub check-as-before : {σ : Sizes} {table : ℕ} {r : CheckReport ℕ} → CheckedUnder σ (before σ) table r → r .told ≡ passed
+      → CheckedUnder σ (text-under σ EDITION-1 source) table r
   check-as-before (check-short h) e = absurd (let z : _≡_ {A = ℕ} 0 1 = cc in omega arith)
   check-as-before (check-refused h x) e = absurd (let z : _≡_ {A = ℕ} 0 1 = cc in omega arith)
   check-as-before (check-passed h x) e = check-passed h (passes-as-before x)
 
-  same-place : (ts : List Token) (s : Spot) → place-in (from-text EDITION-1 source) ts s ≡ place-in before ts s
-  same-place ts nowhere = refl
-  same-place ts (at i) = refl
+  same-place : (σ : Sizes) (ts : List Token) (s : Spot) → place-in (text-under σ EDITION-1 source) ts s ≡ place-in (before σ) ts s
+  same-place σ ts nowhere = refl
+  same-place σ ts (at i) = refl
 
   told-at : ℕ → Ty → Ending → RunReport ℕ
   told-at x t e = record {
@@ -59,14 +61,14 @@ module _ {voc : Vocabulary} {source : List ℕ} (carries : Carries voc source) w
   }
 
   -- and so for run, whether it came to a value or stopped
-  pub run-as-before : {l : Lent} {r : RunReport ℕ} {printed : List ℕ} → Ran before l r printed
-      → ((q : Refusal) → r .told ≡ refused q → ⊥) → Ran (from-text EDITION-1 source) l r printed
+  pub run-as-before : {σ : Sizes} {l : Lent} {r : RunReport ℕ} {printed : List ℕ} → RanUnder σ (before σ) l r printed
+      → ((q : Refusal) → r .told ≡ refused q → ⊥) → RanUnder σ (text-under σ EDITION-1 source) l r printed
   unfolding told-at
   run-as-before (run-short h) n = absurd (n _ refl)
   run-as-before (run-large h a) n = absurd (n _ refl)
   run-as-before (run-refused h a x) n = absurd (n _ refl)
-  run-as-before {l} (run-ended {ts = ts} {t = t} {e = e} h a x z) n =
-      subst (λ y. Ran (from-text EDITION-1 source) l (told-at y t e) (e .printed)) (same-place ts (e .spot)) (run-ended h a (passes-as-before x) z)
+  run-as-before {σ} {l} (run-ended {ts = ts} {t = t} {e = e} h a x z) n =
+      subst (λ y. RanUnder σ (text-under σ EDITION-1 source) l (told-at y t e) (e .printed)) (same-place σ ts (e .spot)) (run-ended h a (passes-as-before x) z)
 
 -- ---- the older vocabularies
 

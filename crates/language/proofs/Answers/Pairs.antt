@@ -8,23 +8,25 @@ use mathlib.Core.Path.{_≡_, refl, sym, ap, subst}
 use Prim.Native.Nat.{ℕ}
 use native.Mathlib.Omega.{arith}
 use lib.ListN.{length}
+use Rattle.language.specs.Sizes.{Sizes}
 use Rattle.language.specs.Tokens.{Vocabulary, Token}
 use Rattle.language.specs.Trees.{Ty, Program}
 use Rattle.language.specs.State.{Outcome, value, stop, stuck}
 use Rattle.language.specs.Meaning.{type-number}
 use Rattle.language.specs.Numbers.{Refusal, short-memory, large-allowance, no-edition, long-source, text}
 use Rattle.language.specs.Numbers.{no-reading, types, long-text, not-hexadecimal, wrong-count, not-one-token}
-use Rattle.language.specs.Numbers.{Told, passed, refused, stopped}
+use Rattle.language.specs.Numbers.{endless-node, many-units, Told, passed, refused, stopped}
 use Rattle.language.specs.Answers as Answers
-use Rattle.language.specs.Answers.{at, place-in, TextDenies, TextGives, unread, faulty, keeps, Refused, by-origin}
-use Rattle.language.specs.Answers.{by-tokens, Passes, Ending, ending, CheckReport, check-report, Checked, check-short}
-use Rattle.language.specs.Answers.{check-refused, check-passed, Check, RunReport, Lent, Ran, run-short, run-large, run-refused, run-ended, Run}
-use Rattle.language.specs.Edition.{unknown, known, text-in, pair-in}
-use Rattle.language.specs.Pairs.{joined, Place, place-of, front, PairDenies, too-long, flawed, from-pair}
+use Rattle.language.specs.Answers.{at, place-in, TextDeniesUnder, TextGivesUnder, unread, faulty, keeps, RefusedUnder, by-origin}
+use Rattle.language.specs.Answers.{by-tokens, PassesUnder, Ending, ending, CheckReport, check-report, CheckedUnder, check-short}
+use Rattle.language.specs.Answers.{check-refused, check-passed, CheckUnder, RunReport, Lent, RanUnder, run-short, run-large, run-refused}
+use Rattle.language.specs.Answers.{run-ended, RunUnder}
+use Rattle.language.specs.Edition.{unknown, known, text-in-under, pair-in-under}
+use Rattle.language.specs.Pairs.{joined, Place, place-of, front, PairDeniesUnder, too-long, flawed, pair-under}
 use Rattle.language.proofs.Text.Marks.{Laws}
 use Rattle.language.proofs.Text.OneSplit.{one-flaw}
 use Rattle.language.proofs.Text.OneSplit as OneSplit
-use Rattle.language.proofs.Answers.Origins.{Lawful, text-lawful}
+use Rattle.language.proofs.Answers.Origins.{LawfulUnder, of-profile, text-lawful}
 
 -- ---- the map
 
@@ -42,6 +44,8 @@ placed (refused long-text) = false
 placed (refused not-hexadecimal) = true
 placed (refused wrong-count) = true
 placed (refused not-one-token) = true
+placed (refused endless-node) = true
+placed (refused many-units) = false
 placed (stopped w) = true
 
 module _ (first second : List ℕ) where
@@ -64,41 +68,47 @@ module _ (first second : List ℕ) where
 
 -- ---- the laws
 
-denied : {voc : Vocabulary} (first second : List ℕ) {r : Refusal} {p : ℕ} → TextDenies voc (joined first second) r p
-    → PairDenies voc first second r (moved first second (refused r) p)
+denied : {σ : Sizes} {voc : Vocabulary} (first second : List ℕ) {r : Refusal} {p : ℕ} → TextDeniesUnder σ voc (joined first second) r p
+    → PairDeniesUnder σ voc first second r (moved first second (refused r) p)
 denied first second (Answers.too-long h) = too-long h
 denied first second (Answers.flawed h a) = flawed h a
 
 module _ {voc : Vocabulary} (laws : Laws voc) (first second : List ℕ) where
-  one-denial : (r q : Refusal) (x y : Place) → PairDenies voc first second r x → PairDenies voc first second q y → (r ≡ q) × (x ≡ y)
+  one-denial : {σ : Sizes} (r q : Refusal) (x y : Place) → PairDeniesUnder σ voc first second r x → PairDeniesUnder σ voc first second q y → (r ≡ q) × (x ≡ y)
   one-denial r q x y (too-long h) (too-long k) = (refl, refl)
   one-denial r q x y (too-long h) (flawed k b) = absurd (omega arith)
   one-denial r q x y (flawed h a) (too-long k) = absurd (omega arith)
   one-denial r q x y (flawed h a) (flawed k b) = let e = one-flaw laws a b in (ap text (e .0), ap (place-of first second) (e .1))
 
-  never-both : (ts : List Token) (r : Refusal) (x : Place) → TextGives voc (joined first second) ts → PairDenies voc first second r x → ⊥
+  never-both : {σ : Sizes} (ts : List Token) (r : Refusal) (x : Place) → TextGivesUnder σ voc (joined first second) ts
+      → PairDeniesUnder σ voc first second r x → ⊥
   never-both ts r x g (too-long h) = omega (arith, g .short)
   never-both ts r x g (flawed h a) = OneSplit.not-both laws (g .splits) a
 
-  not-memory : (r : Refusal) (x : Place) → PairDenies voc first second r x → keeps r ≡ false
+  not-memory : {σ : Sizes} (r : Refusal) (x : Place) → PairDeniesUnder σ voc first second r x → keeps r ≡ false
   not-memory r x (too-long h) = refl
   not-memory r x (flawed h a) = refl
 
-  not-reading : (r : Refusal) (x : Place) → PairDenies voc first second r x → r ≡ no-reading → ⊥
+  not-reading : {σ : Sizes} (r : Refusal) (x : Place) → PairDeniesUnder σ voc first second r x → r ≡ no-reading → ⊥
   not-reading r x (too-long h) e = let z : _≡_ {A = ℕ} 0 1 = cc in omega arith
   not-reading r x (flawed h a) e = let z : _≡_ {A = ℕ} 0 1 = cc in omega arith
 
-  not-written : (r : Refusal) (x : Place) → PairDenies voc first second r x → r ≡ long-text → ⊥
+  not-written : {σ : Sizes} (r : Refusal) (x : Place) → PairDeniesUnder σ voc first second r x → r ≡ long-text → ⊥
   not-written r x (too-long h) e = let z : _≡_ {A = ℕ} 0 1 = cc in omega arith
   not-written r x (flawed h a) e = let z : _≡_ {A = ℕ} 0 1 = cc in omega arith
 
-  some-of : ((ts : List Token) × TextGives voc (joined first second) ts) ⊎ ((r : Refusal) × (p : ℕ) × TextDenies voc (joined first second) r p)
-      → ((ts : List Token) × TextGives voc (joined first second) ts) ⊎ ((r : Refusal) × (x : Place) × PairDenies voc first second r x)
+  not-profiled : {σ : Sizes} (r : Refusal) (x : Place) → PairDeniesUnder σ voc first second r x → of-profile r ≡ false
+  not-profiled r x (too-long h) = refl
+  not-profiled r x (flawed h a) = refl
+
+  some-of : {σ : Sizes}
+      → ((ts : List Token) × TextGivesUnder σ voc (joined first second) ts) ⊎ ((r : Refusal) × (p : ℕ) × TextDeniesUnder σ voc (joined first second) r p)
+      → ((ts : List Token) × TextGivesUnder σ voc (joined first second) ts) ⊎ ((r : Refusal) × (x : Place) × PairDeniesUnder σ voc first second r x)
   some-of (inl g) = inl g
   some-of (inr (r, p, d)) = inr (r, _, denied first second d)
 
   -- so of everything lent with two sheets there is exactly one answer (`Answers/OneAnswer`)
-  pub pair-lawful : Lawful (from-pair voc first second)
+  pub pair-lawful : {σ : Sizes} → LawfulUnder σ (pair-under σ voc first second)
   pair-lawful = record {
     one-list = text-lawful laws (joined first second) .one-list;
     one-denial = one-denial;
@@ -109,46 +119,48 @@ module _ {voc : Vocabulary} (laws : Laws voc) (first second : List ℕ) where
     not-memory = not-memory;
     not-reading = λ x a. not-reading no-reading x a refl;
     not-written = λ x a. not-written long-text x a refl;
+    not-profiled = not-profiled;
   }
 
 -- ---- as the joined text
 
 -- in whatever edition
 module _ (n : ℕ) (first second : List ℕ) where
-  given-joined : {ts : List Token} → text-in n (joined first second) .gives ts → pair-in n first second .gives ts
+  given-joined : {σ : Sizes} {ts : List Token} → text-in-under σ n (joined first second) .gives ts → pair-in-under σ n first second .gives ts
   given-joined g = record { words = g .words; named = g .named; given = g .given }
 
-  denied-joined : {r : Refusal} {p : ℕ} → text-in n (joined first second) .denies r p
-      → pair-in n first second .denies r (moved first second (refused r) p)
+  denied-joined : {σ : Sizes} {r : Refusal} {p : ℕ} → text-in-under σ n (joined first second) .denies r p
+      → pair-in-under σ n first second .denies r (moved first second (refused r) p)
   denied-joined (unknown e) = unknown e
   denied-joined (known e d) = known e (denied first second d)
 
-  pub passes-joined : {ts : List Token} {p : Program} {t : Ty} → Passes (text-in n (joined first second)) ts p t → Passes (pair-in n first second) ts p t
+  pub passes-joined : {σ : Sizes} {ts : List Token} {p : Program} {t : Ty} → PassesUnder σ (text-in-under σ n (joined first second)) ts p t
+      → PassesUnder σ (pair-in-under σ n first second) ts p t
   passes-joined x = record { given = given-joined (x .given); proper = x .proper }
 
-  pub refused-joined : {r : Refusal} {p : ℕ} → Refused (text-in n (joined first second)) r p
-      → Refused (pair-in n first second) r (moved first second (refused r) p)
+  pub refused-joined : {σ : Sizes} {r : Refusal} {p : ℕ} → RefusedUnder σ (text-in-under σ n (joined first second)) r p
+      → RefusedUnder σ (pair-in-under σ n first second) r (moved first second (refused r) p)
   refused-joined (by-origin d) = by-origin (denied-joined d)
   refused-joined (by-tokens g (unread w)) = by-tokens (given-joined g) (unread w)
   refused-joined (by-tokens g (faulty a f)) = by-tokens (given-joined g) (faulty a f)
 
   -- what check answers
-  pub check-joined : {table : ℕ} {r : CheckReport ℕ} → Checked (text-in n (joined first second)) table r
-      → Checked (pair-in n first second) table (check-moved first second r)
+  pub check-joined : {σ : Sizes} {table : ℕ} {r : CheckReport ℕ} → CheckedUnder σ (text-in-under σ n (joined first second)) table r
+      → CheckedUnder σ (pair-in-under σ n first second) table (check-moved first second r)
   check-joined (check-short h) = check-short h
   check-joined (check-refused h x) = check-refused h (refused-joined x)
   check-joined (check-passed h x) = check-passed h (passes-joined x)
 
-  abbrev Moved : List Token → Option Ending → Type 0
-  Moved ts none = Unit {0}
-  Moved ts (some e) =
-      moved first second (e .told) (place-in (text-in n (joined first second)) ts (e .spot)) ≡ place-in (pair-in n first second) ts (e .spot)
+  abbrev Moved : Sizes → List Token → Option Ending → Type 0
+  Moved σ ts none = Unit {0}
+  Moved σ ts (some e) =
+      moved first second (e .told) (place-in (text-in-under σ n (joined first second)) ts (e .spot)) ≡ place-in (pair-in-under σ n first second) ts (e .spot)
 
-  end-moved : (ts : List Token) (allowance : ℕ) (m : Outcome) → Moved ts (ending allowance m)
+  end-moved : (σ : Sizes) (ts : List Token) (allowance : ℕ) (m : Outcome) → Moved σ ts (ending allowance m)
   unfolding ending
-  end-moved ts allowance (value v s) = refl
-  end-moved ts allowance (stop w i s) = refl
-  end-moved ts allowance stuck = tt
+  end-moved σ ts allowance (value v s) = refl
+  end-moved σ ts allowance (stop w i s) = refl
+  end-moved σ ts allowance stuck = tt
 
   told-at : Place → Ty → Ending → RunReport Place
   told-at x t e = record {
@@ -161,24 +173,24 @@ module _ (n : ℕ) (first second : List ℕ) where
   }
 
   -- and what run answers
-  pub run-joined : {l : Lent} {r : RunReport ℕ} {printed : List ℕ} → Ran (text-in n (joined first second)) l r printed
-      → Ran (pair-in n first second) l (run-moved first second r) printed
+  pub run-joined : {σ : Sizes} {l : Lent} {r : RunReport ℕ} {printed : List ℕ} → RanUnder σ (text-in-under σ n (joined first second)) l r printed
+      → RanUnder σ (pair-in-under σ n first second) l (run-moved first second r) printed
   unfolding told-at
   run-joined (run-short h) = run-short h
   run-joined (run-large h a) = run-large h a
   run-joined (run-refused h a x) = run-refused h a (refused-joined x)
-  run-joined {l} (run-ended {ts = ts} {t = t} {e = e} h a x z) =
-      let place = subst (Moved ts) z (end-moved ts (l .allowance) _) in
-      subst (λ y. Ran (pair-in n first second) l (told-at y t e) (e .printed)) (sym place) (run-ended h a (passes-joined x) z)
+  run-joined {σ} {l} (run-ended {ts = ts} {t = t} {e = e} h a x z) =
+      let place = subst (Moved σ ts) z (end-moved σ ts (l .allowance) _) in
+      subst (λ y. RanUnder σ (pair-in-under σ n first second) l (told-at y t e) (e .printed)) (sym place) (run-ended h a (passes-joined x) z)
 
   -- so the contracts of the two, memory and output included
-  pub pair-check : {table table′ : List ℕ} {r : CheckReport ℕ} → Check (text-in n (joined first second)) table r table′
-      → Check (pair-in n first second) table (check-moved first second r) table′
+  pub pair-check : {σ : Sizes} {table table′ : List ℕ} {r : CheckReport ℕ} → CheckUnder σ (text-in-under σ n (joined first second)) table r table′
+      → CheckUnder σ (pair-in-under σ n first second) table (check-moved first second r) table′
   pair-check x = record { answer = check-joined (x .answer); table-left = x .table-left }
 
-  pub pair-run : {table work output table′ work′ output′ : List ℕ} {allowance : ℕ} {r : RunReport ℕ}
-      → Run (text-in n (joined first second)) table work output allowance r table′ work′ output′
-      → Run (pair-in n first second) table work output allowance (run-moved first second r) table′ work′ output′
+  pub pair-run : {σ : Sizes} {table work output table′ work′ output′ : List ℕ} {allowance : ℕ} {r : RunReport ℕ}
+      → RunUnder σ (text-in-under σ n (joined first second)) table work output allowance r table′ work′ output′
+      → RunUnder σ (pair-in-under σ n first second) table work output allowance (run-moved first second r) table′ work′ output′
   pair-run x = record {
     printed = x .printed;
     answer = run-joined (x .answer);

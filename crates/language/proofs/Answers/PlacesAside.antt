@@ -5,17 +5,18 @@ use mathlib.Core.Path.{_≡_, refl, sym, ap, subst, _∙_}
 use Prim.Native.Nat.{ℕ, zero, suc}
 use native.Mathlib.Omega.{arith}
 use lib.ListN.{length, getD}
+use Rattle.language.specs.Sizes.{Sizes}
 use Rattle.language.specs.Tokens.{Token, past, SameToken, SameButPlaces, same-none, same-more}
 use Rattle.language.specs.Trees.{Ty, Program}
 use Rattle.language.specs.Grammar.{program}
 use Rattle.language.specs.Numbers.{Refusal}
-use Rattle.language.specs.Answers.{Origin, Spot, nowhere, place-in, Proper, Denied, Passes, by-origin, by-tokens}
-use Rattle.language.specs.Answers.{Lent, RunReport, Ran, run-short, run-large, run-refused, run-ended}
+use Rattle.language.specs.Answers.{Origin, Spot, nowhere, place-in, ProperUnder, DeniedUnder, PassesUnder, by-origin, by-tokens}
+use Rattle.language.specs.Answers.{Lent, RunReport, RanUnder, run-short, run-large, run-refused, run-ended}
 use Rattle.language.proofs.Executable.Parser.{read, parse}
 use Rattle.language.proofs.Executable.Locality.{one-token}
 use Rattle.language.proofs.Executable.Agreement.{agrees}
 use Rattle.language.proofs.Grammar.FirstWrong.{whole, plenty, comes-to}
-use Rattle.language.proofs.Answers.Origins.{Lawful}
+use Rattle.language.proofs.Answers.Origins.{LawfulUnder}
 use Rattle.language.proofs.Answers.Verdict.{verdict, by-comes, Says, verdict-says, proper-is, denied-is}
 
 -- ---- token by token
@@ -49,16 +50,16 @@ module _ {ts us : List Token} (same : SameButPlaces ts us) where
   same-comes = ap (whole ts) same-parse ∙ rw (same-long same) refl
 
   -- the same verdict
-  pub same-verdict : verdict ts ≡ verdict us
-  same-verdict = by-comes ts us same-comes
+  pub same-verdict : (σ : Sizes) → verdict σ ts ≡ verdict σ us
+  same-verdict σ = by-comes σ ts us same-comes
 
   -- the same program of the same type
-  pub same-proper : {p : Program} {t : Ty} → Proper ts p t → Proper us p t
-  same-proper h = subst (Says us) (sym same-verdict ∙ proper-is ts h) (verdict-says us)
+  pub same-proper : {σ : Sizes} {p : Program} {t : Ty} → ProperUnder σ ts p t → ProperUnder σ us p t
+  same-proper {σ} h = subst (Says σ us) (sym (same-verdict σ) ∙ proper-is σ ts h) (verdict-says σ us)
 
   -- or the same denial at the same token
-  pub same-denied : {r : Refusal} {s : Spot} → Denied ts r s → Denied us r s
-  same-denied h = subst (Says us) (sym same-verdict ∙ denied-is ts h) (verdict-says us)
+  pub same-denied : {σ : Sizes} {r : Refusal} {s : Spot} → DeniedUnder σ ts r s → DeniedUnder σ us r s
+  same-denied {σ} h = subst (Says σ us) (sym (same-verdict σ) ∙ denied-is σ ts h) (verdict-says σ us)
 
 -- ---- what a run answers
 
@@ -74,16 +75,16 @@ pub record SameRun {P Q : Type 0} (o : Origin P) (q : Origin Q) (ts us : List To
   pub there : r′ .place ≡ place-in q us spot
 
 -- an origin with the same tokens answers the same to every run, with the same bytes printed
-module _ {P Q : Type 0} {o : Origin P} {q : Origin Q} (law : Lawful o) {ts us : List Token} (given : o .gives ts) (there : q .gives us)
+module _ {σ : Sizes} {P Q : Type 0} {o : Origin P} {q : Origin Q} (law : LawfulUnder σ o) {ts us : List Token} (given : o .gives ts) (there : q .gives us)
     (same : SameButPlaces ts us) where
   -- the same program of the same type
-  pub same-passes : {xs : List Token} {p : Program} {t : Ty} → Passes o xs p t → Passes q us p t
+  pub same-passes : {xs : List Token} {p : Program} {t : Ty} → PassesUnder σ o xs p t → PassesUnder σ q us p t
   same-passes {xs} {p} {t} a = record {
     given = there;
-    proper = same-proper same (subst (λ (ts : List Token). Proper ts p t) (law .one-list xs ts (a .given) given) (a .proper));
+    proper = same-proper same (subst (λ (ts : List Token). ProperUnder σ ts p t) (law .one-list xs ts (a .given) given) (a .proper));
   }
 
-  pub same-run : {l : Lent} {r : RunReport P} {bs : List ℕ} → Ran o l r bs → (r′ : RunReport Q) × Ran q l r′ bs × SameRun o q ts us r r′
+  pub same-run : {l : Lent} {r : RunReport P} {bs : List ℕ} → RanUnder σ o l r bs → (r′ : RunReport Q) × RanUnder σ q l r′ bs × SameRun o q ts us r r′
   same-run (run-short h) =
       (_, run-short h, record { told = refl; type = refl; value = refl; units = refl; printed = refl; spot = nowhere; here = refl; there = refl })
   same-run (run-large e h) =
@@ -92,7 +93,7 @@ module _ {P Q : Type 0} {o : Origin P} {q : Origin Q} (law : Lawful o) {ts us : 
   same-run (run-refused e h (by-tokens {ts = xs} {r} {s} g d)) =
       let z = law .one-list xs ts g given in (
         _,
-        run-refused e h (by-tokens there (same-denied same (subst (λ (ts : List Token). Denied ts r s) z d))),
+        run-refused e h (by-tokens there (same-denied same (subst (λ (ts : List Token). DeniedUnder σ ts r s) z d))),
         record {
           told = refl;
           type = refl;

@@ -5,7 +5,7 @@ use mathlib.Core.Option.{Option, none, some}
 use Prim.Native.Nat.{ℕ}
 use native.Mathlib.Decide.{decLt, decLe, ℕ-discrete}
 use lib.ListN.{length}
-use Rattle.language.specs.Sizes.{REFS, PARAMETERS, FUNCTIONS}
+use Rattle.language.specs.Sizes.{Sizes, BOX}
 use Rattle.language.specs.Trees.{Ty, int, bool, unit, float, refs, Ty-discrete, Literal, whole, truth, trivial, decimal}
 use Rattle.language.specs.Trees.{Exp, name, literal, unary, binary, follow, group, block, call, bind, branch, loop}
 use Rattle.language.specs.Trees.{Exps, last, more, Param, Def, Program, Scope, empty, push, nearest, size, counted}
@@ -13,7 +13,7 @@ use Rattle.language.specs.Types.{Sig, with-def, given, Bounds, two, thre
 use Rattle.language.specs.Faults.{Reason, no-binding, no-function, wrong-number, wrong-argument, wrong-operands, not-unit, not-bool, branches-differ}
 use Rattle.language.specs.Faults.{wrong-body, too-many-refs, too-many-functions, too-many-parameters, function-twice, parameter-twice, unsuited, not-int}
 use Rattle.language.proofs.Executable.Checks.{Res, ok, bad, after, told, need}
-use Rattle.language.proofs.Executable.Operators.{unop, binop}
+use Rattle.language.proofs.Executable.Operators.{unop-under, binop}
 
 pub heads : {t u : Ty} {ts us : List Ty} → (t ∷ ts) ≡ (u ∷ us) → t ≡ u
 heads e = cc
@@ -77,68 +77,94 @@ unfoldable pub unbound : {A B : Type 0} → Option A → Reason → ℕ → (Uni
 unbound none r n f = f tt
 unbound (some a) r n f = bad r n
 
-module _ (Δ : Scope Sig) where
+module _ (σ : Sizes) (Δ : Scope Sig) where
   unfoldable mutual
-    pub infer : Exp → Scope Ty → Res Ty
-    infer (name i x) Γ = told (nearest x Γ) no-binding i
-    infer (literal i l) Γ = ok (literal-type l)
-    infer (unary i o e) Γ = after (infer e Γ) λ t. told (unop o t) (unsuited o) i
-    infer (binary i o e f) Γ = after (infer e Γ) λ t. after (infer f Γ) λ u. told (binop o t u) wrong-operands i
-    infer (follow i e f) Γ = after (infer e Γ) λ t. after (infer f Γ) λ u. need (Ty-discrete t unit) not-unit i λ _. ok u
-    infer (group i e) Γ = infer e Γ
-    infer (block i e) Γ = infer e Γ
-    infer (call i f es) Γ =
-        after (infers es Γ) λ ts.
+    pub infer-under : Exp → Scope Ty → Res Ty
+    infer-under (name i x) Γ = told (nearest x Γ) no-binding i
+    infer-under (literal i l) Γ = ok (literal-type l)
+    infer-under (unary i o e) Γ = after (infer-under e Γ) λ t. told (unop-under σ o t) (unsuited o) i
+    infer-under (binary i o e f) Γ = after (infer-under e Γ) λ t. after (infer-under f Γ) λ u. told (binop o t u) wrong-operands i
+    infer-under (follow i e f) Γ = after (infer-under e Γ) λ t. after (infer-under f Γ) λ u. need (Ty-discrete t unit) not-unit i λ _. ok u
+    infer-under (group i e) Γ = infer-under e Γ
+    infer-under (block i e) Γ = infer-under e Γ
+    infer-under (call i f es) Γ =
+        after (infers-under es Γ) λ ts.
         after (told (nearest f Δ) no-function i) λ s.
         need (ℕ-discrete (length ts) (length (s .takes))) wrong-number i λ _.
         need (same-types ts (s .takes)) wrong-argument i λ _.
         ok (s .gives)
-    infer (bind i x e f) Γ = after (infer e Γ) λ t. infer f (push x t Γ)
-    infer (branch i c e f) Γ =
-        after (infer c Γ) λ b.
-        after (infer e Γ) λ t.
-        after (infer f Γ) λ u.
+    infer-under (bind i x e f) Γ = after (infer-under e Γ) λ t. infer-under f (push x t Γ)
+    infer-under (branch i c e f) Γ =
+        after (infer-under c Γ) λ b.
+        after (infer-under e Γ) λ t.
+        after (infer-under f Γ) λ u.
         need (Ty-discrete b bool) not-bool i λ _.
         need (Ty-discrete t u) branches-differ i λ _.
         ok t
-    infer (loop i c e) Γ =
-        after (infer c Γ) λ b.
-        after (infer e Γ) λ t.
+    infer-under (loop i c e) Γ =
+        after (infer-under c Γ) λ b.
+        after (infer-under e Γ) λ t.
         need (Ty-discrete b bool) not-bool i λ _.
         need (Ty-discrete t unit) not-unit i λ _.
         ok unit
-    infer (counted i x b es e) Γ =
-        after (infers es Γ) λ ts.
-        after (infer e (push x int Γ)) λ t.
+    infer-under (counted i x b es e) Γ =
+        after (infers-under es Γ) λ ts.
+        after (infer-under e (push x int Γ)) λ t.
         need (bounds ts) not-int i λ _.
         need (Ty-discrete t unit) not-unit i λ _.
         ok unit
 
-    pub infers : Exps → Scope Ty → Res (List Ty)
-    infers last Γ = ok []
-    infers (more e es) Γ = after (infer e Γ) λ t. after (infers es Γ) λ ts. ok (t ∷ ts)
+    pub infers-under : Exps → Scope Ty → Res (List Ty)
+    infers-under last Γ = ok []
+    infers-under (more e es) Γ = after (infer-under e Γ) λ t. after (infers-under es Γ) λ ts. ok (t ∷ ts)
 
-unfoldable pub take-params : List Param → Scope Ty → Res (Scope Ty)
-take-params [] Γ = ok Γ
-take-params (p ∷ ps) Γ =
-    need (decLt (size Γ) PARAMETERS) too-many-parameters (p .at) λ _.
+unfoldable pub take-params-under : Sizes → List Param → Scope Ty → Res (Scope Ty)
+take-params-under σ [] Γ = ok Γ
+take-params-under σ (p ∷ ps) Γ =
+    need (decLt (size Γ) (σ .parameters)) too-many-parameters (p .at) λ _.
     unbound (nearest (p .called) Γ) parameter-twice (p .at) λ _.
-    need (decLe (refs (p .type)) REFS) too-many-refs (p .at) λ _.
-    take-params ps (push (p .called) (p .type) Γ)
+    need (decLe (refs (p .type)) (σ .refs)) too-many-refs (p .at) λ _.
+    take-params-under σ ps (push (p .called) (p .type) Γ)
 
-unfoldable pub check-def : Scope Sig → Def → Res (Unit {0})
-check-def Δ d =
-    need (decLe (size Δ) FUNCTIONS) too-many-functions (d .at) λ _.
+unfoldable pub check-def-under : Sizes → Scope Sig → Def → Res (Unit {0})
+check-def-under σ Δ d =
+    need (decLe (size Δ) (σ .functions)) too-many-functions (d .at) λ _.
     unbound (nearest (d .called) Δ) function-twice (d .named) λ _.
-    after (take-params (d .params) empty) λ Γ.
-    need (decLe (refs (d .result)) REFS) too-many-refs (d .at) λ _.
-    after (infer (with-def Δ d) (d .body) Γ) λ t.
+    after (take-params-under σ (d .params) empty) λ Γ.
+    need (decLe (refs (d .result)) (σ .refs)) too-many-refs (d .at) λ _.
+    after (infer-under σ (with-def Δ d) (d .body) Γ) λ t.
     need (Ty-discrete t (d .result)) wrong-body (d .at) λ _.
     ok tt
 
-unfoldable pub check-from : List Def → Scope Sig → Exp → Res Ty
-check-from [] Δ e = infer Δ e empty
-check-from (d ∷ ds) Δ e = after (check-def Δ d) λ _. check-from ds (with-def Δ d) e
+unfoldable pub check-from-under : Sizes → List Def → Scope Sig → Exp → Res Ty
+check-from-under σ [] Δ e = infer-under σ Δ e empty
+check-from-under σ (d ∷ ds) Δ e = after (check-def-under σ Δ d) λ _. check-from-under σ ds (with-def Δ d) e
 
-unfoldable pub check : Program → Res Ty
-check p = check-from (p .defs) given (p .main)
+unfoldable pub check-under : Sizes → Program → Res Ty
+check-under σ p = check-from-under σ (p .defs) given (p .main)
+
+-- ---- under the box's sizes: to unfold one of these is to unfold all that it computes with, under any sizes
+
+unfoldable abbrev pub infer : Scope Sig → Exp → Scope Ty → Res Ty
+unfolding infer-under unop-under
+infer Δ e Γ = infer-under BOX Δ e Γ
+
+unfoldable abbrev pub infers : Scope Sig → Exps → Scope Ty → Res (List Ty)
+unfolding infer-under unop-under
+infers Δ es Γ = infers-under BOX Δ es Γ
+
+unfoldable abbrev pub take-params : List Param → Scope Ty → Res (Scope Ty)
+unfolding take-params-under
+take-params ps Γ = take-params-under BOX ps Γ
+
+unfoldable abbrev pub check-def : Scope Sig → Def → Res (Unit {0})
+unfolding check-def-under take-params-under infer-under unop-under
+check-def Δ d = check-def-under BOX Δ d
+
+unfoldable abbrev pub check-from : List Def → Scope Sig → Exp → Res Ty
+unfolding check-from-under check-def-under take-params-under infer-under unop-under
+check-from ds Δ e = check-from-under BOX ds Δ e
+
+unfoldable abbrev pub check : Program → Res Ty
+unfolding check-under check-from-under check-def-under take-params-under infer-under unop-under
+check p = check-under BOX p

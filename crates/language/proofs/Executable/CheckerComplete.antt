@@ -4,18 +4,20 @@ use mathlib.Core.List.{List}
 use mathlib.Core.Option.{Option, none, some}
 use Prim.Native.Nat.{ℕ}
 use native.Mathlib.Omega.{arith}
+use Rattle.language.specs.Sizes.{Sizes}
 use Rattle.language.specs.Trees.{Ty, Exp, Exps, Param, Def, Program, Scope}
-use Rattle.language.specs.Types.{Sig, Typed, t-name, t-whole, t-truth, t-trivial, t-decimal, t-unary, t-binary, t-follow}
-use Rattle.language.specs.Types.{t-group, t-block, t-call, t-bind, t-branch, t-loop, TypedAll, t-last, t-more, Takes, takes-none}
-use Rattle.language.specs.Types.{takes-more, with-def, Fine, fine, TypedFrom, typed-main, typed-def, HasType, t-counted}
-use Rattle.language.specs.Faults.{Reason, Fault, f-name, f-unary, f-unary-here, f-left, f-right, f-binary-here, f-first, f-second, f-follow-here}
+use Rattle.language.specs.Types.{Sig, TypedUnder, t-name, t-whole, t-truth, t-trivial, t-decimal, t-unary, t-binary, t-follow}
+use Rattle.language.specs.Types.{t-group, t-block, t-call, t-bind, t-branch, t-loop, TypedAllUnder, t-last, t-more, TakesUnder, takes-none}
+use Rattle.language.specs.Types.{takes-more, with-def, FineUnder, fine, TypedFromUnder, typed-main, typed-def, HasTypeUnder, t-counted}
+use Rattle.language.specs.Faults.{Reason, FaultUnder, f-name, f-unary, f-unary-here, f-left, f-right, f-binary-here, f-first, f-second, f-follow-here}
 use Rattle.language.specs.Faults.{f-group, f-block, f-arguments, f-no-function, f-wrong-number, f-wrong-argument, f-bound, f-inside, f-if}
-use Rattle.language.specs.Faults.{f-then, f-else, f-if-here, f-branches-here, f-while, f-do, f-while-here, f-do-here, FaultAll, f-one, f-rest}
-use Rattle.language.specs.Faults.{FaultTakes, p-ninth, p-twice, p-refs, p-later, FaultDef, d-many, d-twice, d-params, d-refs, d-body, d-type}
-use Rattle.language.specs.Faults.{FaultFrom, fault-main, fault-here, fault-later, HasFault, f-bounds, f-pass, f-bounds-here, f-pass-here}
+use Rattle.language.specs.Faults.{f-then, f-else, f-if-here, f-branches-here, f-while, f-do, f-while-here, f-do-here, FaultAllUnder, f-one, f-rest}
+use Rattle.language.specs.Faults.{FaultTakesUnder, p-ninth, p-twice, p-refs, p-later, FaultDefUnder, d-many, d-twice, d-params, d-refs, d-body, d-type}
+use Rattle.language.specs.Faults.{FaultFromUnder, fault-main, fault-here, fault-later, HasFaultUnder, f-bounds, f-pass, f-bounds-here, f-pass-here}
 use Rattle.language.proofs.Executable.Checks.{Res, ok, bad, after-ok, after-bad, told-some, told-none, need-yes, need-no}
 use Rattle.language.proofs.Executable.Operators.{decided, undecided, unop-is, binop-is}
-use Rattle.language.proofs.Executable.Checker.{literal-type, unbound, infer, infers, take-params, check-def, check-from, check}
+use Rattle.language.proofs.Executable.Checker.{literal-type, unbound, infer-under, infers-under, take-params-under, check-def-under}
+use Rattle.language.proofs.Executable.Checker.{check-from-under, check-under}
 
 unbound-none : {A B : Type 0} {x : Option A} {y : Res B} (r : Reason) (n : ℕ) (f : Unit {0} → Res B) → x ≡ none → f tt ≡ y → unbound x r n f ≡ y
 unfolding unbound
@@ -27,9 +29,9 @@ unbound-some r n f e = rw e refl
 
 module _ (Δ : Scope Sig) where
   mutual
-    unfolding infer literal-type
+    unfolding infer-under literal-type
 
-    pub infer-complete : {Γ : Scope Ty} {e : Exp} {t : Ty} → Typed Δ Γ e t → infer Δ e Γ ≡ ok t
+    pub infer-complete : {σ : Sizes} {Γ : Scope Ty} {e : Exp} {t : Ty} → TypedUnder σ Δ Γ e t → infer-under σ Δ e Γ ≡ ok t
     infer-complete (t-name h) = told-some _ _ h
     infer-complete t-whole = refl
     infer-complete t-truth = refl
@@ -51,14 +53,14 @@ module _ (Δ : Scope Sig) where
     infer-complete (t-counted p b q) =
         after-ok _ (infers-complete p) (after-ok _ (infer-complete q) (need-yes _ _ _ _ b (need-yes _ _ _ _ refl refl)))
 
-    pub infers-complete : {Γ : Scope Ty} {es : Exps} {ts : List Ty} → TypedAll Δ Γ es ts → infers Δ es Γ ≡ ok ts
+    pub infers-complete : {σ : Sizes} {Γ : Scope Ty} {es : Exps} {ts : List Ty} → TypedAllUnder σ Δ Γ es ts → infers-under σ Δ es Γ ≡ ok ts
     infers-complete t-last = refl
     infers-complete (t-more p q) = after-ok _ (infer-complete p) (after-ok _ (infers-complete q) refl)
 
   mutual
-    unfolding infer
+    unfolding infer-under
 
-    pub fault-complete : {Γ : Scope Ty} {e : Exp} {r : Reason} {n : ℕ} → Fault Δ Γ e r n → infer Δ e Γ ≡ bad r n
+    pub fault-complete : {σ : Sizes} {Γ : Scope Ty} {e : Exp} {r : Reason} {n : ℕ} → FaultUnder σ Δ Γ e r n → infer-under σ Δ e Γ ≡ bad r n
     fault-complete (f-bounds p) = after-bad _ (faults-complete p)
     fault-complete (f-pass p q) = after-ok _ (infers-complete p) (after-bad _ (fault-complete q))
     fault-complete (f-bounds-here p q h) = after-ok _ (infers-complete p) (after-ok _ (infer-complete q) (need-no _ _ _ _ h))
@@ -96,30 +98,30 @@ module _ (Δ : Scope Sig) where
     fault-complete (f-while-here p q h) = after-ok _ (infer-complete p) (after-ok _ (infer-complete q) (need-no _ _ _ _ h))
     fault-complete (f-do-here p q h) = after-ok _ (infer-complete p) (after-ok _ (infer-complete q) (need-yes _ _ _ _ refl (need-no _ _ _ _ h)))
 
-    pub faults-complete : {Γ : Scope Ty} {es : Exps} {r : Reason} {n : ℕ} → FaultAll Δ Γ es r n → infers Δ es Γ ≡ bad r n
+    pub faults-complete : {σ : Sizes} {Γ : Scope Ty} {es : Exps} {r : Reason} {n : ℕ} → FaultAllUnder σ Δ Γ es r n → infers-under σ Δ es Γ ≡ bad r n
     faults-complete (f-one p) = after-bad _ (fault-complete p)
     faults-complete (f-rest p q) = after-ok _ (infer-complete p) (after-bad _ (faults-complete q))
 
-params-complete : {Γ Γ′ : Scope Ty} {ps : List Param} → Takes Γ ps Γ′ → take-params ps Γ ≡ ok Γ′
-unfolding take-params
+params-complete : {σ : Sizes} {Γ Γ′ : Scope Ty} {ps : List Param} → TakesUnder σ Γ ps Γ′ → take-params-under σ ps Γ ≡ ok Γ′
+unfolding take-params-under
 params-complete takes-none = refl
 params-complete (takes-more a b c q) = need-yes _ _ _ _ a (unbound-none _ _ _ b (need-yes _ _ _ _ c (params-complete q)))
 
-params-fault : {Γ : Scope Ty} {ps : List Param} {r : Reason} {n : ℕ} → FaultTakes Γ ps r n → take-params ps Γ ≡ bad r n
-unfolding take-params
+params-fault : {σ : Sizes} {Γ : Scope Ty} {ps : List Param} {r : Reason} {n : ℕ} → FaultTakesUnder σ Γ ps r n → take-params-under σ ps Γ ≡ bad r n
+unfolding take-params-under
 params-fault (p-ninth h) = need-no _ _ _ _ (λ k. omega arith)
 params-fault (p-twice a h) = need-yes _ _ _ _ a (unbound-some _ _ _ h)
 params-fault (p-refs a b h) = need-yes _ _ _ _ a (unbound-none _ _ _ b (need-no _ _ _ _ (λ k. omega arith)))
 params-fault (p-later a b c q) = need-yes _ _ _ _ a (unbound-none _ _ _ b (need-yes _ _ _ _ c (params-fault q)))
 
-def-complete : {Δ : Scope Sig} {d : Def} → Fine Δ d → check-def Δ d ≡ ok tt
-unfolding check-def
+def-complete : {σ : Sizes} {Δ : Scope Sig} {d : Def} → FineUnder σ Δ d → check-def-under σ Δ d ≡ ok tt
+unfolding check-def-under
 def-complete {Δ} {d} (fine a b p c q) =
     need-yes _ _ _ _ a (unbound-none _ _ _ b (after-ok _ (params-complete p) (need-yes _ _ _ _ c
     (after-ok _ (infer-complete (with-def Δ d) q) (need-yes _ _ _ _ refl refl)))))
 
-def-fault : {Δ : Scope Sig} {d : Def} {r : Reason} {n : ℕ} → FaultDef Δ d r n → check-def Δ d ≡ bad r n
-unfolding check-def
+def-fault : {σ : Sizes} {Δ : Scope Sig} {d : Def} {r : Reason} {n : ℕ} → FaultDefUnder σ Δ d r n → check-def-under σ Δ d ≡ bad r n
+unfolding check-def-under
 def-fault (d-many h) = need-no _ _ _ _ (λ k. omega arith)
 def-fault (d-twice a h) = need-yes _ _ _ _ a (unbound-some _ _ _ h)
 def-fault (d-params a b p) = need-yes _ _ _ _ a (unbound-none _ _ _ b (after-bad _ (params-fault p)))
@@ -130,21 +132,21 @@ def-fault {Δ} {d} (d-type a b p c q h) =
     need-yes _ _ _ _ a (unbound-none _ _ _ b (after-ok _ (params-complete p) (need-yes _ _ _ _ c
     (after-ok _ (infer-complete (with-def Δ d) q) (need-no _ _ _ _ h)))))
 
-from-complete : {Δ : Scope Sig} {ds : List Def} {e : Exp} {t : Ty} → TypedFrom Δ ds e t → check-from ds Δ e ≡ ok t
-unfolding check-from
+from-complete : {σ : Sizes} {Δ : Scope Sig} {ds : List Def} {e : Exp} {t : Ty} → TypedFromUnder σ Δ ds e t → check-from-under σ ds Δ e ≡ ok t
+unfolding check-from-under
 from-complete (typed-main {Δ} p) = infer-complete Δ p
 from-complete (typed-def p q) = after-ok _ (def-complete p) (from-complete q)
 
-from-fault : {Δ : Scope Sig} {ds : List Def} {e : Exp} {r : Reason} {n : ℕ} → FaultFrom Δ ds e r n → check-from ds Δ e ≡ bad r n
-unfolding check-from
+from-fault : {σ : Sizes} {Δ : Scope Sig} {ds : List Def} {e : Exp} {r : Reason} {n : ℕ} → FaultFromUnder σ Δ ds e r n → check-from-under σ ds Δ e ≡ bad r n
+unfolding check-from-under
 from-fault (fault-main {Δ} p) = fault-complete Δ p
 from-fault (fault-here p) = after-bad _ (def-fault p)
 from-fault (fault-later p q) = after-ok _ (def-complete p) (from-fault q)
 
-pub check-complete : (p : Program) (t : Ty) → HasType p t → check p ≡ ok t
-unfolding check
+pub check-complete : {σ : Sizes} (p : Program) (t : Ty) → HasTypeUnder σ p t → check-under σ p ≡ ok t
+unfolding check-under
 check-complete p t h = from-complete h
 
-pub check-fault : (p : Program) (r : Reason) (n : ℕ) → HasFault p r n → check p ≡ bad r n
-unfolding check
+pub check-fault : {σ : Sizes} (p : Program) (r : Reason) (n : ℕ) → HasFaultUnder σ p r n → check-under σ p ≡ bad r n
+unfolding check-under
 check-fault p r n h = from-fault h

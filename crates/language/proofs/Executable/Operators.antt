@@ -3,10 +3,10 @@ use mathlib.Core.Path.{_≡_, refl, ap}
 use mathlib.Core.Option.{Option, none, some}
 use Prim.Native.Nat.{_<_}
 use native.Mathlib.Decide.{decLt}
-use Rattle.language.specs.Sizes.{REFS}
+use Rattle.language.specs.Sizes.{Sizes, BOX}
 use Rattle.language.specs.Trees.{Ty, int, bool, unit, float, ref, refs, Ty-discrete, Unary, minus, not}
 use Rattle.language.specs.Trees.{fetch, new, Binary, add, sub, mul, div, less, equal, and, or, assign}
-use Rattle.language.specs.Types.{UnopType, u-minus, u-not, u-fetch, u-new, Arithmetic, of-int, of-float}
+use Rattle.language.specs.Types.{UnopTypeUnder, u-minus, u-not, u-fetch, u-new, Arithmetic, of-int, of-float}
 use Rattle.language.specs.Types.{BinopType, b-add, b-sub, b-mul, b-div, b-less, b-equal, b-and, b-or, b-assign}
 
 -- t if the statement holds
@@ -38,15 +38,20 @@ unfolding if-yes
 decides-if (yes p) t f g h = finds (f p) g
 decides-if (no p) t f g h = lacks λ u q. p (h u q)
 
-unfoldable pub unop : Unary → Ty → Option Ty
-unop minus t = if-yes (Ty-discrete t int) int
-unop not t = if-yes (Ty-discrete t bool) bool
-unop fetch int = none
-unop fetch bool = none
-unop fetch unit = none
-unop fetch float = none
-unop fetch (ref t) = some t
-unop new t = if-yes (decLt (refs t) REFS) (ref t)
+unfoldable pub unop-under : Sizes → Unary → Ty → Option Ty
+unop-under σ minus t = if-yes (Ty-discrete t int) int
+unop-under σ not t = if-yes (Ty-discrete t bool) bool
+unop-under σ fetch int = none
+unop-under σ fetch bool = none
+unop-under σ fetch unit = none
+unop-under σ fetch float = none
+unop-under σ fetch (ref t) = some t
+unop-under σ new t = if-yes (decLt (refs t) (σ .refs)) (ref t)
+
+-- under the box's sizes; whoever unfolds it unfolds the other
+unfoldable abbrev pub unop : Unary → Ty → Option Ty
+unfolding unop-under
+unop o t = unop-under BOX o t
 
 abbrev pub IsArithmetic : Ty → Type 0
 IsArithmetic int = Unit {0}
@@ -93,13 +98,13 @@ binop assign float u = none
 binop assign (ref t) u = if-yes (Ty-discrete t u) unit
 
 -- what the rules say of each operator
-abbrev Unop : Unary → Ty → Ty → Type 0
-Unop minus t u = (t ≡ int) × (int ≡ u)
-Unop not t u = (t ≡ bool) × (bool ≡ u)
-Unop fetch t u = t ≡ ref u
-Unop new t u = (refs t < REFS) × (ref t ≡ u)
+abbrev Unop : Sizes → Unary → Ty → Ty → Type 0
+Unop σ minus t u = (t ≡ int) × (int ≡ u)
+Unop σ not t u = (t ≡ bool) × (bool ≡ u)
+Unop σ fetch t u = t ≡ ref u
+Unop σ new t u = (refs t < σ .refs) × (ref t ≡ u)
 
-unop-form : {o : Unary} {t u : Ty} → UnopType o t u → Unop o t u
+unop-form : {σ : Sizes} {o : Unary} {t u : Ty} → UnopTypeUnder σ o t u → Unop σ o t u
 unop-form u-minus = (refl, refl)
 unop-form u-not = (refl, refl)
 unop-form u-fetch = refl
@@ -134,20 +139,20 @@ IsRef unit = ⊥
 IsRef float = ⊥
 IsRef (ref t) = Unit {0}
 
-fetches : {t u : Ty} → UnopType fetch t u → IsRef t
+fetches : {σ : Sizes} {t u : Ty} → UnopTypeUnder σ fetch t u → IsRef t
 fetches u-fetch = tt
 
 assigns : {t u v : Ty} → BinopType assign t u v → IsRef t
 assigns b-assign = tt
 
-fetched : {t u : Ty} → UnopType fetch (ref t) u → t ≡ u
+fetched : {σ : Sizes} {t u : Ty} → UnopTypeUnder σ fetch (ref t) u → t ≡ u
 fetched u-fetch = refl
 
 assigned : {t u v : Ty} → BinopType assign (ref t) u v → (t ≡ u) × (unit ≡ v)
 assigned b-assign = (refl, refl)
 
-pub unop-is : (o : Unary) (t : Ty) → Decides (UnopType o t) (unop o t)
-unfolding unop
+pub unop-is : {σ : Sizes} (o : Unary) (t : Ty) → Decides (UnopTypeUnder σ o t) (unop-under σ o t)
+unfolding unop-under
 unop-is minus t = decides-if (Ty-discrete t int) int (λ p. rw p u-minus) (λ u q. (unop-form q) .1) (λ u q. (unop-form q) .0)
 unop-is not t = decides-if (Ty-discrete t bool) bool (λ p. rw p u-not) (λ u q. (unop-form q) .1) (λ u q. (unop-form q) .0)
 unop-is fetch int = lacks λ u q. fetches q
@@ -155,7 +160,7 @@ unop-is fetch bool = lacks λ u q. fetches q
 unop-is fetch unit = lacks λ u q. fetches q
 unop-is fetch float = lacks λ u q. fetches q
 unop-is fetch (ref t) = finds u-fetch λ u q. fetched q
-unop-is new t = decides-if (decLt (refs t) REFS) (ref t) (λ p. u-new p) (λ u q. (unop-form q) .1) (λ u q. (unop-form q) .0)
+unop-is {σ} new t = decides-if (decLt (refs t) (σ .refs)) (ref t) (λ p. u-new p) (λ u q. (unop-form q) .1) (λ u q. (unop-form q) .0)
 
 pub binop-is : (o : Binary) (t u : Ty) → Decides (BinopType o t u) (binop o t u)
 unfolding binop

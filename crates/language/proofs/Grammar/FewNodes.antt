@@ -1,10 +1,10 @@
--- Each node has a token of its own, so a reading has no more nodes than tokens: within the sizes of the box, a reading is
--- never too large.
+-- Each node has a token of its own, so a reading has no more nodes than tokens: within any sizes that have a node for each token
+-- a reading is never too large.
 use mathlib.Core.List.{List}
 use Prim.Native.Nat.{ℕ, _+_, _≤_}
 use native.Mathlib.Omega.{arith}
 use lib.ListN.{length}
-use Rattle.language.specs.Sizes.{TOKENS, NODES}
+use Rattle.language.specs.Sizes.{Sizes}
 use Rattle.language.specs.Tokens.{Token}
 use Rattle.language.specs.Trees.{Program, nodes, all-nodes, def-nodes, program-nodes}
 use Rattle.language.specs.Grammar.{Of, tier, Sym, program, def, formals, params, type, seq, tail, bound, item, assign, atom, actuals, args}
@@ -83,6 +83,6 @@ module _ (ts : List Token) where
   pub few-nodes : (p : Program) → Reading ts p → program-nodes p ≤ length ts
   few-nodes p r = omega (arith, few r)
 
-  -- so with as many tokens as there may be, its nodes are not too many (row 21 is never told)
-  pub never-too-large : (p : Program) → Reading ts p → length ts ≤ TOKENS → program-nodes p ≤ NODES
-  never-too-large p r h = omega (arith, few-nodes p r)
+  -- so under any sizes with a node for each token its nodes are not too many (row 21 is never told)
+  pub never-too-large : (σ : Sizes) → σ .tokens ≤ σ .nodes → (p : Program) → Reading ts p → length ts ≤ σ .tokens → program-nodes p ≤ σ .nodes
+  never-too-large σ room p r h = omega (arith, few-nodes p r)

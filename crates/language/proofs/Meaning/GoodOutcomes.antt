@@ -10,11 +10,11 @@ use lib.IntN.{ℤ, pos, negsuc}
 use lib.Ieee.{Float}
 use lib.Dec.{leb}
 use borrow.Author.Tests.{leb-true, le-leb}
-use Rattle.language.specs.Sizes.{BYTE}
+use Rattle.language.specs.Sizes.{Sizes, BYTE}
 use Rattle.language.specs.Trees.{Name, Ty, int, bool, unit, float, ref, Unary, Binary, Exp, Param, Scope, empty, push, nearest}
-use Rattle.language.specs.Types.{Sig, of-int, of-float, UnopType, u-minus, u-not, u-fetch, u-new, BinopType, b-add}
-use Rattle.language.specs.Types.{b-sub, b-mul, b-div, b-less, b-equal, b-and, b-or, b-assign, Typed}
-use Rattle.language.specs.Types.{Takes, takes-none, takes-more, Bounds, two, three}
+use Rattle.language.specs.Types.{Sig, of-int, of-float, UnopTypeUnder, u-minus, u-not, u-fetch, u-new, BinopType, b-add}
+use Rattle.language.specs.Types.{b-sub, b-mul, b-div, b-less, b-equal, b-and, b-or, b-assign, TypedUnder}
+use Rattle.language.specs.Types.{TakesUnder, takes-none, takes-more, Bounds, two, three}
 use Rattle.language.specs.State.{Stop, Value, flag, State, Outcome, value, stop, then, as-int}
 use Rattle.language.specs.State.{as-bool, as-unit, as-cell, choose, when-some, want, alike, only}
 use Rattle.language.specs.Meaning.{Env, charge, begin, in-range, fit, create, apply-unary, quotient, apply-binary, settles}
@@ -34,18 +34,18 @@ abbrev pub Fair : (ℤ → Type 0) → List Own → Type 0
 Fair R os = All (λ o. R (pos (o .worth))) os
 
 -- g is a function of the kind that s tells
-pub data FunFits (R : ℤ → Type 0) (Δ : Scope Sig) : Fun → Sig → Type 0 where
-  fun-putchar : FunFits R Δ putchar record { takes = int ∷ []; gives = int }
+pub data FunFits (σ : Sizes) (R : ℤ → Type 0) (Δ : Scope Sig) : Fun → Sig → Type 0 where
+  fun-putchar : FunFits σ R Δ putchar record { takes = int ∷ []; gives = int }
   fun-defined : {Γ : Scope Ty} {ps : List Param} {e : Exp} {ts : List Ty} {t : Ty}
-      → Takes empty ps Γ → ts ≡ map (λ (p : Param). p .type) ps → Typed Δ Γ e t → Fair R (owns e)
-      → FunFits R Δ (defined ps e) record { takes = ts; gives = t }
+      → TakesUnder σ empty ps Γ → ts ≡ map (λ (p : Param). p .type) ps → TypedUnder σ Δ Γ e t → Fair R (owns e)
+      → FunFits σ R Δ (defined ps e) record { takes = ts; gives = t }
 
-abbrev pub Ready : (ℤ → Type 0) → Scope Sig → Scope Fun → Type 0
-Ready R Δ fs = (f : Name) (s : Sig) → nearest f Δ ≡ some s → (g : Fun) × (nearest f fs ≡ some g) × FunFits R Δ g s
+abbrev pub Ready : Sizes → (ℤ → Type 0) → Scope Sig → Scope Fun → Type 0
+Ready σ R Δ fs = (f : Name) (s : Sig) → nearest f Δ ≡ some s → (g : Fun) × (nearest f fs ≡ some g) × FunFits σ R Δ g s
 
-pub record Safe (R : ℤ → Type 0) (Δ : Scope Sig) (go : Exp → Env → State → Outcome) : Type 0 where
+pub record Safe (σ : Sizes) (R : ℤ → Type 0) (Δ : Scope Sig) (go : Exp → Env → State → Outcome) : Type 0 where
   pub at : {Σ : List Ty} {Γ : Scope Ty} {e : Exp} {t : Ty} (env : Env) (s : State)
-      → Typed Δ Γ e t → Fair R (owns e) → EnvFits R Σ env Γ → StateFits R Σ s → Good R Σ t (go e env s)
+      → TypedUnder σ Δ Γ e t → Fair R (owns e) → EnvFits R Σ env Γ → StateFits R Σ s → Good R Σ t (go e env s)
 
 -- every int within the range is what is asked
 module _ {R : ℤ → Type 0} (wide : (z : ℤ) → in-range z ≡ true → R z) where
@@ -128,8 +128,8 @@ module _ {R : ℤ → Type 0} (wide : (z : ℤ) → in-range z ≡ true → R z)
       (fits-ref b))
       λ _. good-stop
 
-  pub unary-good : {Σ : List Ty} {o : Unary} {t u : Ty} (i : ℕ) (v : Value) (s : State)
-      → UnopType o t u → StateFits R Σ s → Fits R Σ v t → Good R Σ u (apply-unary i o v s)
+  pub unary-good : {σ : Sizes} {Σ : List Ty} {o : Unary} {t u : Ty} (i : ℕ) (v : Value) (s : State)
+      → UnopTypeUnder σ o t u → StateFits R Σ s → Fits R Σ v t → Good R Σ u (apply-unary i o v s)
   unfolding apply-unary
   unary-good i v s u-minus p q = good-int _ q λ z. good-fit i _ s p
   unary-good i v s u-not p q = good-bool _ q λ b _. good-value stays p fits-bool
@@ -205,8 +205,8 @@ module _ {R : ℤ → Type 0} (wide : (z : ℤ) → in-range z ≡ true → R z)
   good-bounds two k (fits-more (fits-int {z = x} p) (fits-more (fits-int {z = y} q) fits-none)) f = f x y _ p
   good-bounds three k (fits-more (fits-int {z = x} p) (fits-more (fits-int {z = y} q) (fits-more (fits-int {z = z} r) fits-none))) f = f x y z p
 
-  pub good-enter : {Σ : List Ty} {Γ Γ′ : Scope Ty} {ps : List Param} {u : Ty} (vs : List Value) (env : Env) (k : Env → Outcome)
-      → Takes Γ ps Γ′ → FitsAll R Σ vs (map (λ (p : Param). p .type) ps) → EnvFits R Σ env Γ
+  pub good-enter : {σ : Sizes} {Σ : List Ty} {Γ Γ′ : Scope Ty} {ps : List Param} {u : Ty} (vs : List Value) (env : Env) (k : Env → Outcome)
+      → TakesUnder σ Γ ps Γ′ → FitsAll R Σ vs (map (λ (p : Param). p .type) ps) → EnvFits R Σ env Γ
       → ((env : Env) → EnvFits R Σ env Γ′ → Good R Σ u (k env)) → Good R Σ u (enter ps vs env k)
   unfolding enter
   good-enter vs env k takes-none fits-none h f = f env h

@@ -7,12 +7,12 @@ use Prim.Native.Nat.{ℕ}
 use lib.Dec.{eqb}
 use lib.IntN.{ℤ}
 use borrow.Author.Tests.{eqb-true}
-use Rattle.language.specs.Sizes.{ACTIVE}
+use Rattle.language.specs.Sizes.{Sizes, ACTIVE}
 use Rattle.language.specs.Tokens.{same}
 use Rattle.language.specs.Trees.{Name, Ty, Exp, Exps, Def, Program, Scope, empty, push, nearest, PUTCHAR}
-use Rattle.language.specs.Types.{Sig, Typed, t-name, t-whole, t-truth, t-trivial, t-decimal, t-unary, t-binary}
-use Rattle.language.specs.Types.{t-follow, t-group, t-block, t-call, t-bind, t-branch, t-loop, TypedAll, t-last}
-use Rattle.language.specs.Types.{t-more, fine, with-def, TypedFrom, typed-main, typed-def, given, HasType, t-counted}
+use Rattle.language.specs.Types.{Sig, TypedUnder, t-name, t-whole, t-truth, t-trivial, t-decimal, t-unary, t-binary}
+use Rattle.language.specs.Types.{t-follow, t-group, t-block, t-call, t-bind, t-branch, t-loop, TypedAllUnder, t-last}
+use Rattle.language.specs.Types.{t-more, fine, with-def, TypedFromUnder, typed-main, typed-def, given, HasTypeUnder, t-counted}
 use Rattle.language.specs.State.{Outcome, value, stop, stuck}
 use Rattle.language.specs.Meaning.{in-range, Fun, putchar, functions, start, run}
 use Rattle.language.proofs.Grammar.OwnTokens.{Own, owns, def-owns, program-owns, front, back, everywhere, main-owned}
@@ -48,7 +48,7 @@ Knows Δ Δ′ = (f : Name) (s : Sig) → nearest f Δ ≡ some s → nearest f 
 
 module _ (Δ Δ′ : Scope Sig) (k : Knows Δ Δ′) where
   mutual
-    weaken : {Γ : Scope Ty} {e : Exp} {t : Ty} → Typed Δ Γ e t → Typed Δ′ Γ e t
+    weaken : {σ : Sizes} {Γ : Scope Ty} {e : Exp} {t : Ty} → TypedUnder σ Δ Γ e t → TypedUnder σ Δ′ Γ e t
     weaken (t-name h) = t-name h
     weaken t-whole = t-whole
     weaken t-truth = t-truth
@@ -65,7 +65,7 @@ module _ (Δ Δ′ : Scope Sig) (k : Knows Δ Δ′) where
     weaken (t-loop p q) = t-loop (weaken p) (weaken q)
     weaken (t-counted p q r) = t-counted (weakens p) q (weaken r)
 
-    weakens : {Γ : Scope Ty} {es : Exps} {ts : List Ty} → TypedAll Δ Γ es ts → TypedAll Δ′ Γ es ts
+    weakens : {σ : Sizes} {Γ : Scope Ty} {es : Exps} {ts : List Ty} → TypedAllUnder σ Δ Γ es ts → TypedAllUnder σ Δ′ Γ es ts
     weakens t-last = t-last
     weakens (t-more p q) = t-more (weaken p) (weakens q)
 
@@ -82,51 +82,51 @@ unfoldable pub final : Scope Sig → List Def → Scope Sig
 final Δ [] = Δ
 final Δ (d ∷ ds) = final (with-def Δ d) ds
 
-knows-final : {Δ : Scope Sig} {ds : List Def} {e : Exp} {t : Ty} → TypedFrom Δ ds e t → Knows Δ (final Δ ds)
+knows-final : {σ : Sizes} {Δ : Scope Sig} {ds : List Def} {e : Exp} {t : Ty} → TypedFromUnder σ Δ ds e t → Knows Δ (final Δ ds)
 unfolding final
 knows-final (typed-main p) f s h = h
 knows-final (typed-def {Δ} {d} (fine a b c m n) q) f s h = knows-final q f s (knows-push Δ (d .called) _ b f s h)
 
 -- functions and what they take and give, in one order
-data Tabled (R : ℤ → Type 0) (Δ : Scope Sig) : Scope Fun → Scope Sig → Type 0 where
-  tabled-none : Tabled R Δ empty empty
-  tabled-push : {f : Name} {g : Fun} {s : Sig} {fs : Scope Fun} {ss : Scope Sig} → FunFits R Δ g s → Tabled R Δ fs ss
-      → Tabled R Δ (push f g fs) (push f s ss)
+data Tabled (σ : Sizes) (R : ℤ → Type 0) (Δ : Scope Sig) : Scope Fun → Scope Sig → Type 0 where
+  tabled-none : Tabled σ R Δ empty empty
+  tabled-push : {f : Name} {g : Fun} {s : Sig} {fs : Scope Fun} {ss : Scope Sig} → FunFits σ R Δ g s → Tabled σ R Δ fs ss
+      → Tabled σ R Δ (push f g fs) (push f s ss)
 
 module _ {R : ℤ → Type 0} where
-  find : {Δ ss : Scope Sig} {fs : Scope Fun} (f : Name) (s : Sig) → Tabled R Δ fs ss → nearest f ss ≡ some s
-      → (g : Fun) × (nearest f fs ≡ some g) × FunFits R Δ g s
+  find : {σ : Sizes} {Δ ss : Scope Sig} {fs : Scope Fun} (f : Name) (s : Sig) → Tabled σ R Δ fs ss → nearest f ss ≡ some s
+      → (g : Fun) × (nearest f fs ≡ some g) × FunFits σ R Δ g s
   unfolding nearest
   find f s tabled-none e = absurd (none-some e)
-  find {Δ} f s (tabled-push {f = h} {g = g} {s = r} {fs = fs} {ss = ss} p q) e = go (same f h) e (λ m. find f s q m)
+  find {σ} {Δ} f s (tabled-push {f = h} {g = g} {s = r} {fs = fs} {ss = ss} p q) e = go (same f h) e (λ m. find f s q m)
     where
       go : (b : Bool) → cond b (some r) (nearest f ss) ≡ some s
-          → (nearest f ss ≡ some s → (g : Fun) × (nearest f fs ≡ some g) × FunFits R Δ g s)
-          → (x : Fun) × (cond b (some g) (nearest f fs) ≡ some x) × FunFits R Δ x s
-      go true e k = (g, refl, subst (FunFits R Δ g) (some-one e) p)
+          → (nearest f ss ≡ some s → (g : Fun) × (nearest f fs ≡ some g) × FunFits σ R Δ g s)
+          → (x : Fun) × (cond b (some g) (nearest f fs) ≡ some x) × FunFits σ R Δ x s
+      go true e k = (g, refl, subst (FunFits σ R Δ g) (some-one e) p)
       go false e k = k e
 
-  tables : {Δ Δ′ : Scope Sig} {ds : List Def} {e : Exp} {t : Ty} {fs : Scope Fun} (os : List Own) → TypedFrom Δ ds e t
-      → Fair R (def-owns ds os) → Knows (final Δ ds) Δ′ → Tabled R Δ′ fs Δ → Tabled R Δ′ (functions ds fs) (final Δ ds)
+  tables : {σ : Sizes} {Δ Δ′ : Scope Sig} {ds : List Def} {e : Exp} {t : Ty} {fs : Scope Fun} (os : List Own) → TypedFromUnder σ Δ ds e t
+      → Fair R (def-owns ds os) → Knows (final Δ ds) Δ′ → Tabled σ R Δ′ fs Δ → Tabled σ R Δ′ (functions ds fs) (final Δ ds)
   unfolding final functions def-owns
   tables os (typed-main p) m k h = h
   tables os (typed-def {Δ} {d} (fine a b c r n) q) m k h =
       let body = weaken (with-def Δ d) _ (λ f s e. k f s (knows-final q f s e)) n in
       tables os q (back (owns (d .body)) _ m) k (tabled-push (fun-defined c refl body (front (owns (d .body)) _ m)) h)
 
-pub main-typed : {Δ : Scope Sig} {ds : List Def} {e : Exp} {t : Ty} → TypedFrom Δ ds e t → Typed (final Δ ds) empty e t
+pub main-typed : {σ : Sizes} {Δ : Scope Sig} {ds : List Def} {e : Exp} {t : Ty} → TypedFromUnder σ Δ ds e t → TypedUnder σ (final Δ ds) empty e t
 unfolding final
 main-typed (typed-main p) = p
 main-typed (typed-def p q) = main-typed q
 
 -- the functions of a program are what its types say
-pub program-ready : {R : ℤ → Type 0} (p : Program) (t : Ty) → HasType p t → Fair R (program-owns p)
-    → Ready R (final given (p .defs)) (functions (p .defs) (push PUTCHAR putchar empty))
+pub program-ready : {σ : Sizes} {R : ℤ → Type 0} (p : Program) (t : Ty) → HasTypeUnder σ p t → Fair R (program-owns p)
+    → Ready σ R (final given (p .defs)) (functions (p .defs) (push PUTCHAR putchar empty))
 unfolding program-owns
 program-ready p t h m f s e = find f s (tables (owns (p .main)) h m (λ g r k. k) (tabled-push fun-putchar tabled-none)) e
 
 -- a run is not stuck; with numbers that are what is asked, so is every int that it makes
-pub run-good : {R : ℤ → Type 0} → ((z : ℤ) → in-range z ≡ true → R z) → (p : Program) (t : Ty) (allowance room : ℕ) → HasType p t
+pub run-good : {σ : Sizes} {R : ℤ → Type 0} → ((z : ℤ) → in-range z ≡ true → R z) → (p : Program) (t : Ty) (allowance room : ℕ) → HasTypeUnder σ p t
     → Fair R (program-owns p) → Good R [] t (run p allowance room)
 unfolding run program-owns
 run-good wide p t allowance room h m =
@@ -143,5 +143,5 @@ not-stuck (good-value g p q) e = subst IsMoving e tt
 not-stuck good-stop e = subst IsMoving e tt
 
 -- never stuck
-pub never-stuck : (p : Program) (t : Ty) (allowance room : ℕ) → HasType p t → run p allowance room ≡ stuck → ⊥
+pub never-stuck : {σ : Sizes} (p : Program) (t : Ty) (allowance room : ℕ) → HasTypeUnder σ p t → run p allowance room ≡ stuck → ⊥
 never-stuck p t a r h e = not-stuck (run-good {R = λ _. Unit {0}} (λ _ _. tt) p t a r h (everywhere _ λ _. tt)) e

@@ -5,11 +5,12 @@ use mathlib.Core.List.{List, [], _∷_}
 use mathlib.Core.Option.{some}
 use Prim.Native.Nat.{ℕ, zero, suc}
 use lib.IntN.{ℤ}
+use Rattle.language.specs.Sizes.{Sizes}
 use Rattle.language.specs.Trees.{Name, Ty, int, bool, unit, Exp, Exps, Scope, empty, push, nearest}
 use Rattle.language.specs.Types.{Sig}
-use Rattle.language.specs.Types.{Typed, t-name, t-whole, t-truth}
+use Rattle.language.specs.Types.{TypedUnder, t-name, t-whole, t-truth}
 use Rattle.language.specs.Types.{t-trivial, t-decimal, t-unary, t-binary, t-follow, t-group, t-block, t-call, t-bind, t-branch}
-use Rattle.language.specs.Types.{t-loop, TypedAll, t-last, t-more, t-counted}
+use Rattle.language.specs.Types.{t-loop, TypedAllUnder, t-last, t-more, t-counted}
 use Rattle.language.specs.State.{Value, State, Outcome}
 use Rattle.language.specs.Meaning.{Env, in-range, literal-value}
 use Rattle.language.specs.Meaning.{Fun, arguments, invoke, passes, step, eval, turns}
@@ -24,13 +25,13 @@ use Rattle.language.proofs.Meaning.GoodOutcomes.{good-enter}
 
 -- every int within the range is what is asked
 module _ {R : ℤ → Type 0} (wide : (z : ℤ) → in-range z ≡ true → R z) where
-  module _ (Δ : Scope Sig) (fs : Scope Fun) (ready : Ready R Δ fs) (go : Exp → Env → State → Outcome) (all : Safe R Δ go) where
+  module _ {σ : Sizes} (Δ : Scope Sig) (fs : Scope Fun) (ready : Ready σ R Δ fs) (go : Exp → Env → State → Outcome) (all : Safe σ R Δ go) where
     safe : {Σ : List Ty} {Γ : Scope Ty} {e : Exp} {t : Ty} (env : Env) (s : State)
-        → Typed Δ Γ e t → Fair R (owns e) → EnvFits R Σ env Γ → StateFits R Σ s → Good R Σ t (go e env s)
+        → TypedUnder σ Δ Γ e t → Fair R (owns e) → EnvFits R Σ env Γ → StateFits R Σ s → Good R Σ t (go e env s)
     safe env s a m h p = all .at env s a m h p
 
     arguments-good : {Σ : List Ty} {Γ : Scope Ty} {es : Exps} {ts : List Ty} {u : Ty} (env : Env) (s : State)
-        (k : List Value → State → Outcome) → TypedAll Δ Γ es ts → Fair R (all-owns es) → EnvFits R Σ env Γ → StateFits R Σ s
+        (k : List Value → State → Outcome) → TypedAllUnder σ Δ Γ es ts → Fair R (all-owns es) → EnvFits R Σ env Γ → StateFits R Σ s
         → ((Σ′ : List Ty) (vs : List Value) (s : State) → Grows Σ Σ′ → StateFits R Σ′ s → FitsAll R Σ′ vs ts → Good R Σ′ u (k vs s))
         → Good R Σ u (arguments fs go es env s k)
     unfolding arguments owns
@@ -41,14 +42,14 @@ module _ {R : ℤ → Type 0} (wide : (z : ℤ) → in-range z ≡ true → R z)
         f Σ₂ (v ∷ vs) s₂ (grows-trans g₁ g₂) p₂ (fits-more (fits-grows g₂ q₁) q₂)
 
     invoke-good : {Σ : List Ty} {g : Fun} {s : Sig} (i : ℕ) (vs : List Value) (st : State)
-        → FunFits R Δ g s → FitsAll R Σ vs (s .takes) → StateFits R Σ st → Good R Σ (s .gives) (invoke fs go i g vs st)
+        → FunFits σ R Δ g s → FitsAll R Σ vs (s .takes) → StateFits R Σ st → Good R Σ (s .gives) (invoke fs go i g vs st)
     unfolding invoke
     invoke-good i vs st fun-putchar q p = good-one wide _ q λ v r. good-int wide _ r λ z. good-put wide i z st p
     invoke-good {Σ} i vs st (fun-defined a b c m) q p =
         good-enter wide vs empty _ a (subst (FitsAll R Σ vs) b q) env-empty λ env h. safe env st c m h p
 
-    passes-good : {Σ : List Ty} {Γ : Scope Ty} {c e : Exp} (n : ℕ) (env : Env) (s : State) → Typed Δ Γ c bool → Fair R (owns c)
-        → Typed Δ Γ e unit → Fair R (owns e) → EnvFits R Σ env Γ → StateFits R Σ s → Good R Σ unit (passes fs go n c e env s)
+    passes-good : {Σ : List Ty} {Γ : Scope Ty} {c e : Exp} (n : ℕ) (env : Env) (s : State) → TypedUnder σ Δ Γ c bool → Fair R (owns c)
+        → TypedUnder σ Δ Γ e unit → Fair R (owns e) → EnvFits R Σ env Γ → StateFits R Σ s → Good R Σ unit (passes fs go n c e env s)
     unfolding passes
     passes-good zero env s a m b k h p = good-stop
     passes-good (suc n) env s a m b k h p =
@@ -61,7 +62,7 @@ module _ {R : ℤ → Type 0} (wide : (z : ℤ) → in-range z ≡ true → R z)
         λ _. good-value stays p₁ fits-unit
 
     turns-good : {Σ : List Ty} {Γ : Scope Ty} {x : Name} {e : Exp} (n : ℕ) (through : Bool) (to by z : ℤ) (env : Env) (s : State)
-        → Typed Δ (push x int Γ) e unit → Fair R (owns e) → EnvFits R Σ env Γ → StateFits R Σ s → R z
+        → TypedUnder σ Δ (push x int Γ) e unit → Fair R (owns e) → EnvFits R Σ env Γ → StateFits R Σ s → R z
         → Good R Σ unit (turns fs go n x through to by z e env s)
     unfolding turns
     turns-good zero through to by z env s b k h p r = good-choose wide _ _ _ (λ _. good-stop) λ _. good-value stays p fits-unit
@@ -74,7 +75,7 @@ module _ {R : ℤ → Type 0} (wide : (z : ℤ) → in-range z ≡ true → R z)
         λ _. good-value stays p fits-unit
 
     pub step-good : {Σ : List Ty} {Γ : Scope Ty} {e : Exp} {t : Ty} (env : Env) (s : State)
-        → Typed Δ Γ e t → Fair R (owns e) → EnvFits R Σ env Γ → StateFits R Σ s → Good R Σ t (step fs go e env s)
+        → TypedUnder σ Δ Γ e t → Fair R (owns e) → EnvFits R Σ env Γ → StateFits R Σ s → Good R Σ t (step fs go e env s)
     unfolding step literal-value owns
     step-good {Σ} env s (t-name {x = x} {t = t} e) m h p =
         let f = env-find Σ x t h e in
@@ -100,8 +101,8 @@ module _ {R : ℤ → Type 0} (wide : (z : ℤ) → in-range z ≡ true → R z)
         good-value stays record { counted = p₁ .counted; holds = keep-holds Σ₁ _ (s₁ .cells) (p₁ .holds) } q₁
     step-good env s (t-call {i = i} {f = f} {ts = ts} {t = t} a e) m h p =
         let r = ready f record { takes = ts; gives = t } e in
-        let fits : (g : Fun) → nearest f fs ≡ some g → FunFits R Δ g record { takes = ts; gives = t } =
-        λ g d. subst (λ x. FunFits R Δ x record { takes = ts; gives = t }) (some-one (sym (r .1) ∙ d)) (r .2) in
+        let fits : (g : Fun) → nearest f fs ≡ some g → FunFits σ R Δ g record { takes = ts; gives = t } =
+        λ g d. subst (λ x. FunFits σ R Δ x record { takes = ts; gives = t }) (some-one (sym (r .1) ∙ d)) (r .2) in
         arguments-good env s _ a (rest m) h p λ Σ₁ vs s₁ g₁ p₁ q₁.
         good-when wide _ _ _ (λ g d. invoke-good i vs s₁ (fits g d) q₁ p₁) λ d. absurd (none-some (sym d ∙ r .1))
     step-good env s (t-bind {e = e} a b) m h p =
@@ -121,8 +122,8 @@ module _ {R : ℤ → Type 0} (wide : (z : ℤ) → in-range z ≡ true → R z)
         good-choose wide _ _ _ (λ _. good-stop) λ _.
         turns-good (s₁ .units) _ to by from env s₁ d (back (all-owns es) _ (rest m)) (env-grows g₁ h) p₁ r
 
-  module _ (Δ : Scope Sig) (fs : Scope Fun) (ready : Ready R Δ fs) where
-    safe-at : (d : ℕ) → Safe R Δ (eval fs d)
+  module _ {σ : Sizes} (Δ : Scope Sig) (fs : Scope Fun) (ready : Ready σ R Δ fs) where
+    safe-at : (d : ℕ) → Safe σ R Δ (eval fs d)
     unfolding eval
     safe-at zero = record { at = λ env s a m h p. good-begin wide _ s _ p λ s₁ p₁. good-stop }
     safe-at (suc d) =
@@ -130,5 +131,5 @@ module _ {R : ℤ → Type 0} (wide : (z : ℤ) → in-range z ≡ true → R z)
         record { at = λ env s a m h p. good-begin wide _ s _ p λ s₁ p₁. step-good Δ fs ready (eval fs d) ih env s₁ a m h p₁ }
 
     pub eval-good : {Σ : List Ty} {Γ : Scope Ty} {e : Exp} {t : Ty} (d : ℕ) (env : Env) (s : State)
-        → Typed Δ Γ e t → Fair R (owns e) → EnvFits R Σ env Γ → StateFits R Σ s → Good R Σ t (eval fs d e env s)
+        → TypedUnder σ Δ Γ e t → Fair R (owns e) → EnvFits R Σ env Γ → StateFits R Σ s → Good R Σ t (eval fs d e env s)
     eval-good d env s a m h p = (safe-at d) .at env s a m h p

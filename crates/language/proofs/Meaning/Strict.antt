@@ -8,12 +8,12 @@ use mathlib.Core.List.{List, [], _∷_}
 use mathlib.Core.Option.{Option, none, some}
 use Prim.Native.Nat.{ℕ, zero, suc}
 use lib.IntN.{ℤ}
-use Rattle.language.specs.Sizes.{ACTIVE}
+use Rattle.language.specs.Sizes.{Sizes, ACTIVE}
 use Rattle.language.specs.Trees.{Ty, Binary, add, sub, mul, div, less, equal, and, or, assign, Exp, name, literal, unary, binary, follow, group}
 use Rattle.language.specs.Trees.{block, call, bind, branch, loop, Exps, last, more, own, Param, Program, Scope, empty, push, PUTCHAR, Name, counted}
 use Rattle.language.specs.Types.{Sig, of-int, of-float, BinopType, b-add, b-sub, b-mul, b-div, b-less, b-equal, b-and}
-use Rattle.language.specs.Types.{b-or, b-assign, Typed, t-name, t-whole, t-truth, t-trivial, t-decimal, t-unary, t-binary}
-use Rattle.language.specs.Types.{t-follow, t-group, t-block, t-call, t-bind, t-branch, t-loop, given, HasType, t-counted}
+use Rattle.language.specs.Types.{b-or, b-assign, TypedUnder, t-name, t-whole, t-truth, t-trivial, t-decimal, t-unary, t-binary}
+use Rattle.language.specs.Types.{t-follow, t-group, t-block, t-call, t-bind, t-branch, t-loop, given, HasTypeUnder, t-counted}
 use Rattle.language.specs.State.{Value, State, Outcome, value, stop, stuck, then, as-int, as-float, as-bool, as-cell, choose, when-some, want, too-deep}
 use Rattle.language.specs.Meaning.{Env, charge, begin, in-range, apply-binary, settles, Fun, putchar, defined, enter}
 use Rattle.language.specs.Meaning.{arguments, invoke, passes, step, eval, functions, start, run, with-bounds, turns}
@@ -101,10 +101,10 @@ IsTrue false = ⊥
 not-both : {b : Bool} → b ≡ true → b ≡ false → ⊥
 not-both x y = subst IsTrue y (subst IsTrue (sym x) tt)
 
-module _ (Δ : Scope Sig) (fs : Scope Fun) (ready : Ready Any Δ fs) where
-  module _ (go : Exp → Env → State → Outcome) (all : Safe Any Δ go) where
+module _ {σ : Sizes} (Δ : Scope Sig) (fs : Scope Fun) (ready : Ready σ Any Δ fs) where
+  module _ (go : Exp → Env → State → Outcome) (all : Safe σ Any Δ go) where
     strict-good : {Σ : List Ty} {Γ : Scope Ty} {e : Exp} {t : Ty} (env : Env) (s : State)
-        → Typed Δ Γ e t → Fair Any (owns e) → EnvFits Any Σ env Γ → StateFits Any Σ s → Good Any Σ t (strict-step fs go e env s)
+        → TypedUnder σ Δ Γ e t → Fair Any (owns e) → EnvFits Any Σ env Γ → StateFits Any Σ s → Good Any Σ t (strict-step fs go e env s)
     unfolding strict-step owns
     strict-good env s (t-binary {i = i} {e = e} a b c) m h p =
         good-then wide _ (all .at env s a (front (owns e) _ m) h p) λ Σ₁ v s₁ g₁ p₁ q₁.
@@ -129,14 +129,14 @@ module _ (Δ : Scope Sig) (fs : Scope Fun) (ready : Ready Any Δ fs) where
     strict-good env s (t-loop a b) m h p = step-good wide Δ fs ready go all env s (t-loop a b) m h p
     strict-good env s (t-counted a b d) m h p = step-good wide Δ fs ready go all env s (t-counted a b d) m h p
 
-  strict-safe : (d : ℕ) → Safe Any Δ (strict-eval fs d)
+  strict-safe : (d : ℕ) → Safe σ Any Δ (strict-eval fs d)
   unfolding strict-eval
   strict-safe zero = record { at = λ env s a m h p. good-begin wide _ s _ p λ s₁ p₁. good-stop }
   strict-safe (suc d) =
       let ih = strict-safe d in
       record { at = λ env s a m h p. good-begin wide _ s _ p λ s₁ p₁. strict-good (strict-eval fs d) ih env s₁ a m h p₁ }
 
-strict-run-good : (p : Program) (t : Ty) (allowance room : ℕ) → HasType p t → Good Any [] t (strict-run p allowance room)
+strict-run-good : {σ : Sizes} (p : Program) (t : Ty) (allowance room : ℕ) → HasTypeUnder σ p t → Good Any [] t (strict-run p allowance room)
 unfolding strict-run program-owns
 strict-run-good p t allowance room h =
     let m : Fair Any (program-owns p) = everywhere _ λ _. tt in
@@ -267,5 +267,5 @@ closer-same same h = refl
 closer-same caught h = absurd (h refl)
 
 -- A program that has a type means the same where every left operand is asked for its kind as soon as it is there.
-pub strict-same : (p : Program) (t : Ty) (allowance room : ℕ) → HasType p t → strict-run p allowance room ≡ run p allowance room
+pub strict-same : {σ : Sizes} (p : Program) (t : Ty) (allowance room : ℕ) → HasTypeUnder σ p t → strict-run p allowance room ≡ run p allowance room
 strict-same p t allowance room h = closer-same (closer-run p allowance room) (not-stuck (strict-run-good p t allowance room h))

@@ -8,11 +8,11 @@ use native.Mathlib.Omega.{arith}
 use lib.IntN.{ℤ}
 use lib.Ieee.{Float}
 use borrow.Author.Tests.{le-leb}
-use Rattle.language.specs.Sizes.{LARGEST}
+use Rattle.language.specs.Sizes.{Sizes, LARGEST}
 use Rattle.language.specs.Tokens.{Token, value-at}
 use Rattle.language.specs.Trees.{Ty, int, bool, unit, float, ref, Program}
 use Rattle.language.specs.Grammar.{Reading}
-use Rattle.language.specs.Types.{HasType}
+use Rattle.language.specs.Types.{HasTypeUnder}
 use Rattle.language.specs.State.{Value, number, flag, nothing, cell, held, State, value}
 use Rattle.language.specs.Meaning.{in-range, run}
 use Rattle.language.proofs.Grammar.OwnTokens.{program-owns, all-same}
@@ -73,7 +73,7 @@ unfolding in-range
 written ts p r h = all-same (λ o k. le-leb (o .worth) _ (omega (arith, k .1, h (o .at)))) (own-inside ts p r)
 
 -- A program that was read from tokens whose numbers can be written, as those of every split are, ends with a value of its type.
-pub value-of-type : (ts : List Token) (p : Program) (t : Ty) (allowance room : ℕ) (v : Value) (s : State)
-    → Reading ts p → ((i : ℕ) → value-at ts i ≤ LARGEST) → HasType p t → run p allowance room ≡ value v s → OfType s t v
+pub value-of-type : {σ : Sizes} (ts : List Token) (p : Program) (t : Ty) (allowance room : ℕ) (v : Value) (s : State)
+    → Reading ts p → ((i : ℕ) → value-at ts i ≤ LARGEST) → HasTypeUnder σ p t → run p allowance room ≡ value v s → OfType s t v
 value-of-type ts p t a r v s reading small h e =
     good-type (subst (Good InRange [] t) e (run-good (λ z k. k) p t a r h (written ts p reading small)))

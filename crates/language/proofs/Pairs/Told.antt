@@ -5,13 +5,14 @@ use native.Mathlib.Omega.{arith}
 use Prim.Native.Nat.{ℕ, zero, suc, _≤_}
 use lib.Dec.{ltb}
 use lib.ListN.{length, getD}
+use Rattle.language.specs.Sizes.{Sizes}
 use Rattle.language.specs.Tokens.{Vocabulary, Token, past, place-at}
 use Rattle.language.specs.Text.{Reaches, start, skip, next, token-of}
 use Rattle.language.specs.Text.Content.{token}
 use Rattle.language.specs.Numbers.{Refusal}
-use Rattle.language.specs.Answers.{Spot, nowhere, at, place-in, unread, faulty, Refused, by-origin, by-tokens, CheckReport, Checked}
-use Rattle.language.specs.Answers.{check-short, check-refused, check-passed, RunReport, Lent, Ran, run-short, run-large, run-refused, run-ended}
-use Rattle.language.specs.Edition.{unknown, known, pair-in}
+use Rattle.language.specs.Answers.{Spot, nowhere, at, place-in, unread, faulty, RefusedUnder, by-origin, by-tokens, CheckReport, CheckedUnder}
+use Rattle.language.specs.Answers.{check-short, check-refused, check-passed, RunReport, Lent, RanUnder, run-short, run-large, run-refused, run-ended}
+use Rattle.language.specs.Edition.{unknown, known, pair-in-under}
 use Rattle.language.specs.Pairs.{joined, Place, place-of, too-long, flawed}
 use Rattle.language.proofs.Text.OnePiece.{form-bounds}
 use Rattle.language.proofs.Text.OneSplit.{reached-inside}
@@ -41,14 +42,14 @@ either-way P true p q = p
 either-way P false p q = q
 
 module _ (n : ℕ) (first second : List ℕ) where
-  at-inside : {ts : List Token} → pair-in n first second .gives ts → (i : ℕ) → Inside first second (pair-in n first second .at ts i)
+  at-inside : {σ : Sizes} {ts : List Token} → pair-in-under σ n first second .gives ts → (i : ℕ) → Inside first second (pair-in-under σ n first second .at ts i)
   unfolding place-at
   at-inside {ts} g i =
       either-way (λ (p : ℕ). Inside first second (place-of first second p)) (ltb i (length ts))
       (place-inside first second (getD ts i past .place) (reached-places (g .given .splits .whole) i))
       (place-inside first second (length (joined first second)) (omega arith))
 
-  refused-inside : {r : Refusal} {x : Place} → Refused (pair-in n first second) r x → Inside first second x
+  refused-inside : {σ : Sizes} {r : Refusal} {x : Place} → RefusedUnder σ (pair-in-under σ n first second) r x → Inside first second x
   refused-inside (by-origin (unknown e)) = front-inside first second
   refused-inside (by-origin (known e (too-long h))) = front-inside first second
   refused-inside (by-origin (known e (flawed {p = p} h a))) = place-inside first second p (reached-inside (a .before))
@@ -56,17 +57,19 @@ module _ (n : ℕ) (first second : List ℕ) where
   refused-inside (by-tokens g (faulty {i = i} a f)) = at-inside g i
 
   -- by check
-  pub checked-inside : {table : ℕ} {r : CheckReport Place} → Checked (pair-in n first second) table r → Inside first second (r .place)
+  pub checked-inside : {σ : Sizes} {table : ℕ} {r : CheckReport Place} → CheckedUnder σ (pair-in-under σ n first second) table r
+      → Inside first second (r .place)
   checked-inside (check-short h) = front-inside first second
   checked-inside (check-refused h x) = refused-inside x
   checked-inside (check-passed h x) = front-inside first second
 
-  spot-inside : {ts : List Token} → pair-in n first second .gives ts → (s : Spot) → Inside first second (place-in (pair-in n first second) ts s)
+  spot-inside : {σ : Sizes} {ts : List Token} → pair-in-under σ n first second .gives ts → (s : Spot)
+      → Inside first second (place-in (pair-in-under σ n first second) ts s)
   spot-inside g nowhere = front-inside first second
   spot-inside g (at i) = at-inside g i
 
   -- and by run
-  pub ran-inside : {l : Lent} {r : RunReport Place} {printed : List ℕ} → Ran (pair-in n first second) l r printed
+  pub ran-inside : {σ : Sizes} {l : Lent} {r : RunReport Place} {printed : List ℕ} → RanUnder σ (pair-in-under σ n first second) l r printed
       → Inside first second (r .place)
   ran-inside (run-short h) = front-inside first second
   ran-inside (run-large h a) = front-inside first second

@@ -8,6 +8,7 @@ use native.Mathlib.Decide.{decLe, decLt, ℕ-discrete}
 use lib.ListN.{length}
 use Prim.Native.Nat.{ℕ}
 use Prim.Native.String.{String}
+use Rattle.language.specs.Sizes.{Sizes, BOX}
 use Rattle.language.specs.Tokens.{Entry, _is_, spell, same, spelled, entry, kind-at, value-at, spelling-at, Vocabulary, EDITION-1, EDITION-2}
 use Rattle.language.specs.Trees.{refs, size, nearest}
 use Rattle.language.specs.Faults.{unsuited}
@@ -36,7 +37,7 @@ gives (flawed f p) form = false
 unfoldable pub stores : Vocabulary → List (Entry String String) → Bool
 unfolding scan stored count-line token-lines line hex capital same
 stores voc [] = true
-stores voc ((source is form) ∷ rows) = gives (scan voc (spell source)) (spell form) && stores voc rows
+stores voc ((source is form) ∷ rows) = gives (scan BOX voc (spell source)) (spell form) && stores voc rows
 
 -- R09.3, and spellings as they are: zeros before a number, capitals, a base
 pub examples-stored :
@@ -63,19 +64,19 @@ abbrev comes : Answer → ℕ → ℕ → Bool
 comes (given ts) n x = eqb n 0 && eqb x (length ts)
 comes (denied r x) n y = eqb n (refusal-number r) && eqb y x
 
--- every input of a table comes to what it says
-unfoldable pub reads : Vocabulary → List (Entry String (Entry ℕ ℕ)) → Bool
+-- every input of a table comes to what it says, under these sizes
+unfoldable pub reads : Sizes → Vocabulary → List (Entry String (Entry ℕ ℕ)) → Bool
 unfolding read-stored
-reads voc [] = true
-reads voc ((input is (n is x)) ∷ rows) = comes (read-stored voc (spell input)) n x && reads voc rows
+reads σ voc [] = true
+reads σ voc ((input is (n is x)) ∷ rows) = comes (read-stored σ voc (spell input)) n x && reads σ voc rows
 
-pub examples-good : reads EDITION-1 ("0003\n31\n2B\n32\n" is (0 is 3) ∷ "0000\n" is (0 is 0) ∷ "0001\n303037\n" is (0 is 1) ∷ []) ≡ true
+pub examples-good : reads BOX EDITION-1 ("0003\n31\n2B\n32\n" is (0 is 3) ∷ "0000\n" is (0 is 0) ∷ "0001\n303037\n" is (0 is 1) ∷ []) ≡ true
 unfolding reads
 examples-good = refl
 
 -- 60: the first line
 pub examples-first :
-    reads EDITION-1
+    reads BOX EDITION-1
     ("" is (60 is 1) ∷ "\n" is (60 is 1) ∷ "0000" is (60 is 1) ∷ "0401" is (60 is 1) ∷ "000\n" is (60 is 1) ∷ "00\n" is (60 is 1) ∷
     "00000\n" is (60 is 1) ∷ "000000\n" is (60 is 1) ∷ "000a\n" is (60 is 1) ∷ "000G\n" is (60 is 1) ∷ "0001\r\n31\r\n" is (60 is 1) ∷
     " 0001\n" is (60 is 1) ∷ [])
@@ -85,7 +86,7 @@ examples-first = refl
 
 -- 60: a line further on, also past the count, and the first one wins
 pub examples-lines :
-    reads EDITION-1
+    reads BOX EDITION-1
     ("0001\n3\n" is (60 is 2) ∷ "0001\n\n" is (60 is 2) ∷ "0001\n31" is (60 is 2) ∷ "0001\n2b\n" is (60 is 2) ∷ "0001\n3G\n" is (60 is 2) ∷
     "0001\n31 \n" is (60 is 2) ∷ "0001\n31\n\n" is (60 is 3) ∷ "0001\n31\n31" is (60 is 3) ∷ "0000\n31\n3\n20\n" is (60 is 3) ∷ [])
     ≡ true
@@ -94,7 +95,7 @@ examples-lines = refl
 
 -- 62: two tokens, a token and a blank, a blank, a comment, a strange byte, a number over its limit, too many digits with a point
 pub examples-tokens :
-    reads EDITION-1
+    reads BOX EDITION-1
     ("0001\n312B\n" is (62 is 2) ∷ "0001\n3120\n" is (62 is 2) ∷ "0001\n20\n" is (62 is 2) ∷ "0001\n2F2F\n" is (62 is 2) ∷ "0001\n23\n" is (62 is 2) ∷
     "0001\n32313437343833363438\n" is (62 is 2) ∷ "0001\n313131313131313131313131313131312E\n" is (62 is 2) ∷ "0000\n31\n20\n3\n" is (62 is 3) ∷ [])
     ≡ true
@@ -103,15 +104,14 @@ examples-tokens = refl
 
 -- 14 before later lines, 61 behind them
 pub examples-counts :
-    reads EDITION-1
-    ("0401\n3\n" is (14 is 1) ∷ "FFFF\n" is (14 is 1) ∷ "0400\n3\n" is (60 is 2) ∷ "0400\n31\n" is (61 is 1) ∷ "0002\n31\n" is (61 is 1) ∷
-    "0000\n31\n" is (61 is 1) ∷ [])
+    reads BOX EDITION-1
+    ("FFFF\n3\n" is (14 is 1) ∷ "FFFF\n" is (14 is 1) ∷ "0002\n31\n" is (61 is 1) ∷ "0000\n31\n" is (61 is 1) ∷ [])
     ≡ true
 unfolding reads
 examples-counts = refl
 
 -- R12.12: a line is a token by the caller's edition
-pub examples-editions : (reads EDITION-1 ("0001\n2E2E\n" is (62 is 2) ∷ []) && reads EDITION-2 ("0001\n2E2E\n" is (0 is 1) ∷ [])) ≡ true
+pub examples-editions : (reads BOX EDITION-1 ("0001\n2E2E\n" is (62 is 2) ∷ []) && reads BOX EDITION-2 ("0001\n2E2E\n" is (0 is 1) ∷ [])) ≡ true
 unfolding reads
 examples-editions = refl
 

@@ -6,11 +6,12 @@ use mathlib.Core.List.{List, [], _∷_, _++_, append-nil, append-assoc}
 use mathlib.Core.Path.{_≡_, refl, sym, ap, subst, _∙_}
 use native.Mathlib.Omega.{arith}
 use Prim.Native.Nat.{ℕ, suc, _+_, _/_, _%_, _<_}
+use Rattle.language.specs.Sizes.{Sizes}
 use Rattle.language.specs.Tokens.{Vocabulary, Token, past, spelling-at}
 use Rattle.language.specs.Numbers.{Refusal}
 use Rattle.language.specs.Answers.{at, place-in}
-use Rattle.language.specs.Stored.{hex, line, count-line, token-lines, stored, StoredGives, GoodLines, from-stored}
-use Rattle.language.specs.Stored.{StoredDenies, no-count, large-count, no-line, no-token, miscounted, overlong}
+use Rattle.language.specs.Stored.{hex, line, count-line, token-lines, stored, StoredGivesUnder, GoodLinesUnder, stored-under}
+use Rattle.language.specs.Stored.{StoredDeniesUnder, no-count, large-count, no-line, no-token, miscounted, overlong}
 use Rattle.language.proofs.Stored.Hex.{not-capital}
 
 -- ---- lines of an input, whatever stands on them
@@ -53,7 +54,8 @@ module _ {input : List ℕ} where
   second n rest e = line-behind (n / 256 ∷ n % 256 ∷ []) rest first e
 
   -- what stands behind good lines begins the line of that number
-  pub good-at : {voc : Vocabulary} {n : ℕ} {ts : List Token} {rest : List ℕ} → GoodLines voc input n ts rest → LineAt input (length ts + 2) rest
+  pub good-at : {σ : Sizes} {voc : Vocabulary} {n : ℕ} {ts : List Token} {rest : List ℕ} → GoodLinesUnder σ voc input n ts rest
+      → LineAt input (length ts + 2) rest
   good-at {n = n} {ts = ts} {rest = rest} g = lines-behind ts rest (second n (token-lines ts ++ rest) (g .lines)) refl
 
 -- ---- the place of a token, and of the end
@@ -73,9 +75,9 @@ lines-around ts i h =
     ∙ lines-append (take i ts) (drop i ts)
     ∙ ap (λ (us : List Token). token-lines (take i ts) ++ token-lines us) (drop-cons ts i past h)
 
-module _ {voc : Vocabulary} {input : List ℕ} {ts : List Token} (g : StoredGives voc input ts) where
+module _ {σ : Sizes} {voc : Vocabulary} {input : List ℕ} {ts : List Token} (g : StoredGivesUnder σ voc input ts) where
   -- token i is on the line of its place
-  pub token-at : (i : ℕ) → i < length ts → (rest : List ℕ) × LineAt input (place-in (from-stored voc input) ts (at i)) (line (spelling-at ts i) ++ rest)
+  pub token-at : (i : ℕ) → i < length ts → (rest : List ℕ) × LineAt input (place-in (stored-under σ voc input) ts (at i)) (line (spelling-at ts i) ++ rest)
   unfolding stored
   token-at i h =
       let rest = token-lines (drop (suc i) ts) in
@@ -84,14 +86,15 @@ module _ {voc : Vocabulary} {input : List ℕ} {ts : List Token} (g : StoredGive
       (rest, subst (λ (n : ℕ). LineAt input (n + 2) (line (spelling-at ts i) ++ rest)) (length-take-le i ts (omega arith)) b)
 
   -- the end is where a line would begin behind the last
-  pub end-at : LineAt input (place-in (from-stored voc input) ts (at (length ts))) []
+  pub end-at : LineAt input (place-in (stored-under σ voc input) ts (at (length ts))) []
   unfolding stored
   end-at = lines-behind ts [] (second (length ts) (token-lines ts) (g .form)) (sym (append-nil (token-lines ts)))
 
 -- ---- the place of a denial
 
 -- it is a line, or nothing
-pub denied-at : {voc : Vocabulary} {input : List ℕ} {r : Refusal} {x : ℕ} → StoredDenies voc input r x → 0 < x → (rest : List ℕ) × LineAt input x rest
+pub denied-at : {σ : Sizes} {voc : Vocabulary} {input : List ℕ} {r : Refusal} {x : ℕ} → StoredDeniesUnder σ voc input r x → 0 < x
+    → (rest : List ℕ) × LineAt input x rest
 denied-at {input = input} (no-count h) k = (input, first)
 denied-at {input = input} (large-count f h) k = (input, first)
 denied-at (no-line g h) k = (_, good-at g)

@@ -8,9 +8,9 @@ use mathlib.Core.Path.{_≡_, refl, sym, ap, subst, _∙_}
 use borrow.Author.Tests.{eq-eqb}
 use native.Mathlib.Omega.{arith}
 use Prim.Native.Nat.{ℕ, _≤_}
-use Rattle.language.specs.Sizes.{LARGEST}
+use Rattle.language.specs.Sizes.{Sizes, LARGEST}
 use Rattle.language.specs.Tokens.{Spelling, same, Vocabulary, Token}
-use Rattle.language.specs.Text.{space, token, Piece, token-of, Reaches, start, skip, next, Splits}
+use Rattle.language.specs.Text.{space, token, Piece, token-of, Reaches, start, skip, next, SplitsUnder, SplitsWhole}
 use Rattle.language.proofs.Text.Marks.{Laws}
 use Rattle.language.proofs.Text.OnePiece.{form-bounds}
 use Rattle.language.proofs.Text.Scanner.{Result, scan, Says, scanned, split-scanned}
@@ -34,38 +34,45 @@ only s (split (t ∷ [])) = if-so t (same (t .spelling) s)
 only s (split (t ∷ u ∷ ts)) = none
 only s (flawed f p) = none
 
+-- Sizes with room for one token, which is all that is asked of bytes that are one: no box's sizes have a say in it.
+abbrev ONE : Sizes
+ONE = record { source = 0; tokens = 1; nodes = 1; functions = 0; parameters = 0; refs = 0; table = 0 }
+
+one : {voc : Vocabulary} {s : Spelling} {t : Token} → SplitsWhole voc s (t ∷ []) → SplitsUnder ONE voc s (t ∷ [])
+one a = record { whole = a; few = omega arith }
+
 -- the token that bytes are
 unfoldable pub lone : Vocabulary → Spelling → Option Token
 unfolding only if-so same scan
-lone voc s = only s (scan voc s)
+lone voc s = only s (scan ONE voc s)
 
 module _ {voc : Vocabulary} (laws : Laws voc) where
   -- what is found is one
-  pub lone-is : (s : Spelling) (t : Token) → lone voc s ≡ some t → (t .spelling ≡ s) × Splits voc (t .spelling) (t ∷ [])
+  pub lone-is : (s : Spelling) (t : Token) → lone voc s ≡ some t → (t .spelling ≡ s) × SplitsWhole voc (t .spelling) (t ∷ [])
   unfolding lone
-  lone-is s t e = go (scan voc s) (scanned laws s) e
+  lone-is s t e = go (scan ONE voc s) (scanned laws ONE s) e
     where
-      spelled : (u : Token) (x : Bool) → same (u .spelling) s ≡ x → Splits voc s (u ∷ []) → if-so u x ≡ some t
-          → (t .spelling ≡ s) × Splits voc (t .spelling) (t ∷ [])
+      spelled : (u : Token) (x : Bool) → same (u .spelling) s ≡ x → SplitsWhole voc s (u ∷ []) → if-so u x ≡ some t
+          → (t .spelling ≡ s) × SplitsWhole voc (t .spelling) (t ∷ [])
       spelled u true h a e =
           let z : u ≡ t = cc in
           let k : t .spelling ≡ s = ap (λ (t : Token). t .spelling) (sym z) ∙ same-one (u .spelling) s h in
-          (k, subst (λ (r : Spelling). Splits voc r (t ∷ [])) (sym k) (subst (λ (t : Token). Splits voc s (t ∷ [])) z a))
+          (k, subst (λ (r : Spelling). SplitsWhole voc r (t ∷ [])) (sym k) (subst (λ (t : Token). SplitsWhole voc s (t ∷ [])) z a))
       spelled u false h a e = let z : _≡_ {A = ℕ} 0 1 = cc in absurd (omega arith)
 
-      go : (r : Result) → Says voc s r → only s r ≡ some t → (t .spelling ≡ s) × Splits voc (t .spelling) (t ∷ [])
+      go : (r : Result) → Says ONE voc s r → only s r ≡ some t → (t .spelling ≡ s) × SplitsWhole voc (t .spelling) (t ∷ [])
       go (split []) a e = let z : _≡_ {A = ℕ} 0 1 = cc in absurd (omega arith)
-      go (split (u ∷ [])) a e = spelled u (same (u .spelling) s) refl a e
+      go (split (u ∷ [])) a e = spelled u (same (u .spelling) s) refl (a .whole) e
       go (split (u ∷ v ∷ us)) a e = let z : _≡_ {A = ℕ} 0 1 = cc in absurd (omega arith)
       go (flawed f p) a e = let z : _≡_ {A = ℕ} 0 1 = cc in absurd (omega arith)
 
   -- and one is found
-  pub is-lone : (t : Token) → Splits voc (t .spelling) (t ∷ []) → lone voc (t .spelling) ≡ some t
+  pub is-lone : (t : Token) → SplitsWhole voc (t .spelling) (t ∷ []) → lone voc (t .spelling) ≡ some t
   unfolding lone only if-so
-  is-lone t a = ap (only (t .spelling)) (split-scanned laws a) ∙ ap (if-so t) (same-self (t .spelling))
+  is-lone t a = ap (only (t .spelling)) (split-scanned laws (one a)) ∙ ap (if-so t) (same-self (t .spelling))
 
   -- so a spelling has one token
-  pub one-lone : {t u : Token} → Splits voc (t .spelling) (t ∷ []) → Splits voc (u .spelling) (u ∷ []) → t .spelling ≡ u .spelling → t ≡ u
+  pub one-lone : {t u : Token} → SplitsWhole voc (t .spelling) (t ∷ []) → SplitsWhole voc (u .spelling) (u ∷ []) → t .spelling ≡ u .spelling → t ≡ u
   one-lone {t} {u} a b e = let x = sym (is-lone t a) ∙ ap (lone voc) e ∙ is-lone u b in cc
 
 -- ---- by the piece that the bytes are
@@ -79,11 +86,8 @@ whole-slice s = take-length s
 
 module _ {voc : Vocabulary} where
   -- bytes that are a piece, whole and not too large, are a token
-  pub piece-lone : (s : Spelling) (k v : ℕ) → Piece voc s 0 (length s) (token k v) → v ≤ LARGEST → Splits voc s (lone-token s k v ∷ [])
-  piece-lone s k v x h = record {
-    whole = next start x h (ap (λ (r : Spelling). lone-token r k v ∷ []) (sym (whole-slice s)));
-    few = omega arith;
-  }
+  pub piece-lone : (s : Spelling) (k v : ℕ) → Piece voc s 0 (length s) (token k v) → v ≤ LARGEST → SplitsWhole voc s (lone-token s k v ∷ [])
+  piece-lone s k v x h = next start x h (ap (λ (r : Spelling). lone-token r k v ∷ []) (sym (whole-slice s)))
 
 -- and where they are one they are such a piece
 pub record WholePiece (voc : Vocabulary) (s : Spelling) (t : Token) (p : ℕ) : Type 0 where
@@ -114,5 +118,5 @@ module _ {voc : Vocabulary} (s : Spelling) (t : Token) (whole : t .spelling ≡ 
       go (u ∷ w ∷ us) g = let z : _≡_ {A = ℕ} 0 1 = cc in absurd (omega arith)
 
 -- for whoever has a lone token
-pub lone-piece : {voc : Vocabulary} {t : Token} → Splits voc (t .spelling) (t ∷ []) → WholePiece voc (t .spelling) t (length (t .spelling))
-lone-piece {t = t} a = reached-piece (t .spelling) t refl (a .whole) refl
+pub lone-piece : {voc : Vocabulary} {t : Token} → SplitsWhole voc (t .spelling) (t ∷ []) → WholePiece voc (t .spelling) t (length (t .spelling))
+lone-piece {t = t} a = reached-piece (t .spelling) t refl a refl

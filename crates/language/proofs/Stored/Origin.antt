@@ -6,32 +6,32 @@ use mathlib.Core.Logic.{_⊎_, inl, inr}
 use mathlib.Core.Path.{_≡_, refl, sym, _∙_}
 use native.Mathlib.Omega.{arith}
 use Prim.Native.Nat.{ℕ, zero, suc, _≤_}
-use Rattle.language.specs.Sizes.{LARGEST}
+use Rattle.language.specs.Sizes.{Sizes, LARGEST}
 use Rattle.language.specs.Tokens.{Vocabulary, Token, value-at}
 use Rattle.language.specs.Numbers.{Refusal, no-reading, long-text}
 use Rattle.language.specs.Answers.{keeps}
-use Rattle.language.specs.Stored.{AllLone, lone-none, lone-more, from-stored}
-use Rattle.language.specs.Stored.{StoredGives, StoredDenies, no-count, large-count, no-line, no-token, miscounted, overlong}
+use Rattle.language.specs.Stored.{COUNT, AllLone, lone-none, lone-more, stored-under, from-stored}
+use Rattle.language.specs.Stored.{StoredGivesUnder, StoredDeniesUnder, no-count, large-count, no-line, no-token, miscounted, overlong}
 use Rattle.language.proofs.Text.Marks.{Laws}
-use Rattle.language.proofs.Text.SmallNumbers.{split-small}
-use Rattle.language.proofs.Answers.Origins.{Lawful}
+use Rattle.language.proofs.Text.SmallNumbers.{reached-small}
+use Rattle.language.proofs.Answers.Origins.{LawfulUnder, Lawful, of-profile}
 use Rattle.language.proofs.Stored.Reader.{Answer, given, denied, Says, read-stored, read-says}
 use Rattle.language.proofs.Stored.ReaderComplete.{gives-read, denies-read}
 
 -- what is found of an input
-abbrev Comes : Vocabulary → List ℕ → Type 0
-Comes voc input = ((ts : List Token) × StoredGives voc input ts) ⊎ ((r : Refusal) × (x : ℕ) × StoredDenies voc input r x)
+abbrev Comes : Sizes → Vocabulary → List ℕ → Type 0
+Comes σ voc input = ((ts : List Token) × StoredGivesUnder σ voc input ts) ⊎ ((r : Refusal) × (x : ℕ) × StoredDeniesUnder σ voc input r x)
 
 -- no number of lone tokens is too large
 pub lone-small : {voc : Vocabulary} {ts : List Token} → AllLone voc ts → (i : ℕ) → value-at ts i ≤ LARGEST
 unfolding value-at
 lone-small lone-none zero = omega arith
 lone-small lone-none (suc i) = omega arith
-lone-small (lone-more x xs) zero = split-small (x .splits) 0
+lone-small (lone-more x xs) zero = reached-small (x .splits) 0
 lone-small (lone-more x xs) (suc i) = lone-small xs i
 
 module _ {voc : Vocabulary} {input : List ℕ} where
-  pub not-memory : {r : Refusal} {x : ℕ} → StoredDenies voc input r x → keeps r ≡ false
+  pub not-memory : {σ : Sizes} {r : Refusal} {x : ℕ} → StoredDeniesUnder σ voc input r x → keeps r ≡ false
   not-memory (no-count h) = refl
   not-memory (large-count f h) = refl
   not-memory (no-line g h) = refl
@@ -39,7 +39,7 @@ module _ {voc : Vocabulary} {input : List ℕ} where
   not-memory (miscounted g h) = refl
   not-memory (overlong g h) = refl
 
-  pub not-reading : {r : Refusal} {x : ℕ} → StoredDenies voc input r x → r ≡ no-reading → ⊥
+  pub not-reading : {σ : Sizes} {r : Refusal} {x : ℕ} → StoredDeniesUnder σ voc input r x → r ≡ no-reading → ⊥
   not-reading (no-count h) e = let z : _≡_ {A = ℕ} 0 1 = cc in omega arith
   not-reading (large-count f h) e = let z : _≡_ {A = ℕ} 0 1 = cc in omega arith
   not-reading (no-line g h) e = let z : _≡_ {A = ℕ} 0 1 = cc in omega arith
@@ -47,7 +47,7 @@ module _ {voc : Vocabulary} {input : List ℕ} where
   not-reading (miscounted g h) e = let z : _≡_ {A = ℕ} 0 1 = cc in omega arith
   not-reading (overlong g h) e = let z : _≡_ {A = ℕ} 0 1 = cc in omega arith
 
-  pub not-written : {r : Refusal} {x : ℕ} → StoredDenies voc input r x → r ≡ long-text → ⊥
+  pub not-written : {σ : Sizes} {r : Refusal} {x : ℕ} → StoredDeniesUnder σ voc input r x → r ≡ long-text → ⊥
   not-written (no-count h) e = let z : _≡_ {A = ℕ} 0 1 = cc in omega arith
   not-written (large-count f h) e = let z : _≡_ {A = ℕ} 0 1 = cc in omega arith
   not-written (no-line g h) e = let z : _≡_ {A = ℕ} 0 1 = cc in omega arith
@@ -55,31 +55,40 @@ module _ {voc : Vocabulary} {input : List ℕ} where
   not-written (miscounted g h) e = let z : _≡_ {A = ℕ} 0 1 = cc in omega arith
   not-written (overlong g h) e = let z : _≡_ {A = ℕ} 0 1 = cc in omega arith
 
-module _ {voc : Vocabulary} (laws : Laws voc) (input : List ℕ) where
+  pub not-profiled : {σ : Sizes} {r : Refusal} {x : ℕ} → StoredDeniesUnder σ voc input r x → of-profile r ≡ false
+  not-profiled (no-count h) = refl
+  not-profiled (large-count f h) = refl
+  not-profiled (no-line g h) = refl
+  not-profiled (no-token g f h) = refl
+  not-profiled (miscounted g h) = refl
+  not-profiled (overlong g h) = refl
+
+-- where a count can tell as many tokens as there may be
+module _ {σ : Sizes} (told : σ .tokens ≤ COUNT) {voc : Vocabulary} (laws : Laws voc) (input : List ℕ) where
   -- one input comes to one token list (R09.10)
-  pub one-list : (ts us : List Token) → StoredGives voc input ts → StoredGives voc input us → ts ≡ us
-  one-list ts us a b = let e = sym (gives-read laws a) ∙ gives-read laws b in cc
+  pub one-list : (ts us : List Token) → StoredGivesUnder σ voc input ts → StoredGivesUnder σ voc input us → ts ≡ us
+  one-list ts us a b = let e = sym (gives-read σ told laws a) ∙ gives-read σ told laws b in cc
 
-  pub one-denial : (r q : Refusal) (x y : ℕ) → StoredDenies voc input r x → StoredDenies voc input q y → (r ≡ q) × (x ≡ y)
-  one-denial r q x y a b = let e = sym (denies-read laws a) ∙ denies-read laws b in (cc, cc)
+  pub one-denial : (r q : Refusal) (x y : ℕ) → StoredDeniesUnder σ voc input r x → StoredDeniesUnder σ voc input q y → (r ≡ q) × (x ≡ y)
+  one-denial r q x y a b = let e = sym (denies-read σ told laws a) ∙ denies-read σ told laws b in (cc, cc)
 
-  pub never-both : (ts : List Token) (r : Refusal) (x : ℕ) → StoredGives voc input ts → StoredDenies voc input r x → ⊥
+  pub never-both : (ts : List Token) (r : Refusal) (x : ℕ) → StoredGivesUnder σ voc input ts → StoredDeniesUnder σ voc input r x → ⊥
   never-both ts r x a b =
-      let e = sym (gives-read laws a) ∙ denies-read laws b in
+      let e = sym (gives-read σ told laws a) ∙ denies-read σ told laws b in
       let z : _≡_ {A = ℕ} 0 1 = cc in
       omega arith
 
-  unfoldable some-stored : Comes voc input
+  unfoldable some-stored : Comes σ voc input
   unfolding read-stored
-  some-stored = go (read-stored voc input) (read-says laws input)
+  some-stored = go (read-stored σ voc input) (read-says σ laws input)
     where
-      go : (a : Answer) → Says voc input a → Comes voc input
+      go : (a : Answer) → Says σ voc input a → Comes σ voc input
       go (given ts) h = inl (ts, h)
       go (denied r x) h = inr (r, x, h)
 
-  unfoldable pub stored-lawful : Lawful (from-stored voc input)
+  unfoldable pub stored-lawful-under : LawfulUnder σ (stored-under σ voc input)
   unfolding some-stored
-  stored-lawful = record {
+  stored-lawful-under = record {
     one-list = one-list;
     one-denial = one-denial;
     never-both = never-both;
@@ -89,4 +98,10 @@ module _ {voc : Vocabulary} (laws : Laws voc) (input : List ℕ) where
     not-memory = λ r x d. not-memory d;
     not-reading = λ x d. not-reading d refl;
     not-written = λ x d. not-written d refl;
+    not-profiled = λ r x d. not-profiled d;
   }
+
+-- under the box's sizes
+unfoldable pub stored-lawful : {voc : Vocabulary} → Laws voc → (input : List ℕ) → Lawful (from-stored voc input)
+unfolding stored-lawful-under
+stored-lawful laws input = stored-lawful-under (omega arith) laws input

@@ -5,10 +5,10 @@ use Prim.Native.Nat.{ℕ, _+_, _*_, _/_, _%_, _≤_, _<_}
 use native.Mathlib.Omega.{arith}
 use lib.ListN.{length, length-append}
 use lib.Seq.{length-slice, take-length}
-use Rattle.language.specs.Sizes.{SOURCE, TOKENS}
+use Rattle.language.specs.Sizes.{Sizes}
 use Rattle.language.specs.Tokens.{Token, Vocabulary, Spelling, SameButPlaces, same-none, same-more}
-use Rattle.language.specs.Text.{space, token, Piece, token-of, Reaches, start, skip, next, Splits}
-use Rattle.language.specs.Stored.{hex, line, count-line, token-lines, stored, spelled-bytes, Lone, AllLone, lone-none, lone-more, StoredGives}
+use Rattle.language.specs.Text.{space, token, Piece, token-of, Reaches, start, skip, next, SplitsUnder}
+use Rattle.language.specs.Stored.{COUNT, hex, line, count-line, token-lines, stored, spelled-bytes, Lone, AllLone, lone-none, lone-more, StoredGivesUnder}
 use Rattle.language.proofs.Text.Marks.{Laws}
 use Rattle.language.proofs.Text.OnePiece.{form-bounds}
 use Rattle.language.proofs.Text.Alone.{alone}
@@ -96,8 +96,8 @@ stored-long ts =
     )
 
 -- so there is a room in which that of every source fits
-pub stored-room : {voc : Vocabulary} {t : List ℕ} {ts : List Token} → Splits voc t ts → length t ≤ SOURCE
-    → length (stored ts) ≤ SOURCE * 2 + TOKENS + 5
+pub stored-room : {σ : Sizes} {voc : Vocabulary} {t : List ℕ} {ts : List Token} → SplitsUnder σ voc t ts → length t ≤ σ .source
+    → length (stored ts) ≤ σ .source * 2 + σ .tokens + 5
 stored-room {ts = ts} x h = omega (arith, stored-long ts, reached-bytes (x .whole), x .few)
 
 module _ {voc : Vocabulary} (laws : Laws voc) (marks : ByteMarks voc) where
@@ -131,7 +131,8 @@ module _ {voc : Vocabulary} (laws : Laws voc) (marks : ByteMarks voc) where
   -- ---- and all of them
 
   -- what is stored of a text comes to the text's tokens
-  pub stored-back : {t : List ℕ} {ts : List Token} → Splits voc t ts → length t ≤ SOURCE → StoredGives voc (stored ts) (each-alone ts)
+  pub stored-back : {σ : Sizes} {t : List ℕ} {ts : List Token} → SplitsUnder σ voc t ts → length t ≤ σ .source
+      → StoredGivesUnder σ voc (stored ts) (each-alone ts)
   stored-back {t} {ts} x h = record {
     form = same-stored (alone-same ts);
     tokens = all-lone (reached-spelled (x .whole));
@@ -140,17 +141,19 @@ module _ {voc : Vocabulary} (laws : Laws voc) (marks : ByteMarks voc) where
   }
 
   -- so two texts have one stored form only where their tokens are the same
-  pub told-apart : {t u : List ℕ} {ts us : List Token} → Splits voc t ts → length t ≤ SOURCE → Splits voc u us → length u ≤ SOURCE
+  pub told-apart : {σ : Sizes} {t u : List ℕ} {ts us : List Token} → σ .tokens ≤ COUNT → SplitsUnder σ voc t ts → length t ≤ σ .source
+      → SplitsUnder σ voc u us → length u ≤ σ .source
       → stored ts ≡ stored us → SameButPlaces ts us
-  told-apart {t} {u} {ts} {us} x h y k e =
-      let z = one-list laws (stored us) (each-alone ts) (each-alone us)
-      (subst (λ (s : List ℕ). StoredGives voc s (each-alone ts)) e (stored-back x h)) (stored-back y k) in
+  told-apart {σ} {t} {u} {ts} {us} told x h y k e =
+      let z = one-list told laws (stored us) (each-alone ts) (each-alone us)
+      (subst (λ (s : List ℕ). StoredGivesUnder σ voc s (each-alone ts)) e (stored-back x h)) (stored-back y k) in
       same-on (alone-same ts) (subst (λ (vs : List Token). SameButPlaces vs us) (sym z) (same-back (alone-same us)))
 
 -- one token list has one stored form: inputs that come to the same tokens are one
-pub one-form : {voc : Vocabulary} {a b : List ℕ} {ts us : List Token} → StoredGives voc a ts → StoredGives voc b us → SameButPlaces ts us → a ≡ b
+pub one-form : {σ : Sizes} {voc : Vocabulary} {a b : List ℕ} {ts us : List Token} → StoredGivesUnder σ voc a ts → StoredGivesUnder σ voc b us
+    → SameButPlaces ts us → a ≡ b
 one-form x y s = x .form ∙ same-stored s ∙ sym (y .form)
 
 -- and stored again it is itself
-pub stored-again : {voc : Vocabulary} {input : List ℕ} {ts : List Token} → StoredGives voc input ts → stored ts ≡ input
+pub stored-again : {σ : Sizes} {voc : Vocabulary} {input : List ℕ} {ts : List Token} → StoredGivesUnder σ voc input ts → stored ts ≡ input
 stored-again x = sym (x .form)

@@ -24,9 +24,10 @@ use Rattle.language.proofs.Text.Places.Sort.{letters}
 use Rattle.language.proofs.Text.Runs.{Run}
 use Rattle.language.proofs.Text.Spellings.{byte-inside}
 use Rattle.language.proofs.Text.Tables.{every, spelling-of, passes, no-kind}
+use Rattle.language.specs.Sizes.{Sizes}
 use Rattle.language.specs.Sizes.{LARGEST}
 use Rattle.language.specs.Text.{byte, between, is-blank, is-letter, is-digit, is-hex-digit, worth, is-digit-of, is-name-byte}
-use Rattle.language.specs.Text.{Content, Form, Piece, Within, or-name, word-kind, number-from, token-of, Reaches, Splits}
+use Rattle.language.specs.Text.{Content, Form, Piece, Within, or-name, word-kind, number-from, token-of, Reaches, SplitsUnder}
 use Rattle.language.specs.Text.Content.{space, unclosed, token}
 use Rattle.language.specs.Text.Form.{blank, line, comment, unended, name, number, based, float, mark}
 use Rattle.language.specs.Text.Reaches.{start, skip, next}
@@ -233,5 +234,5 @@ module _ (t : List ℕ) (us : List Token) (apart : NoPair us) where
   onward (step {p = p} {ts = ts} (put a h x) l) r = onward l (next r (lift-piece t p (λ base k. no-base {ts = ts} k (put a h x) l) a) h x)
 
 -- a text splits as before
-pub splits-as-before : {t : List ℕ} {us : List Token} → NoPair us → Splits DECIMAL t us → Splits EDITION-1 t us
+pub splits-as-before : {σ : Sizes} {t : List ℕ} {us : List Token} → NoPair us → SplitsUnder σ DECIMAL t us → SplitsUnder σ EDITION-1 t us
 splits-as-before {t} {us} n s = record { whole = onward t us n (from-start (s .whole) here) start; few = s .few }

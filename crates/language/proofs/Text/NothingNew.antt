@@ -14,10 +14,12 @@ use Rattle.language.proofs.Text.OneSplit.{over, put, Later, here, step,
 use Rattle.language.proofs.Text.Places.{View, view, sort-letter}
 use Rattle.language.proofs.Text.Places.Sort.{letters}
 use Rattle.language.proofs.Text.Spellings.{byte-inside, slice-stands}
-use Rattle.language.specs.Text.{byte, Stands, between, is-letter, Content, Form, Piece, word-kind, token-of, Reaches, Splits, Flaw, Wrong, Flawed}
+use Rattle.language.specs.Sizes.{Sizes}
+use Rattle.language.specs.Text.{byte, Stands, between, is-letter, Content, Form, Piece, word-kind, token-of, Reaches, SplitsUnder, Flaw}
+use Rattle.language.specs.Text.{WrongUnder, FlawedUnder}
 use Rattle.language.specs.Text.Content.{space, unclosed, overlong, token}
 use Rattle.language.specs.Text.Reaches.{start, skip, next}
-use Rattle.language.specs.Text.Wrong.{strange, opened, long, large, many}
+use Rattle.language.specs.Text.WrongUnder.{strange, opened, long, large, many}
 use Rattle.language.specs.Tokens.{Spelling, spell, same, spelled, Vocabulary, EDITION-1, EDITION-2, Token, FOR, BY, UPTO, THROUGH}
 
 -- ---- tokens that are older
@@ -99,13 +101,14 @@ module _ {t : List ℕ} where
       (subst (Piece EDITION-2 t p q) (kin-old (y .2) (w .not-for) (w .not-by)) (y .1)) h e
 
   -- a text that splits by edition 1, with none of the new words, splits so by edition 2
-  pub splits-up : {ts : List Token} → Every OldWord ts → Splits EDITION-1 t ts → Splits EDITION-2 t ts
+  pub splits-up : {σ : Sizes} {ts : List Token} → Every OldWord ts → SplitsUnder σ EDITION-1 t ts → SplitsUnder σ EDITION-2 t ts
   splits-up old s = record { whole = reaches-up (λ m e z. omega (arith, byte-inside t (m + 1) 46 (z .1) (omega arith))) old (s .whole); few = s .few }
 
   ends-clear : {p q : ℕ} {c : Content} → ((m : ℕ) → p ≤ m + 1 → Pair t m → ⊥) → Piece EDITION-1 t p q c → (m : ℕ) → m + 1 ≡ q → Pair t m → ⊥
   ends-clear {p} {q} {c} bare x m e z = bare m (omega (arith, form-bounds t p q c (x .form))) z
 
-  wrong-up : {f : Flaw} {p : ℕ} {ts : List Token} → ((m : ℕ) → p ≤ m + 1 → Pair t m → ⊥) → Wrong EDITION-1 t p ts f → Wrong EDITION-2 t p ts f
+  wrong-up : {σ : Sizes} {f : Flaw} {p : ℕ} {ts : List Token} → ((m : ℕ) → p ≤ m + 1 → Pair t m → ⊥) → WrongUnder σ EDITION-1 t p ts f
+      → WrongUnder σ EDITION-2 t p ts f
   wrong-up {p = p} bare (strange h n) = strange h (none-up t n (bare p (omega arith)))
   wrong-up {p = p} bare (opened {q = q} x) =
       let y = piece-up t (ends-clear bare x) x in opened (subst (Piece EDITION-2 t p q) (kin-open (y .2)) (y .1))
@@ -188,7 +191,7 @@ module _ {t : List ℕ} where
       )
 
   -- a text that splits by edition 2, with no token of a new kind, splits so by edition 1, with none of the new words
-  pub splits-down : {ts : List Token} → Every OldKind ts → Splits EDITION-2 t ts → Splits EDITION-1 t ts × Every OldWord ts
+  pub splits-down : {σ : Sizes} {ts : List Token} → Every OldKind ts → SplitsUnder σ EDITION-2 t ts → SplitsUnder σ EDITION-1 t ts × Every OldWord ts
   splits-down old s =
       let z = reaches-down (λ z. omega (arith, byte-inside t (length t) 46 (z .0) (omega arith))) old (s .whole) in
       (record { whole = z .0; few = s .few }, z .1)
@@ -197,15 +200,15 @@ module _ {t : List ℕ} where
 
 -- As far as it splits by edition 1 no token is spelled as a new word; and if it has a flaw there, no two points stand side by
 -- side from there on.
-pub record NothingNew (t : List ℕ) : Type 0 where
+pub record NothingNew (σ : Sizes) (t : List ℕ) : Type 0 where
   pub words : {p : ℕ} {ts : List Token} → Reaches EDITION-1 t p ts → Every OldWord ts
-  pub marks : {f : Flaw} {p : ℕ} → Flawed EDITION-1 t f p → (m : ℕ) → p ≤ m + 1 → Pair t m → ⊥
+  pub marks : {f : Flaw} {p : ℕ} → FlawedUnder σ EDITION-1 t f p → (m : ℕ) → p ≤ m + 1 → Pair t m → ⊥
 
-module _ {t : List ℕ} (old : NothingNew t) where
-  pub same-split : {ts : List Token} → Splits EDITION-1 t ts → Splits EDITION-2 t ts
+module _ {σ : Sizes} {t : List ℕ} (old : NothingNew σ t) where
+  pub same-split : {ts : List Token} → SplitsUnder σ EDITION-1 t ts → SplitsUnder σ EDITION-2 t ts
   same-split s = splits-up (old .words (s .whole)) s
 
-  pub same-flaw : {f : Flaw} {p : ℕ} → Flawed EDITION-1 t f p → Flawed EDITION-2 t f p
+  pub same-flaw : {f : Flaw} {p : ℕ} → FlawedUnder σ EDITION-1 t f p → FlawedUnder σ EDITION-2 t f p
   same-flaw {p = p} x =
       let bare = old .marks x in
       record {
@@ -226,7 +229,7 @@ module _ {t : List ℕ} (no-for : (m : ℕ) → Stands t m (spell "for") → ⊥
       let n : OldWord (token-of t p q k v) = record { not-for = λ s. no-for p (stands (spell "for") s); not-by = λ s. no-by p (stands (spell "by") s) } in
       subst (Every OldWord) (sym e) (every-with (bytes-words r) n)
 
-  pub nothing-in-bytes : ((m : ℕ) → Stands t m (spell "..") → ⊥) → NothingNew t
+  pub nothing-in-bytes : {σ : Sizes} → ((m : ℕ) → Stands t m (spell "..") → ⊥) → NothingNew σ t
   nothing-in-bytes no-points = record { words = bytes-words; marks = λ x m h z. no-points m (z .0, (z .1, tt)) }
 
 -- of one that splits by edition 1 into tokens without the new words
@@ -236,12 +239,12 @@ later-front (step (over a x) l) = let z = later-front l in (z .0, z .1 ∙ ap (�
 later-front (step {ts = ts} (put a h x) l) =
     let z = later-front l in (_, z .1 ∙ ap (λ (ts : List Token). ts ++ z .0) x ∙ append-assoc ts _ (z .0))
 
-pub nothing-in-tokens : {t : List ℕ} {ts : List Token} → Splits EDITION-1 t ts → Every OldWord ts → NothingNew t
+pub nothing-in-tokens : {σ : Sizes} {t : List ℕ} {ts : List Token} → SplitsUnder σ EDITION-1 t ts → Every OldWord ts → NothingNew σ t
 nothing-in-tokens {t} {ts} s old = record { words = λ r. words r; marks = λ x. absurd (not-both laws-1 s x) }
   where
     words : {p : ℕ} {us : List Token} → Reaches EDITION-1 t p us → Every OldWord us
     words {us = us} r = let z = later-front (onward laws-1 r (s .whole) (reached-inside r)) in every-front us _ (subst (Every OldWord) (z .1) old)
 
 -- and of one that splits by edition 2 into tokens of none of the new kinds
-pub nothing-in-kinds : {t : List ℕ} {ts : List Token} → Splits EDITION-2 t ts → Every OldKind ts → NothingNew t
+pub nothing-in-kinds : {σ : Sizes} {t : List ℕ} {ts : List Token} → SplitsUnder σ EDITION-2 t ts → Every OldKind ts → NothingNew σ t
 nothing-in-kinds s old = let z = splits-down old s in nothing-in-tokens (z .0) (z .1)

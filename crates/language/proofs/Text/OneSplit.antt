@@ -9,11 +9,11 @@ use Prim.Native.Nat.{ℕ, _≤_, _<_}
 use Rattle.language.proofs.Text.Choices.{either}
 use Rattle.language.proofs.Text.Marks.{Laws}
 use Rattle.language.proofs.Text.OnePiece.{one-piece, form-bounds}
-use Rattle.language.specs.Sizes.{TOKENS, LARGEST}
-use Rattle.language.specs.Text.{Content, Piece, token-of, Reaches, Splits, Flaw, Wrong, Flawed}
+use Rattle.language.specs.Sizes.{Sizes, LARGEST}
+use Rattle.language.specs.Text.{Content, Piece, token-of, Reaches, SplitsUnder, Flaw, WrongUnder, FlawedUnder}
 use Rattle.language.specs.Text.Content.{space, unclosed, overlong, token}
 use Rattle.language.specs.Text.Reaches.{start, skip, next}
-use Rattle.language.specs.Text.Wrong.{strange, opened, long, large, many}
+use Rattle.language.specs.Text.WrongUnder.{strange, opened, long, large, many}
 use Rattle.language.specs.Tokens.{Vocabulary, Token}
 
 -- ---- one step of a split
@@ -128,12 +128,12 @@ module _ {voc : Vocabulary} (laws : Laws voc) {t : List ℕ} where
   one-list a b = sym (later-same (onward a b (omega arith)) (omega arith))
 
   -- a text has one split at most
-  pub one-split : {ts us : List Token} → Splits voc t ts → Splits voc t us → ts ≡ us
+  pub one-split : {σ : Sizes} {ts us : List Token} → SplitsUnder σ voc t ts → SplitsUnder σ voc t us → ts ≡ us
   one-split a b = one-list (a .whole) (b .whole)
 
 -- ---- flaws
 
-wrong-inside : {voc : Vocabulary} {t : List ℕ} {p : ℕ} {ts : List Token} {f : Flaw} → Wrong voc t p ts f → p < length t
+wrong-inside : {σ : Sizes} {voc : Vocabulary} {t : List ℕ} {p : ℕ} {ts : List Token} {f : Flaw} → WrongUnder σ voc t p ts f → p < length t
 wrong-inside (strange h n) = h
 wrong-inside {t = t} {p = p} (opened {q = q} a) = omega (arith, form-bounds t p q unclosed (a .form))
 wrong-inside {t = t} {p = p} (long {q = q} a) = omega (arith, form-bounds t p q overlong (a .form))
@@ -141,7 +141,7 @@ wrong-inside {t = t} {p = p} (large {q = q} {k = k} {v = v} a h) = omega (arith,
 wrong-inside {t = t} {p = p} (many {q = q} {k = k} {v = v} a h e) = omega (arith, form-bounds t p q (token k v) (a .form))
 
 module _ {voc : Vocabulary} (laws : Laws voc) {t : List ℕ} {p : ℕ} {ts : List Token} where
-  no-step : {f : Flaw} {q : ℕ} {us : List Token} → Wrong voc t p ts f → Step voc t p ts q us → length us ≤ TOKENS → ⊥
+  no-step : {σ : Sizes} {f : Flaw} {q : ℕ} {us : List Token} → WrongUnder σ voc t p ts f → Step voc t p ts q us → length us ≤ σ .tokens → ⊥
   no-step {q = q} (strange h n) (over x e) l = n q space (x .form)
   no-step {q = q} (strange h n) (put {k = k} {v = v} x g e) l = n q (token k v) (x .form)
   no-step (opened a) (over x e) l = open-space laws t p a x
@@ -153,7 +153,7 @@ module _ {voc : Vocabulary} (laws : Laws voc) {t : List ℕ} {p : ℕ} {ts : Lis
   no-step (many a h c) (over x e) l = space-token laws t p x a
   no-step (many a h c) (put x g e) l = omega (arith, simp length-append at (ap length e))
 
-  one-wrong : {f g : Flaw} → Wrong voc t p ts f → Wrong voc t p ts g → f ≡ g
+  one-wrong : {σ : Sizes} {f g : Flaw} → WrongUnder σ voc t p ts f → WrongUnder σ voc t p ts g → f ≡ g
   one-wrong (strange h n) (strange g m) = refl
   one-wrong (strange h n) (opened a) = absurd (n _ _ (a .form))
   one-wrong (strange h n) (long a) = absurd (n _ _ (a .form))
@@ -181,28 +181,28 @@ module _ {voc : Vocabulary} (laws : Laws voc) {t : List ℕ} {p : ℕ} {ts : Lis
   one-wrong (many a l e) (many b m g) = refl
 
 module _ {voc : Vocabulary} (laws : Laws voc) {t : List ℕ} where
-  ends : {f : Flaw} {p q : ℕ} {ts us : List Token}
-      → Wrong voc t p ts f → Later voc t q us p ts → length us ≤ TOKENS → (p ≡ q) × (ts ≡ us)
+  ends : {σ : Sizes} {f : Flaw} {p q : ℕ} {ts us : List Token}
+      → WrongUnder σ voc t p ts f → Later voc t q us p ts → length us ≤ σ .tokens → (p ≡ q) × (ts ≡ us)
   ends w here h = (refl, refl)
   ends w (step s l) h = absurd (no-step laws w s (omega (arith, later-more l)))
 
-  not-later : {f g : Flaw} {p q : ℕ} → Flawed voc t f p → Flawed voc t g q → p ≤ q → (f ≡ g) × (p ≡ q)
-  not-later {f} a b h =
+  not-later : {σ : Sizes} {f g : Flaw} {p q : ℕ} → FlawedUnder σ voc t f p → FlawedUnder σ voc t g q → p ≤ q → (f ≡ g) × (p ≡ q)
+  not-later {σ} {f} a b h =
       let z = ends (a .here) (onward laws (a .before) (b .before) h) (b .few) in
-      (one-wrong laws (subst₂ (λ x y. Wrong voc t x y f) (z .0) (z .1) (a .here)) (b .here), z .0)
+      (one-wrong laws (subst₂ (λ x y. WrongUnder σ voc t x y f) (z .0) (z .1) (a .here)) (b .here), z .0)
 
   -- a text has one first flaw at most, at one place
-  pub one-flaw : {f g : Flaw} {p q : ℕ} → Flawed voc t f p → Flawed voc t g q → (f ≡ g) × (p ≡ q)
+  pub one-flaw : {σ : Sizes} {f g : Flaw} {p q : ℕ} → FlawedUnder σ voc t f p → FlawedUnder σ voc t g q → (f ≡ g) × (p ≡ q)
   one-flaw {f} {g} {p} {q} a b =
       ⊎-elim (λ h. not-later a b (omega arith)) (λ h. let z = not-later b a h in (sym (z .0), sym (z .1))) (either p q)
 
   -- a text that splits has no flaw
-  pub not-both : {ts : List Token} {f : Flaw} {p : ℕ} → Splits voc t ts → Flawed voc t f p → ⊥
+  pub not-both : {σ : Sizes} {ts : List Token} {f : Flaw} {p : ℕ} → SplitsUnder σ voc t ts → FlawedUnder σ voc t f p → ⊥
   not-both a b =
       let z = ends (b .here) (onward laws (b .before) (a .whole) (reached-inside (b .before))) (a .few) in
       omega (arith, z .0, wrong-inside (b .here))
 
   -- no place behind a flaw is reached with so few tokens
-  pub flaw-last : {f : Flaw} {p q : ℕ} {us : List Token} → Flawed voc t f p → Reaches voc t q us → length us ≤ TOKENS → q ≤ p
+  pub flaw-last : {σ : Sizes} {f : Flaw} {p q : ℕ} {us : List Token} → FlawedUnder σ voc t f p → Reaches voc t q us → length us ≤ σ .tokens → q ≤ p
   flaw-last {p = p} {q = q} a b h =
       ⊎-elim (λ l. omega (arith, ends (a .here) (onward laws (a .before) b (omega arith)) h .0)) (λ l. l) (either p q)

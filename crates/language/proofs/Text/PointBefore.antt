@@ -8,7 +8,8 @@ use Prim.Native.Nat.{ℕ, _≤_, _<_}
 use Rattle.language.proofs.Text.Marks.{Laws}
 use Rattle.language.proofs.Text.OneSplit.{over, put, Later, here, step, from-start}
 use Rattle.language.proofs.Text.Points.{Pointless, no-form, ends-at-point}
-use Rattle.language.specs.Text.{byte, Content, Form, Piece, Reaches, Splits, word-kind}
+use Rattle.language.specs.Sizes.{Sizes}
+use Rattle.language.specs.Text.{byte, Content, Form, Piece, Reaches, SplitsUnder, word-kind}
 use Rattle.language.specs.Text.Form.{blank, line, comment, unended, name, number, based, float, mark}
 use Rattle.language.specs.Text.Reaches.{start, skip, next}
 use Rattle.language.specs.Tokens.{Vocabulary, Token}
@@ -62,5 +63,5 @@ module _ {voc : Vocabulary} (laws : Laws voc) (bare : Pointless voc) (t : List �
   onward (step (put a h x) l) r = onward l (next r (lift-piece (goes-on l) a) h x)
 
   -- a text splits as before
-  pub splits-with-points : {us : List Token} → Splits (without voc) t us → Splits voc t us
+  pub splits-with-points : {σ : Sizes} {us : List Token} → SplitsUnder σ (without voc) t us → SplitsUnder σ voc t us
   splits-with-points s = record { whole = onward (from-start (s .whole) here) start; few = s .few }

@@ -3,16 +3,17 @@ use mathlib.Core.List.{List, [], _∷_}
 use Prim.Native.Nat.{ℕ, _+_, _≤_, _<_}
 use native.Mathlib.Omega.{arith}
 use lib.ListN.{length}
+use Rattle.language.specs.Sizes.{Sizes}
 use Rattle.language.specs.Tokens.{Token}
 use Rattle.language.specs.Trees.{Ty, Exp, Exps, Param, Def, Program, Scope}
 use Rattle.language.specs.Grammar.{program, formals, params, Reads, Reading, program-seq, program-def}
 use Rattle.language.specs.Grammar.{def-is, formals-none, formals-some, params-one, params-more}
 use Rattle.language.specs.Types.{Sig}
-use Rattle.language.specs.Faults.{Reason, Fault, f-name, f-unary, f-unary-here, f-left, f-right, f-binary-here, f-first, f-second, f-follow-here}
+use Rattle.language.specs.Faults.{Reason, FaultUnder, f-name, f-unary, f-unary-here, f-left, f-right, f-binary-here, f-first, f-second, f-follow-here}
 use Rattle.language.specs.Faults.{f-group, f-block, f-arguments, f-no-function, f-wrong-number, f-wrong-argument, f-bound, f-inside, f-if}
-use Rattle.language.specs.Faults.{f-then, f-else, f-if-here, f-branches-here, f-while, f-do, f-while-here, f-do-here, FaultAll, f-one, f-rest}
-use Rattle.language.specs.Faults.{FaultTakes, p-ninth, p-twice, p-refs, p-later, FaultDef, d-many, d-twice, d-params, d-refs, d-body, d-type}
-use Rattle.language.specs.Faults.{FaultFrom, fault-main, fault-here, fault-later, HasFault, f-bounds, f-pass, f-bounds-here, f-pass-here}
+use Rattle.language.specs.Faults.{f-then, f-else, f-if-here, f-branches-here, f-while, f-do, f-while-here, f-do-here, FaultAllUnder, f-one, f-rest}
+use Rattle.language.specs.Faults.{FaultTakesUnder, p-ninth, p-twice, p-refs, p-later, FaultDefUnder, d-many, d-twice, d-params, d-refs, d-body, d-type}
+use Rattle.language.specs.Faults.{FaultFromUnder, fault-main, fault-here, fault-later, HasFaultUnder, f-bounds, f-pass, f-bounds-here, f-pass-here}
 use Rattle.language.proofs.Grammar.FirstTokens.{grows}
 use Rattle.language.proofs.Grammar.OwnTokens.{Own, owns, all-owns, def-owns, program-owns, All, first, rest, front, back, all-same}
 use Rattle.language.proofs.Grammar.OwnOnce.{own-inside}
@@ -62,7 +63,7 @@ module _ (P : ℕ → Type 0) where
     mutual
       unfolding owns
 
-      fault-own : {Γ : Scope Ty} {e : Exp} {r : Reason} {n : ℕ} → Fault Δ Γ e r n → Owned (owns e) → P n
+      fault-own : {σ : Sizes} {Γ : Scope Ty} {e : Exp} {r : Reason} {n : ℕ} → FaultUnder σ Δ Γ e r n → Owned (owns e) → P n
       fault-own (f-name h) m = first m
       fault-own (f-unary p) m = fault-own p (rest m)
       fault-own (f-unary-here a b c) m = first m
@@ -94,20 +95,20 @@ module _ (P : ℕ → Type 0) where
       fault-own (f-bounds-here a b c) m = first m
       fault-own (f-pass-here a b c d) m = first m
 
-      fault-owns : {Γ : Scope Ty} {es : Exps} {r : Reason} {n : ℕ} → FaultAll Δ Γ es r n → Owned (all-owns es) → P n
+      fault-owns : {σ : Sizes} {Γ : Scope Ty} {es : Exps} {r : Reason} {n : ℕ} → FaultAllUnder σ Δ Γ es r n → Owned (all-owns es) → P n
       fault-owns (f-one {e = e} p) m = fault-own p (front (owns e) _ m)
       fault-owns (f-rest {e = e} a p) m = fault-owns p (back (owns e) _ m)
 
 -- ---- programs
 
 module _ (n : ℕ) where
-  takes-inside : {Γ : Scope Ty} {ps : List Param} {r : Reason} {i : ℕ} → FaultTakes Γ ps r i → Named n ps → i < n
+  takes-inside : {σ : Sizes} {Γ : Scope Ty} {ps : List Param} {r : Reason} {i : ℕ} → FaultTakesUnder σ Γ ps r i → Named n ps → i < n
   takes-inside (p-ninth a) (named-more h k) = h
   takes-inside (p-twice a b) (named-more h k) = h
   takes-inside (p-refs a b c) (named-more h k) = h
   takes-inside (p-later a b c p) (named-more h k) = takes-inside p k
 
-  def-inside : {Δ : Scope Sig} {d : Def} {r : Reason} {i : ℕ} → FaultDef Δ d r i → d .at < n → d .named < n → Named n (d .params)
+  def-inside : {σ : Sizes} {Δ : Scope Sig} {d : Def} {r : Reason} {i : ℕ} → FaultDefUnder σ Δ d r i → d .at < n → d .named < n → Named n (d .params)
       → Owned (λ k. k < n) (owns (d .body)) → i < n
   def-inside (d-many a) h k l m = h
   def-inside (d-twice a b) h k l m = k
@@ -116,14 +117,14 @@ module _ (n : ℕ) where
   def-inside (d-body a b c e p) h k l m = fault-own (λ k. k < n) p m
   def-inside (d-type a b c e f g) h k l m = h
 
-  from-inside : {Δ : Scope Sig} {ds : List Def} {e : Exp} {r : Reason} {i : ℕ} → FaultFrom Δ ds e r i → Headed n ds
+  from-inside : {σ : Sizes} {Δ : Scope Sig} {ds : List Def} {e : Exp} {r : Reason} {i : ℕ} → FaultFromUnder σ Δ ds e r i → Headed n ds
       → Owned (λ k. k < n) (def-owns ds (owns e)) → i < n
   unfolding def-owns
   from-inside (fault-main p) h m = fault-own (λ k. k < n) p m
   from-inside (fault-here {d = d} p) (headed-more a b c h) m = def-inside p a b c (front (owns (d .body)) _ m)
   from-inside (fault-later {d = d} f p) (headed-more a b c h) m = from-inside p h (back (owns (d .body)) _ m)
 
-pub fault-inside : (ts : List Token) (p : Program) (r : Reason) (i : ℕ) → Reading ts p → HasFault p r i → i < length ts
+pub fault-inside : {σ : Sizes} (ts : List Token) (p : Program) (r : Reason) (i : ℕ) → Reading ts p → HasFaultUnder σ p r i → i < length ts
 unfolding program-owns
 fault-inside ts p r i reading h =
     from-inside (length ts) h (headed ts (length ts) (omega arith) reading) (all-same (λ o k. k .0) (own-inside ts p reading))

@@ -5,11 +5,12 @@ use mathlib.Core.List.{List, [], _∷_}
 use mathlib.Core.Option.{none, some}
 use mathlib.Core.Path.{_≡_}
 use Prim.Native.Nat.{ℕ, _≤_}
-use Rattle.language.specs.Sizes.{REFS}
+use Rattle.language.specs.Sizes.{Sizes}
 use Rattle.language.specs.Trees.{Name, Ty, int, bool, unit, ref, refs, whole, truth, trivial, Unary, Binary, add, sub, mul, div, less, equal}
 use Rattle.language.specs.Trees.{and, or, assign, Exp, name, literal, unary, binary, follow, group, block, call, bind, branch, loop, Exps}
 use Rattle.language.specs.Trees.{last, more, Def, Program, Scope, empty, push, nearest}
-use Rattle.language.specs.Types.{UnopType, of-int, BinopType, Sig, Typed, TypedAll, Takes, with-def, given, Room, Fine, TypedFrom, HasType}
+use Rattle.language.specs.Types.{UnopTypeUnder, of-int, BinopType, Sig, TypedUnder, TypedAllUnder, TakesUnder, with-def, given, RoomUnder}
+use Rattle.language.specs.Types.{FineUnder, TypedFromUnder, HasTypeUnder}
 use Rattle.language.specs.Types as Now
 
 pub data OldBinop : Binary → Ty → Ty → Ty → Type 0 where
@@ -23,14 +24,14 @@ pub data OldBinop : Binary → Ty → Ty → Ty → Type 0 where
   b-or : OldBinop or bool bool bool
   b-assign : {t : Ty} → OldBinop assign (ref t) t unit
 
-module _ (Δ : Scope Sig) where
+module _ (σ : Sizes) (Δ : Scope Sig) where
   mutual
     pub data OldTyped : Scope Ty → Exp → Ty → Type 0 where
       t-name : {Γ : Scope Ty} {i : ℕ} {x : Name} {t : Ty} → nearest x Γ ≡ some t → OldTyped Γ (name i x) t
       t-whole : {Γ : Scope Ty} {i n : ℕ} → OldTyped Γ (literal i (whole n)) int
       t-truth : {Γ : Scope Ty} {i : ℕ} {b : Bool} → OldTyped Γ (literal i (truth b)) bool
       t-trivial : {Γ : Scope Ty} {i : ℕ} → OldTyped Γ (literal i trivial) unit
-      t-unary : {Γ : Scope Ty} {i : ℕ} {o : Unary} {e : Exp} {t u : Ty} → OldTyped Γ e t → UnopType o t u → OldTyped Γ (unary i o e) u
+      t-unary : {Γ : Scope Ty} {i : ℕ} {o : Unary} {e : Exp} {t u : Ty} → OldTyped Γ e t → UnopTypeUnder σ o t u → OldTyped Γ (unary i o e) u
       t-binary : {Γ : Scope Ty} {i : ℕ} {o : Binary} {e f : Exp} {t u v : Ty}
           → OldTyped Γ e t → OldTyped Γ f u → OldBinop o t u v → OldTyped Γ (binary i o e f) v
       t-follow : {Γ : Scope Ty} {i : ℕ} {e f : Exp} {t : Ty} → OldTyped Γ e unit → OldTyped Γ f t → OldTyped Γ (follow i e f) t
@@ -49,18 +50,18 @@ module _ (Δ : Scope Sig) where
       t-more : {Γ : Scope Ty} {e : Exp} {es : Exps} {t : Ty} {ts : List Ty}
           → OldTyped Γ e t → OldTypedAll Γ es ts → OldTypedAll Γ (more e es) (t ∷ ts)
 
-pub data OldFine (Δ : Scope Sig) (d : Def) : Type 0 where
+pub data OldFine (σ : Sizes) (Δ : Scope Sig) (d : Def) : Type 0 where
   fine : {Γ : Scope Ty}
-      → Room Δ → nearest (d .called) Δ ≡ none → Takes empty (d .params) Γ → refs (d .result) ≤ REFS
-      → OldTyped (with-def Δ d) Γ (d .body) (d .result) → OldFine Δ d
+      → RoomUnder σ Δ → nearest (d .called) Δ ≡ none → TakesUnder σ empty (d .params) Γ → refs (d .result) ≤ σ .refs
+      → OldTyped σ (with-def Δ d) Γ (d .body) (d .result) → OldFine σ Δ d
 
-pub data OldTypedFrom : Scope Sig → List Def → Exp → Ty → Type 0 where
-  typed-main : {Δ : Scope Sig} {e : Exp} {t : Ty} → OldTyped Δ empty e t → OldTypedFrom Δ [] e t
+pub data OldTypedFrom (σ : Sizes) : Scope Sig → List Def → Exp → Ty → Type 0 where
+  typed-main : {Δ : Scope Sig} {e : Exp} {t : Ty} → OldTyped σ Δ empty e t → OldTypedFrom σ Δ [] e t
   typed-def : {Δ : Scope Sig} {d : Def} {ds : List Def} {e : Exp} {t : Ty}
-      → OldFine Δ d → OldTypedFrom (with-def Δ d) ds e t → OldTypedFrom Δ (d ∷ ds) e t
+      → OldFine σ Δ d → OldTypedFrom σ (with-def Δ d) ds e t → OldTypedFrom σ Δ (d ∷ ds) e t
 
-abbrev pub OldHasType : Program → Ty → Type 0
-OldHasType p t = OldTypedFrom given (p .defs) (p .main) t
+abbrev pub OldHasType : Sizes → Program → Ty → Type 0
+OldHasType σ p t = OldTypedFrom σ given (p .defs) (p .main) t
 
 -- ---- what had a type has it
 
@@ -77,7 +78,7 @@ still-binop b-assign = Now.b-assign
 
 module _ {Δ : Scope Sig} where
   mutual
-    still-typed : {Γ : Scope Ty} {e : Exp} {t : Ty} → OldTyped Δ Γ e t → Typed Δ Γ e t
+    still-typed : {σ : Sizes} {Γ : Scope Ty} {e : Exp} {t : Ty} → OldTyped σ Δ Γ e t → TypedUnder σ Δ Γ e t
     still-typed (t-name h) = Now.t-name h
     still-typed t-whole = Now.t-whole
     still-typed t-truth = Now.t-truth
@@ -92,16 +93,16 @@ module _ {Δ : Scope Sig} where
     still-typed (t-branch a b c) = Now.t-branch (still-typed a) (still-typed b) (still-typed c)
     still-typed (t-loop a b) = Now.t-loop (still-typed a) (still-typed b)
 
-    still-all : {Γ : Scope Ty} {es : Exps} {ts : List Ty} → OldTypedAll Δ Γ es ts → TypedAll Δ Γ es ts
+    still-all : {σ : Sizes} {Γ : Scope Ty} {es : Exps} {ts : List Ty} → OldTypedAll σ Δ Γ es ts → TypedAllUnder σ Δ Γ es ts
     still-all t-last = Now.t-last
     still-all (t-more a b) = Now.t-more (still-typed a) (still-all b)
 
-still-fine : {Δ : Scope Sig} {d : Def} → OldFine Δ d → Fine Δ d
+still-fine : {σ : Sizes} {Δ : Scope Sig} {d : Def} → OldFine σ Δ d → FineUnder σ Δ d
 still-fine (fine a b c h e) = Now.fine a b c h (still-typed e)
 
-still-from : {Δ : Scope Sig} {ds : List Def} {e : Exp} {t : Ty} → OldTypedFrom Δ ds e t → TypedFrom Δ ds e t
+still-from : {σ : Sizes} {Δ : Scope Sig} {ds : List Def} {e : Exp} {t : Ty} → OldTypedFrom σ Δ ds e t → TypedFromUnder σ Δ ds e t
 still-from (typed-main a) = Now.typed-main (still-typed a)
 still-from (typed-def a b) = Now.typed-def (still-fine a) (still-from b)
 
-pub still-has-type : {p : Program} {t : Ty} → OldHasType p t → HasType p t
+pub still-has-type : {σ : Sizes} {p : Program} {t : Ty} → OldHasType σ p t → HasTypeUnder σ p t
 still-has-type h = still-from h

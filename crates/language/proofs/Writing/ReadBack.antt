@@ -6,9 +6,9 @@ use Prim.Native.Nat.{ℕ, suc, _+_, _≤_, _<_}
 use native.Mathlib.Omega.{arith}
 use lib.ListN.{length, getD, take, drop, length-append}
 use lib.Seq.{slice, length-slice, append-snoc, take-append-seam, drop-append-seam, take-append-le, getD-append-seam}
-use Rattle.language.specs.Sizes.{TOKENS}
+use Rattle.language.specs.Sizes.{Sizes}
 use Rattle.language.specs.Tokens.{Token, Vocabulary, Spelling, SameButPlaces, same-none, same-more}
-use Rattle.language.specs.Text.{byte, is-blank, space, token, Within, Piece, token-of, Reaches, start, skip, next, Splits}
+use Rattle.language.specs.Text.{byte, is-blank, space, token, Within, Piece, token-of, Reaches, start, skip, next, SplitsUnder}
 use Rattle.language.specs.Writing.{behind, written-out}
 use Rattle.language.proofs.Text.Marks.{Laws}
 use Rattle.language.proofs.Text.OnePiece.{form-bounds}
@@ -115,7 +115,7 @@ module _ {voc : Vocabulary} (laws : Laws voc) where
       rw (l, append-snoc us (moved (length a) t)) at more
 
   -- so it splits into the same tokens
-  pub written-splits : {t : List ℕ} {ts : List Token} → Splits voc t ts → Splits voc (written-out ts) (placed 0 ts)
+  pub written-splits : {σ : Sizes} {t : List ℕ} {ts : List Token} → SplitsUnder σ voc t ts → SplitsUnder σ voc (written-out ts) (placed 0 ts)
   written-splits {t} {ts} x = record {
     whole = written-on ts [] [] (written-out ts) (reached-spelled (x .whole)) refl start;
     few = omega (arith, x .few, same-long (placed-same 0 ts));

@@ -6,15 +6,15 @@ use Prim.Native.Nat.{ℕ, _≤_}
 use native.Mathlib.Omega.{arith}
 use lib.ListN.{length, take, drop}
 use lib.Seq.{take-append-seam}
-use Rattle.language.specs.Sizes.{SOURCE, TABLE}
+use Rattle.language.specs.Sizes.{Sizes, BOX}
 use Rattle.language.specs.Tokens.{Token, SameButPlaces, same-none, same-more}
 use Rattle.language.specs.Trees.{Ty, Program}
 use Rattle.language.specs.Numbers.{passed}
-use Rattle.language.specs.Answers.{Passes, Lent, RunReport, Ran}
-use Rattle.language.specs.Edition.{text-in}
-use Rattle.language.specs.Writing.{behind, written-out, Fits, WriteReport, write-report, Wrote}
-use Rattle.language.specs.Writing.{write-short, write-refused, write-long, write-passed, Write}
-use Rattle.language.proofs.Answers.Editions.{named-laws, text-in-lawful}
+use Rattle.language.specs.Answers.{PassesUnder, Lent, RunReport, RanUnder}
+use Rattle.language.specs.Edition.{text-in-under}
+use Rattle.language.specs.Writing.{behind, written-out, FitsUnder, WriteReport, write-report, WroteUnder}
+use Rattle.language.specs.Writing.{write-short, write-refused, write-long, write-passed, WriteUnder}
+use Rattle.language.proofs.Answers.Editions.{named-laws, text-in-lawful-under}
 use Rattle.language.proofs.Answers.PlacesAside.{same-passes, SameRun, same-run}
 use Rattle.language.proofs.Writing.ReadBack.{placed, placed-same, written-splits}
 
@@ -33,41 +33,46 @@ same-written (same-more x s) = rw (x .spelling, same-behind s, same-written s) r
 -- ---- the sheet and what is written of it
 
 -- the bytes `text` are the sheet `source` written out, in the edition n
-pub record SameSheet (n : ℕ) (source text : List ℕ) : Type 0 where
+pub record SameSheetUnder (σ : Sizes) (n : ℕ) (source text : List ℕ) : Type 0 where
   pub tokens : List Token
   pub again : List Token
   pub program : Program
   pub type : Ty
   -- both pass with the same program of the same type
-  pub passes : Passes (text-in n source) tokens program type
-  pub same-passes : Passes (text-in n text) again program type
+  pub passes : PassesUnder σ (text-in-under σ n source) tokens program type
+  pub same-passes : PassesUnder σ (text-in-under σ n text) again program type
   -- the tokens are the same, places aside
   pub same : SameButPlaces tokens again
   -- a run of the one is a run of the other, but for a place, which is that of the same token; the bytes printed are the same
-  pub runs : {l : Lent} {r : RunReport ℕ} {bs : List ℕ} → Ran (text-in n source) l r bs
-      → (r′ : RunReport ℕ) × Ran (text-in n text) l r′ bs × SameRun (text-in n source) (text-in n text) tokens again r r′
+  pub runs : {l : Lent} {r : RunReport ℕ} {bs : List ℕ} → RanUnder σ (text-in-under σ n source) l r bs
+      → (r′ : RunReport ℕ) × RanUnder σ (text-in-under σ n text) l r′ bs × SameRun (text-in-under σ n source) (text-in-under σ n text) tokens again r r′
   -- written again it is itself
-  pub once : (table room : ℕ) → TABLE ≤ table → length text ≤ room → Wrote (text-in n text) table room (write-report passed 0 (length text)) text
+  pub once : (table room : ℕ) → σ .table ≤ table → length text ≤ room
+      → WroteUnder σ (text-in-under σ n text) table room (write-report passed 0 (length text)) text
 
-module _ (n : ℕ) (source : List ℕ) {ts : List Token} {p : Program} {t : Ty} (a : Passes (text-in n source) ts p t)
-    (short : length (written-out ts) ≤ SOURCE) where
-  given : text-in n (written-out ts) .gives (placed 0 ts)
+-- under the box's sizes
+abbrev pub SameSheet : ℕ → List ℕ → List ℕ → Type 0
+SameSheet = SameSheetUnder BOX
+
+module _ {σ : Sizes} (n : ℕ) (source : List ℕ) {ts : List Token} {p : Program} {t : Ty} (a : PassesUnder σ (text-in-under σ n source) ts p t)
+    (short : length (written-out ts) ≤ σ .source) where
+  given : text-in-under σ n (written-out ts) .gives (placed 0 ts)
   given = record {
     words = a .given .words;
     named = a .given .named;
     given = record { short = short; splits = written-splits (named-laws n (a .given .named)) (a .given .given .splits) };
   }
 
-  back : Passes (text-in n (written-out ts)) (placed 0 ts) p t
-  back = same-passes (text-in-lawful n source) (a .given) given (placed-same 0 ts) a
+  back : PassesUnder σ (text-in-under σ n (written-out ts)) (placed 0 ts) p t
+  back = same-passes (text-in-lawful-under n source) (a .given) given (placed-same 0 ts) a
 
   itself : written-out (placed 0 ts) ≡ written-out ts
   itself = sym (same-written (placed-same 0 ts))
 
-  again-fits : (room : ℕ) → length (written-out ts) ≤ room → Fits (placed 0 ts) room
+  again-fits : (room : ℕ) → length (written-out ts) ≤ room → FitsUnder σ (placed 0 ts) room
   again-fits room h = record { output = rw itself h; source = rw itself short }
 
-  pub same-sheet : SameSheet n source (written-out ts)
+  pub same-sheet : SameSheetUnder σ n source (written-out ts)
   same-sheet = record {
     tokens = ts;
     again = placed 0 ts;
@@ -76,25 +81,26 @@ module _ (n : ℕ) (source : List ℕ) {ts : List Token} {p : Program} {t : Ty} 
     passes = a;
     same-passes = back;
     same = placed-same 0 ts;
-    runs = λ r. same-run (text-in-lawful n source) (a .given) given (placed-same 0 ts) r;
+    runs = λ r. same-run (text-in-lawful-under n source) (a .given) given (placed-same 0 ts) r;
     once = λ table room h k.
-        subst (λ (s : List ℕ). Wrote (text-in n (written-out ts)) table room (write-report passed 0 (length s)) s) itself
+        subst (λ (s : List ℕ). WroteUnder σ (text-in-under σ n (written-out ts)) table room (write-report passed 0 (length s)) s) itself
         (write-passed h back (again-fits room k));
   }
 
 -- ---- over the contract
 
 -- the bytes that write has written are the sheet
-pub written-sheet : {n : ℕ} {source table output : List ℕ} {r : WriteReport ℕ} {t′ o′ : List ℕ} → Write (text-in n source) table output r t′ o′
-    → r .told ≡ passed → SameSheet n source (take (r .written) o′)
-written-sheet {n} {source} {output = output} {o′ = o′} a e = go (a .answer) e (a .output-left)
+pub written-sheet : {σ : Sizes} {n : ℕ} {source table output : List ℕ} {r : WriteReport ℕ} {t′ o′ : List ℕ}
+    → WriteUnder σ (text-in-under σ n source) table output r t′ o′
+    → r .told ≡ passed → SameSheetUnder σ n source (take (r .written) o′)
+written-sheet {σ} {n} {source} {output = output} {o′ = o′} a e = go (a .answer) e (a .output-left)
   where
-    go : {m room : ℕ} {r : WriteReport ℕ} {s : List ℕ} → Wrote (text-in n source) m room r s → r .told ≡ passed
-        → o′ ≡ s ++ drop (length s) output → SameSheet n source (take (r .written) o′)
+    go : {m room : ℕ} {r : WriteReport ℕ} {s : List ℕ} → WroteUnder σ (text-in-under σ n source) m room r s → r .told ≡ passed
+        → o′ ≡ s ++ drop (length s) output → SameSheetUnder σ n source (take (r .written) o′)
     go (write-short h) e f = let z : _≡_ {A = ℕ} 0 1 = cc in absurd (omega arith)
     go (write-refused h a) e f = let z : _≡_ {A = ℕ} 0 1 = cc in absurd (omega arith)
     go (write-long h a k) e f = let z : _≡_ {A = ℕ} 0 1 = cc in absurd (omega arith)
     go (write-passed {ts = ts} h a k) e f =
         let s = written-out ts in
-        subst (SameSheet n source) (sym (ap (take (length s)) f ∙ take-append-seam s (drop (length s) output)))
+        subst (SameSheetUnder σ n source) (sym (ap (take (length s)) f ∙ take-append-seam s (drop (length s) output)))
         (same-sheet n source a (k .source))

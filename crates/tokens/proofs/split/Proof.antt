@@ -9,7 +9,7 @@ use Rattle.language.proofs.Text.OnePiece.{form-bounds}
 use Rattle.language.proofs.Text.OneSplit.{reached-inside}
 use Rattle.language.specs.Sizes.{SOURCE, TABLE}
 use Rattle.language.specs.Text.Flaw.{many-tokens}
-use Rattle.language.specs.Text.Wrong.{many}
+use Rattle.language.specs.Text.WrongUnder.{many}
 use Rattle.language.specs.Tokens.{Vocabulary}
 use Rattle.tokens.proofs.split.Statement.{statement}
 use Rattle.tokens.proofs.split.Tie as tie

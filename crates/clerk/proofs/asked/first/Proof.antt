@@ -63,8 +63,20 @@ plain-requires-8 c κs = search needs
 enum-told-10 : tie.Need-enum-told-10
 enum-told-10 c = search needs
 
+plain-requires-9 : tie.Need-plain-requires-9
+plain-requires-9 c κs = search needs
+
 enum-told-11 : tie.Need-enum-told-11
 enum-told-11 c = search needs
+
+plain-requires-10 : tie.Need-plain-requires-10
+plain-requires-10 c κs = search needs
+
+enum-told-12 : tie.Need-enum-told-12
+enum-told-12 c = search needs
+
+enum-told-13 : tie.Need-enum-told-13
+enum-told-13 c = search needs
 
 returns : tie.Need-returns
 returns c = rw (c .before .enum-told .given .1) (c .tasked .ensures)
@@ -110,10 +122,24 @@ returns-9 c =
     c .plain8 .ensures ∙ ap (λ (x : Task). first-word x (a .asked) (a .task) (a .i)) (sym (c .before .enum-told9 .given .1))
 
 returns-10 : tie.Need-returns-10
-returns-10 c = search needs
+returns-10 c =
+    let a = c .before .before .before .args in
+    c .plain9 .ensures ∙ ap (λ (x : Task). first-word x (a .asked) (a .task) (a .i)) (sym (c .before .enum-told10 .given .1))
 
 returns-11 : tie.Need-returns-11
-returns-11 c = search needs
+returns-11 c =
+    let a = c .before .before .before .args in
+    c .plain10 .ensures ∙ ap (λ (x : Task). first-word x (a .asked) (a .task) (a .i)) (sym (c .before .enum-told11 .given .1))
+
+returns-12 : tie.Need-returns-12
+returns-12 c =
+    let a = c .before .before .args in
+    ap (λ (x : Task). first-word x (a .asked) (a .task) (a .i)) (sym (c .enum-told12 .given .1))
+
+returns-13 : tie.Need-returns-13
+returns-13 c =
+    let a = c .before .before .args in
+    ap (λ (x : Task). first-word x (a .asked) (a .task) (a .i)) (sym (c .enum-told13 .given .1))
 
 pub first-spec : {M : Type 1} → statement M
 first-spec =
@@ -138,7 +164,11 @@ first-spec =
     enum-told-9
     plain-requires-8
     enum-told-10
+    plain-requires-9
     enum-told-11
+    plain-requires-10
+    enum-told-12
+    enum-told-13
     returns
     returns-2
     returns-3
@@ -149,4 +179,6 @@ first-spec =
     returns-8
     returns-9
     returns-10
-    returns-11)
+    returns-11
+    returns-12
+    returns-13)

@@ -60,8 +60,17 @@ unknown-requires-7 c κs = search needs
 enum-told-10 : tie.Need-enum-told-10
 enum-told-10 c = search needs
 
+tasked-requires-2 : tie.Need-tasked-requires-2
+tasked-requires-2 c κs = search needs
+
 enum-told-11 : tie.Need-enum-told-11
 enum-told-11 c = search needs
+
+enum-told-12 : tie.Need-enum-told-12
+enum-told-12 c = search needs
+
+enum-told-13 : tie.Need-enum-told-13
+enum-told-13 c = search needs
 
 returns : tie.Need-returns
 returns c = rw (c .before .enum-told .given .1) (c .tasked .ensures)
@@ -105,10 +114,16 @@ returns-9 c =
     c .unknown7 .ensures ∙ ap (λ (x : Task). with-whole x (a .asked) (a .i)) (sym (c .before .enum-told9 .given .1))
 
 returns-10 : tie.Need-returns-10
-returns-10 c = search needs
+returns-10 c = rw (c .before .enum-told10 .given .1) (c .tasked2 .ensures)
 
 returns-11 : tie.Need-returns-11
 returns-11 c = search needs
+
+returns-12 : tie.Need-returns-12
+returns-12 c = search needs
+
+returns-13 : tie.Need-returns-13
+returns-13 c = search needs
 
 pub whole-spec : {M : Type 1} → statement M
 whole-spec =
@@ -132,7 +147,10 @@ whole-spec =
     enum-told-9
     unknown-requires-7
     enum-told-10
+    tasked-requires-2
     enum-told-11
+    enum-told-12
+    enum-told-13
     returns
     returns-2
     returns-3
@@ -143,4 +161,6 @@ whole-spec =
     returns-8
     returns-9
     returns-10
-    returns-11)
+    returns-11
+    returns-12
+    returns-13)

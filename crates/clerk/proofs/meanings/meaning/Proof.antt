@@ -73,9 +73,19 @@ same-requires-7 c κs = search needs
 returns-7 : tie.Need-returns-7
 returns-7 c = c .before .same7 .ensures .0 (c .if7 .taken)
 
+slice-aggregate-same-8 : tie.Need-slice-aggregate-same-8
+slice-aggregate-same-8 c = search needs
+
+same-requires-8 : tie.Need-same-requires-8
+same-requires-8 c κs = search needs
+
+returns-8 : tie.Need-returns-8
+returns-8 c = c .before .same8 .ensures .0 (c .if8 .taken)
+
 option-requires : tie.Need-option-requires
 option-requires c κs =
-    let at-shift = c in
+    let at-profile = c in
+    let at-shift = at-profile .before .before .before in
     let at-run-stored = at-shift .before .before .before in
     let at-check-stored = at-run-stored .before .before .before in
     let at-store = at-check-stored .before .before .before in
@@ -89,10 +99,11 @@ option-requires c κs =
       apart (at-check-stored .before .same5 .ensures .1) (at-check-stored .if5 .left),
       apart (at-run-stored .before .same6 .ensures .1) (at-run-stored .if6 .left),
       apart (at-shift .before .same7 .ensures .1) (at-shift .if7 .left),
+      apart (at-profile .before .same8 .ensures .1) (at-profile .if8 .left),
     )
 
-returns-8 : tie.Need-returns-8
-returns-8 c = c .option .ensures
+returns-9 : tie.Need-returns-9
+returns-9 c = c .option .ensures
 
 pub meaning-spec : {M : Type 1} → statement M
 meaning-spec =
@@ -119,5 +130,8 @@ meaning-spec =
     slice-aggregate-same-7
     same-requires-7
     returns-7
+    slice-aggregate-same-8
+    same-requires-8
+    returns-8
     option-requires
-    returns-8)
+    returns-9)

@@ -70,6 +70,18 @@ enum-told-9 c = search needs
 spot-at-requires-6 : tie.Need-spot-at-requires-6
 spot-at-requires-6 c κs = search needs
 
+enum-told-10 : tie.Need-enum-told-10
+enum-told-10 c = search needs
+
+spot-at-requires-7 : tie.Need-spot-at-requires-7
+spot-at-requires-7 c κs = search needs
+
+enum-told-11 : tie.Need-enum-told-11
+enum-told-11 c = search needs
+
+front-requires-6 : tie.Need-front-requires-6
+front-requires-6 c κs = search needs
+
 returns : tie.Need-returns
 returns c =
     let a = c .before .before .before .before .before .args in
@@ -125,6 +137,16 @@ returns-11 c =
     let a = c .before .before .before .before .before .args in
     told-moved (a .first .now) (a .second .now) (a .why) _ (a .place) _ (c .before .enum-told9 .given .1) (c .spot-at6 .ensures)
 
+returns-12 : tie.Need-returns-12
+returns-12 c =
+    let a = c .before .before .before .before .before .args in
+    told-moved (a .first .now) (a .second .now) (a .why) _ (a .place) _ (c .before .enum-told10 .given .1) (c .spot-at7 .ensures)
+
+returns-13 : tie.Need-returns-13
+returns-13 c =
+    let a = c .before .before .before .before .before .args in
+    told-moved (a .first .now) (a .second .now) (a .why) _ (a .place) _ (c .before .enum-told11 .given .1) (c .front6 .ensures)
+
 pub refused-at-spec : {M : Type 1} → statement M
 refused-at-spec =
     tie.close
@@ -151,6 +173,10 @@ refused-at-spec =
     spot-at-requires-5
     enum-told-9
     spot-at-requires-6
+    enum-told-10
+    spot-at-requires-7
+    enum-told-11
+    front-requires-6
     returns
     returns-2
     returns-3
@@ -161,4 +187,6 @@ refused-at-spec =
     returns-8
     returns-9
     returns-10
-    returns-11)
+    returns-11
+    returns-12
+    returns-13)

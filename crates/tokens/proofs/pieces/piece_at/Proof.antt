@@ -14,7 +14,7 @@ use Rattle.language.proofs.Text.Places.{Begins}
 use Rattle.language.proofs.Text.Spellings.{stands-yes, stands-no, two-inside}
 use Rattle.language.specs.Text.Content.{token}
 use Rattle.language.specs.Text.{byte, is-blank, is-letter, is-digit, Piece, Opens, Stands}
-use Rattle.language.specs.Text.Wrong.{strange, opened}
+use Rattle.language.specs.Text.WrongUnder.{strange, opened}
 use Rattle.language.specs.Tokens.{Vocabulary, spell}
 use Rattle.tokens.proofs.Editions.{laws-of}
 use Rattle.tokens.proofs.FoundTokens.{plain-token}

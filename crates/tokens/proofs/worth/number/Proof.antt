@@ -4,7 +4,7 @@ use mathlib.Core.Path.{sym, subst, _∙_}
 use native.Mathlib.Omega.{arith}
 use Prim.Native.Nat.{_-_}
 use Rattle.language.specs.Text.Content.{token}
-use Rattle.language.specs.Text.{Piece, Wrong}
+use Rattle.language.specs.Text.{Piece, WrongUnder}
 use Rattle.language.specs.Tokens.{NUMBER}
 use Rattle.tokens.proofs.Digits.{Read, product, read-none, read-hex, read-worth, read-more, read-large, read-all}
 use Rattle.tokens.proofs.FoundTokens.{number-token, point-no, pointed}
@@ -73,7 +73,7 @@ returns-2 c =
     let test = c .before .before .before .loop-test .taken in
     let large = read-large run (h .loop .inv) test (c .before .before .byte .ensures) (c .before .worth .ensures) (d .ensures .0 .low) (c .if2 .taken) in
     let none = point-no (meant (a .edition)) t (a .at) (d .result .from) q (sym (h .before .before .takes-point .ensures) ∙ h .before .if1 .left) in
-    λ ts. Wrong.large (d .ensures .0 .piece q run none) large
+    λ ts. WrongUnder.large (d .ensures .0 .piece q run none) large
 
 add-i : tie.Need-add-i Inv-loop μ-loop
 add-i c =

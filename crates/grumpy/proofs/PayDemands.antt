@@ -1,0 +1,72 @@
+-- What is asked of pay sheets (Req 10), as theorems about whatever meets the contracts of profile, check and run.
+use mathlib.Core.List.{List}
+use mathlib.Core.Logic.{_↔_}
+use mathlib.Core.Path.{_≡_}
+use Prim.Native.Nat.{ℕ, _≤_}
+use lib.ListN.{length}
+use Rattle.language.specs.Sizes.{TABLE, WORK}
+use Rattle.language.specs.Trees.{Ty}
+use Rattle.language.specs.State.{Stop}
+use Rattle.language.specs.Meaning.{type-number}
+use Rattle.language.specs.Numbers.{endless-node, many-units, passed, refused, stopped}
+use Rattle.language.specs.Answers.{Check, Run, left}
+use Rattle.language.specs.Profile.{ProfileReport, Profile}
+use Rattle.language.specs.Edition.{text-in, pair-in}
+use Rattle.language.proofs.Answers.Demand1.{Listed, profiled-listed, profile-never-stops}
+use Rattle.language.proofs.Answers.Editions.{text-in-lawful, pair-in-lawful}
+use Rattle.language.proofs.Profiles.PaySheets.{EndlessSheet, DearSheet, PaySheet, WithinCount, endless-exactly, dear-exactly, pay-exactly}
+use Rattle.language.proofs.Profiles.PaySheets.{passed-exactly, pay-sheet-finishes}
+use Rattle.grumpy.specs.Reports.{checked-report, ran-report, profiled-report, pair-ran-report, pair-profiled-report}
+use Rattle.grumpy.specs.declared.answers.Checked.{Checked}
+use Rattle.grumpy.specs.declared.answers.Ran.{Ran}
+use Rattle.grumpy.specs.declared.answers.Profiled.{Profiled}
+use Rattle.grumpy.specs.declared.answers.PairProfiled.{PairProfiled}
+use Rattle.grumpy.specs.declared.answers.PairRan.{PairRan}
+
+-- Whatever is lent, what profile tells is a row of the table of numbers, at the place that the row sets, and memory is left as
+-- it says.
+pub record ProfileDemand1 (edition : ℕ) (source table : List ℕ) (report : ProfileReport ℕ) (table′ : List ℕ) : Type 0 where
+  pub listed : Listed edition source record { table = length table; work = WORK; output = 0; allowance = 0 } (report .told) (report .place)
+  pub no-stop : (w : Stop) → report .told ≡ stopped w → ⊥
+  pub table-left : table′ ≡ left (report .told) TABLE table
+
+module _ {edition : ℕ} {source table t′ : List ℕ} (r : Profiled) (a : Profile (text-in edition source) table (profiled-report r) t′) where
+  pub profile-demand-one : ProfileDemand1 edition source table (profiled-report r) t′
+  profile-demand-one =
+      record { listed = profiled-listed edition source _ (a .answer); no-stop = profile-never-stops (a .answer); table-left = a .table-left }
+
+  module _ (long : TABLE ≤ length table) where
+    -- 43 at the first endless node of a sheet that passes, and nowhere else (R10.2)
+    pub profile-endless-exactly : (x : ℕ) → ((profiled-report r .told ≡ refused endless-node) × (profiled-report r .place ≡ x))
+        ↔ EndlessSheet (text-in edition source) x
+    profile-endless-exactly x = endless-exactly (text-in-lawful edition source) long (a .answer) x
+
+    -- 45 for one without such a node that counts too many units (R10.4)
+    pub profile-dear-exactly : (profiled-report r .told ≡ refused many-units) ↔ DearSheet (text-in edition source)
+    profile-dear-exactly = dear-exactly (text-in-lawful edition source) long (a .answer)
+
+    -- else its type and its count (R10.3)
+    pub profile-pay-exactly : (t : Ty) (n : ℕ)
+        → ((profiled-report r .told ≡ passed) × (profiled-report r .type ≡ type-number t) × (profiled-report r .count ≡ n))
+        ↔ PaySheet (text-in edition source) t n
+    profile-pay-exactly t n = pay-exactly (text-in-lawful edition source) long (a .answer) t n
+
+    -- R10.5: it passes exactly when check passes it, and neither 43 nor 45 describes it
+    pub profile-passed-exactly : {u′ : List ℕ} (c : Checked) → Check (text-in edition source) table (checked-report c) u′
+        → (profiled-report r .told ≡ passed)
+        ↔ ((checked-report c .told ≡ passed) × ((x : ℕ) → EndlessSheet (text-in edition source) x → ⊥) × (DearSheet (text-in edition source) → ⊥))
+    profile-passed-exactly c b = passed-exactly (text-in-lawful edition source) long (a .answer) (b .answer)
+
+  -- R10.6: whatever a run of it is lent, with an allowance of at least the count it uses no more and does not end in 50
+  pub profile-finishes : {words work output : List ℕ} {allowance : ℕ} {words′ work′ output′ : List ℕ} (q : Ran) → profiled-report r .told ≡ passed
+      → Run (text-in edition source) words work output allowance (ran-report q) words′ work′ output′ → profiled-report r .count ≤ allowance
+      → WithinCount (profiled-report r .count) (ran-report q)
+  profile-finishes q e b k = pay-sheet-finishes (text-in-lawful edition source) a e b k
+
+-- the same of two sheets
+pub profile-pair-finishes : {edition : ℕ} {first second table table′ : List ℕ} {words work output : List ℕ} {allowance : ℕ}
+    {words′ work′ output′ : List ℕ} (r : PairProfiled) (q : PairRan) → Profile (pair-in edition first second) table (pair-profiled-report r) table′
+    → pair-profiled-report r .told ≡ passed
+    → Run (pair-in edition first second) words work output allowance (pair-ran-report q) words′ work′ output′
+    → pair-profiled-report r .count ≤ allowance → WithinCount (pair-profiled-report r .count) (pair-ran-report q)
+profile-pair-finishes {edition} {first} {second} r q a e b k = pay-sheet-finishes (pair-in-lawful edition first second) a e b k

@@ -1,0 +1,6 @@
+-- What is true of pay sheets.
+pub mod OneProfile
+pub mod PaySheets
+pub mod Inside
+pub mod Examples
+pub mod TwoSheets
