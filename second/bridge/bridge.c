@@ -5,11 +5,17 @@
  * which nothing can be written. With `paint` the stack is filled with a pattern before each call, to see
  * afterwards how far down it was written.
  *
- * A request is ten words of 64 bits (the service, as in the enum below; the edition; the lengths of source,
- * second source, table, work, output, state and report; the allowance), then these seven memories as they are.
- * The answer is four words (the number returned; how many bytes were changed that were not lent; with `paint`
- * the bytes of stack that the call took and those left below it, else 0 and 0), then the five memories that
- * may be written. All in the machine's own order of bytes.
+ * A request is twelve words of 64 bits: the service, as in the enum below; the edition; the lengths of source,
+ * second source, table, work, output, state and report; the allowance; a seed; and how many of the first bytes of
+ * the output are to be shown. Then source, second source, state and report as they are. Table, work and output are
+ * filled here, with a pattern that the seed says, in which no word is zero: they are long, and going through the
+ * pipe would take longer than all else.
+ *
+ * The answer is ten words: the number returned; how many bytes were changed that were not lent; with `paint` the
+ * bytes of stack that the call took and those left below it, else 0 and 0; of table and then of work how many of
+ * the first words are zero now, and one more than the first word behind them that is not as it was, or 0; of the
+ * output how many bytes there are up to the last one that is not as it was, and how many are shown, which is that or
+ * more. Then the bytes shown, the state and the report. All in the machine's own order of bytes.
  */
 #define _GNU_SOURCE
 #include <pthread.h>
@@ -20,7 +26,8 @@
 
 #include "../../include/grumpy.h"
 
-/* the last one asks only how many words of state a shift needs */
+/* The last two ask only how many words of state a shift needs, and whether COMBINE is there: it is where the
+ * archive has grumpy_shift_combine and this is built with -DCOMBINES. Its two reports come as the sources. */
 enum {
   CHECK,
   RUN,
@@ -34,15 +41,20 @@ enum {
   CHECK_STORED,
   RUN_STORED,
   PROFILE,
-  STATE_WORDS
+  COMBINE,
+  STATE_WORDS,
+  HAS_COMBINE
 };
 
 enum { SOURCE, SECOND, TABLE, WORK, OUT, STATE, REPORT, MEMORIES };
 
 static const size_t width[MEMORIES] = {1, 1, 4, 4, 1, 8, 8};
 
-/* a request: the service, the edition, the length of each memory, the allowance */
-enum { SERVICE, EDITION, LENGTHS, ALLOWANCE = LENGTHS + MEMORIES, ASKED };
+/* a request: the service, the edition, the length of each memory, the allowance, the seed, what to show */
+enum { SERVICE, EDITION, LENGTHS, ALLOWANCE = LENGTHS + MEMORIES, SEED, SHOWN, ASKED };
+
+/* an answer */
+enum { NUMBER, SPILT, TAKEN, BELOW, ZEROS, ODD, WORK_ZEROS, WORK_ODD, CHANGED, SHOWS, TOLD };
 
 /* bytes kept before and behind each loan, to see whether they are touched */
 #define MARGIN 256
@@ -66,7 +78,27 @@ static void put(const void *from, size_t n) {
   if (n > 0 && fwrite(from, 1, n, stdout) != n) fail("the answer cannot be written");
 }
 
-/* Reads a loan of n bytes, with fresh margins. */
+/* What table, work and output are filled with: bytes that look random, no aligned word of 32 bits being zero. */
+#define PATTERN (1 << 18)
+#define OFFSETS (1 << 12)
+static uint32_t pattern[(PATTERN + OFFSETS) / 4];
+
+static void make_pattern(void) {
+  uint64_t at = 0;
+  for (size_t i = 0; i < sizeof pattern / sizeof *pattern; i++) {
+    uint64_t mixed = at += 0x9E3779B97F4A7C15u;
+    mixed = (mixed ^ (mixed >> 30)) * 0xBF58476D1CE4E5B9u;
+    mixed = (mixed ^ (mixed >> 27)) * 0x94D049BB133111EBu;
+    pattern[i] = (uint32_t)mixed | (mixed >> 63 ? 1 : 1u << 31);
+  }
+}
+
+/* The pattern for one of these memories. */
+static const unsigned char *filling(uint64_t seed, int which) {
+  return (const unsigned char *)pattern + (seed >> (16 * (which - TABLE)) & (OFFSETS / 4 - 1)) * 4;
+}
+
+/* Makes a loan of n bytes, with fresh margins. */
 static void lend(struct memory *m, size_t n) {
   if (n + 2 * MARGIN > m->room) {
     free(m->all);
@@ -76,8 +108,43 @@ static void lend(struct memory *m, size_t n) {
   }
   m->bytes = n;
   memset(m->all, MARK, MARGIN);
-  get(m->all + MARGIN, n);
   memset(m->all + MARGIN + n, MARK, MARGIN);
+}
+
+/* Fills all memories, from the pipe or with the pattern. */
+static void fill_loans(const uint64_t *asked, struct memory *m) {
+  for (int k = 0; k < MEMORIES; k++) {
+    uint64_t n = asked[LENGTHS + k];
+    if (k >= TABLE && k <= OUT && n > PATTERN / width[k]) fail("a loan that is longer than the pattern");
+    lend(&m[k], n * width[k]);
+    if (k >= TABLE && k <= OUT) memcpy(m[k].all + MARGIN, filling(asked[SEED], k), m[k].bytes);
+    else get(m[k].all + MARGIN, m[k].bytes);
+  }
+}
+
+/* How table or work is left. */
+static void look(const struct memory *m, const unsigned char *before, uint64_t *told) {
+  const uint32_t *now = (const uint32_t *)(m->all + MARGIN);
+  const size_t words = m->bytes / 4;
+  static const uint32_t nothing[1024];
+  size_t zeros = 0;
+  while (zeros + 1024 <= words && memcmp(now + zeros, nothing, sizeof nothing) == 0) zeros += 1024;
+  while (zeros < words && now[zeros] == 0) zeros++;
+  told[0] = zeros;
+  const unsigned char *rest = m->all + MARGIN + 4 * zeros;
+  if (memcmp(rest, before + 4 * zeros, m->bytes - 4 * zeros) == 0) return;
+  size_t at = zeros;
+  while (memcmp(now + at, before + 4 * at, 4) == 0) at++;
+  told[1] = at + 1;
+}
+
+/* How many bytes of the output there are up to the last one that is not as it was. */
+static uint64_t changed_bytes(const struct memory *m, const unsigned char *before) {
+  const unsigned char *now = m->all + MARGIN;
+  size_t n = m->bytes;
+  if (memcmp(now, before, n) == 0) return 0;
+  while (now[n - 1] == before[n - 1]) n--;
+  return n;
 }
 
 static uint64_t touched(const struct memory *m) {
@@ -129,6 +196,14 @@ static uint64_t call(const uint64_t *asked, struct memory *m) {
                                LENT(out, OUT), allowance, LENT(report, REPORT));
     case PROFILE:
       return grumpy_profile(edition, LENT(source, SOURCE), LENT(table, TABLE), LENT(report, REPORT));
+#ifdef COMBINES
+    case COMBINE:
+      return grumpy_shift_combine(edition, (const uint64_t *)source, length[SOURCE] / 8, (const uint64_t *)second,
+                                  length[SECOND] / 8, LENT(report, REPORT));
+    case HAS_COMBINE: return 1;
+#else
+    case HAS_COMBINE: return 0;
+#endif
     case STATE_WORDS: return GRUMPY_SHIFT_STATE;
   }
   fail("no such service");
@@ -191,15 +266,23 @@ static void *serve(void *unused) {
   static struct memory m[MEMORIES];
   uint64_t asked[ASKED];
   unsigned char *before[TABLE] = {NULL};
+  make_pattern();
   while (fread(asked, 8, ASKED, stdin) == ASKED) {
-    for (int k = 0; k < MEMORIES; k++) lend(&m[k], asked[LENGTHS + k] * width[k]);
+    fill_loans(asked, m);
     for (int k = SOURCE; k < TABLE; k++) before[k] = copy(&m[k], before[k]);
-    uint64_t told[4] = {0};
-    told[0] = painted ? measured(asked, m, told + 2) : call(asked, m);
-    for (int k = 0; k < MEMORIES; k++) told[1] += touched(&m[k]);
-    for (int k = SOURCE; k < TABLE; k++) told[1] += changed(&m[k], before[k]);
+    uint64_t told[TOLD] = {0};
+    told[NUMBER] = painted ? measured(asked, m, told + TAKEN) : call(asked, m);
+    for (int k = 0; k < MEMORIES; k++) told[SPILT] += touched(&m[k]);
+    for (int k = SOURCE; k < TABLE; k++) told[SPILT] += changed(&m[k], before[k]);
+    look(&m[TABLE], filling(asked[SEED], TABLE), told + ZEROS);
+    look(&m[WORK], filling(asked[SEED], WORK), told + WORK_ZEROS);
+    told[CHANGED] = changed_bytes(&m[OUT], filling(asked[SEED], OUT));
+    uint64_t shown = asked[SHOWN] < m[OUT].bytes ? asked[SHOWN] : m[OUT].bytes;
+    told[SHOWS] = told[CHANGED] > shown ? told[CHANGED] : shown;
     put(told, sizeof told);
-    for (int k = TABLE; k < MEMORIES; k++) put(m[k].all + MARGIN, m[k].bytes);
+    put(m[OUT].all + MARGIN, told[SHOWS]);
+    put(m[STATE].all + MARGIN, m[STATE].bytes);
+    put(m[REPORT].all + MARGIN, m[REPORT].bytes);
     if (fflush(stdout)) fail("the answer cannot be written");
   }
   for (int k = SOURCE; k < TABLE; k++) free(before[k]);

@@ -4,7 +4,8 @@
 //! Every part of the grammar has some text, so what is under way can be ended.
 
 use crate::text::{Kind, Token};
-use std::collections::{HashMap, HashSet};
+use std::collections::HashMap;
+use std::sync::LazyLock;
 
 /// One production a line. A word that stands left of an arrow is a part of the
 /// grammar, `name`, `number` and `decimal` are any of these, all else is itself.
@@ -88,36 +89,78 @@ pub fn productions() -> Vec<Production> {
     PRODUCTIONS.trim().lines().map(line).collect()
 }
 
-/// A production of which so many symbols are passed, begun before the token of
-/// that number.
-#[derive(Clone, Copy, PartialEq, Eq, Hash)]
+/// A word of the productions, by its number.
+type Symbol = usize;
+
+/// A place in a production, by its number: all symbols before it are passed. The
+/// next one up is behind one symbol more.
+#[derive(Clone, Copy)]
+struct Spot {
+    part: Symbol,
+    next: Option<Symbol>,
+}
+
+/// The productions with numbers for words.
+struct Rules {
+    symbols: HashMap<&'static str, Symbol>,
+    spots: Vec<Spot>,
+    /// By symbol, where its productions begin; none for what is itself.
+    begins: Vec<Vec<usize>>,
+    /// By symbol, whether one of these has no symbols. Only these parts may be
+    /// empty, and at once: none is by way of another.
+    empty: Vec<bool>,
+}
+
+static RULES: LazyLock<Rules> = LazyLock::new(|| {
+    let productions = productions();
+    let mut symbols: HashMap<&'static str, Symbol> = HashMap::new();
+    for production in &productions {
+        for word in [production.part].iter().chain(&production.symbols) {
+            let number = symbols.len();
+            symbols.entry(word).or_insert(number);
+        }
+    }
+    let mut rules = Rules {
+        spots: Vec::new(),
+        begins: vec![Vec::new(); symbols.len()],
+        empty: vec![false; symbols.len()],
+        symbols,
+    };
+    for production in &productions {
+        let part = rules.symbols[production.part];
+        rules.begins[part].push(rules.spots.len());
+        rules.empty[part] |= production.symbols.is_empty();
+        let nexts = production.symbols.iter().map(|word| rules.symbols[word]);
+        let spots = nexts.map(Some).chain([None]);
+        rules.spots.extend(spots.map(|next| Spot { part, next }));
+    }
+    rules
+});
+
+/// A production passed up to that spot, begun before the token of that number.
+#[derive(Clone, Copy)]
 struct UnderWay {
-    production: usize,
-    passed: usize,
+    spot: usize,
     begun: usize,
 }
 
 pub struct Recogniser {
-    productions: Vec<Production>,
-    /// By part, its productions.
-    parts: HashMap<&'static str, Vec<usize>>,
+    rules: &'static Rules,
     /// What is under way before each token, and after the last one.
     sets: Vec<Vec<UnderWay>>,
+    /// By begin and spot, one more than the last set that it is in.
+    known: Vec<usize>,
 }
 
 impl Default for Recogniser {
     fn default() -> Recogniser {
-        let productions = productions();
-        let mut parts: HashMap<&str, Vec<usize>> = HashMap::new();
-        for (index, production) in productions.iter().enumerate() {
-            parts.entry(production.part).or_default().push(index);
-        }
         let mut recogniser = Recogniser {
-            productions,
-            parts,
+            rules: &RULES,
             sets: Vec::new(),
+            known: Vec::new(),
         };
-        recogniser.grow(recogniser.begin("Program", 0));
+        let program = recogniser.rules.symbols["Program"];
+        recogniser.grow(recogniser.begin(program, 0).collect());
         recogniser
     }
 }
@@ -132,12 +175,12 @@ impl Recogniser {
             Kind::Number(_) => "number",
             Kind::Float(_) => "decimal",
         };
+        // Words that are in no production, as `do`, no program has.
+        let Some(symbol) = self.rules.symbols.get(word) else {
+            return false;
+        };
         let last = self.sets.last().expect("at least one set");
-        let taken: Vec<UnderWay> = last
-            .iter()
-            .filter(|u| self.next(u) == Some(word))
-            .map(|u| self.passed(u))
-            .collect();
+        let taken: Vec<UnderWay> = self.waiting_for(*symbol, last).collect();
         let any = !taken.is_empty();
         if any {
             self.grow(taken);
@@ -147,78 +190,67 @@ impl Recogniser {
 
     /// Whether the tokens so far are a program.
     pub fn complete(&self) -> bool {
-        let whole = |u: &&UnderWay| {
-            u.begun == 0
-                && self.next(u).is_none()
-                && self.productions[u.production].part == "Program"
+        let program = self.rules.symbols["Program"];
+        let whole = |u: &UnderWay| {
+            let Spot { part, next } = self.rules.spots[u.spot];
+            u.begun == 0 && next.is_none() && part == program
         };
-        self.sets
-            .last()
-            .is_some_and(|last| last.iter().any(|u| whole(&u)))
+        self.sets.last().is_some_and(|last| last.iter().any(whole))
     }
 
-    fn next(&self, u: &UnderWay) -> Option<&'static str> {
-        self.productions[u.production]
-            .symbols
-            .get(u.passed)
-            .copied()
+    fn begin(&self, part: Symbol, begun: usize) -> impl Iterator<Item = UnderWay> {
+        let begins = self.rules.begins[part].iter();
+        begins.map(move |spot| UnderWay { spot: *spot, begun })
     }
 
-    fn passed(&self, u: &UnderWay) -> UnderWay {
-        UnderWay {
-            passed: u.passed + 1,
-            ..*u
-        }
-    }
-
-    fn begin(&self, part: &str, begun: usize) -> Vec<UnderWay> {
-        let start = |production: &usize| UnderWay {
-            production: *production,
-            passed: 0,
-            begun,
-        };
-        self.parts[part].iter().map(start).collect()
+    /// What of the set waits for the symbol, the symbol passed.
+    fn waiting_for<'a>(
+        &'a self,
+        symbol: Symbol,
+        set: &'a [UnderWay],
+    ) -> impl Iterator<Item = UnderWay> + 'a {
+        let waits = move |u: &&UnderWay| self.rules.spots[u.spot].next == Some(symbol);
+        set.iter().filter(waits).map(passed)
     }
 
     /// Adds a set: these, what may begin where they stand, and what goes on
     /// where one of them ends.
     fn grow(&mut self, start: Vec<UnderWay>) {
         let here = self.sets.len();
-        let mut known: HashSet<UnderWay> = HashSet::new();
+        let spots = self.rules.spots.len();
+        self.known.resize(spots * (here + 1), 0);
         let mut set: Vec<UnderWay> = Vec::new();
         let mut waiting = start;
         while let Some(u) = waiting.pop() {
-            if !known.insert(u) {
+            let known = &mut self.known[spots * u.begun + u.spot];
+            if std::mem::replace(known, here + 1) == here + 1 {
                 continue;
             }
             set.push(u);
-            match self.next(&u) {
-                Some(part) if self.parts.contains_key(part) => {
-                    waiting.extend(self.begin(part, here));
-                    if self.may_be_empty(part) {
-                        waiting.push(self.passed(&u));
+            let Spot { part, next } = self.rules.spots[u.spot];
+            match next {
+                Some(next) => {
+                    waiting.extend(self.begin(next, here));
+                    if self.rules.empty[next] {
+                        waiting.push(passed(&u));
                     }
                 }
-                Some(_) => {}
-                None => waiting.extend(self.after(&u, &set)),
+                // One that ends where it began was empty, and passed when it
+                // was begun.
+                None => {
+                    let waited = self.sets.get(u.begun).unwrap_or(&set);
+                    waiting.extend(self.waiting_for(part, waited));
+                }
             }
         }
         self.sets.push(set);
     }
+}
 
-    /// Only these, and at once: no part is empty by way of another.
-    fn may_be_empty(&self, part: &str) -> bool {
-        let empty = |p: &usize| self.productions[*p].symbols.is_empty();
-        self.parts[part].iter().any(empty)
-    }
-
-    /// What waited for the part that has ended. One that ended where it began
-    /// was empty, and passed when it was begun.
-    fn after(&self, ended: &UnderWay, set: &[UnderWay]) -> Vec<UnderWay> {
-        let part = self.productions[ended.production].part;
-        let waited = self.sets.get(ended.begun).map_or(set, Vec::as_slice);
-        let waited = waited.iter().filter(|u| self.next(u) == Some(part));
-        waited.map(|u| self.passed(u)).collect()
+fn passed(u: &UnderWay) -> UnderWay {
+    UnderWay {
+        spot: u.spot + 1,
+        ..*u
     }
 }
 

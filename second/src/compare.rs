@@ -1,28 +1,37 @@
 //! Holds another implementation against this one: its report, and every word
-//! and byte it was lent, and a margin around each loan that it was not lent.
+//! and byte it was lent. Whoever makes the calls for it, as the bridge, looks after
+//! a margin around each loan that was not lent.
 
-use crate::answer::{TABLE_WORDS, WORK_WORDS};
+use crate::answer::{Left, TABLE_WORDS, WORK_WORDS};
 use crate::chance::Chance;
-use crate::memory::Memory;
 use crate::promise;
-use crate::services::{wanted, Service};
+use crate::quote;
+use crate::services::{wanted, Service, Wanted};
 use crate::trial::Trial;
 use crate::write::write;
 
-/// A call with all that is lent for it.
+/// A call with all that is lent for it: table, work and output by their lengths
+/// alone. What they hold beforehand the other side makes up from a seed, and then
+/// says how it left them.
+#[derive(Clone, Copy)]
 pub struct Call<'a> {
     pub service: Service,
     pub edition: u32,
     pub source: &'a [u8],
     /// The second of two sources, if there are two.
     pub second: &'a [u8],
-    pub table: &'a mut [u32],
-    pub work: &'a mut [u32],
-    pub output: &'a mut [u8],
+    /// Words.
+    pub table: usize,
+    pub work: usize,
+    /// Bytes.
+    pub output: usize,
+    /// How many of the first bytes of the output are to be told, changed or not.
+    pub shown: usize,
     pub allowance: u64,
     /// What a shift keeps from call to call.
-    pub state: &'a mut [u64],
-    pub report: &'a mut [u64],
+    pub state: &'a [u64],
+    pub report: &'a [u64],
+    pub fill: u64,
 }
 
 impl Call<'_> {
@@ -33,33 +42,109 @@ impl Call<'_> {
             edition,
             source: &[],
             second: &[],
-            table: &mut [],
-            work: &mut [],
-            output: &mut [],
+            table: 0,
+            work: 0,
+            output: 0,
+            shown: 0,
             allowance: 0,
-            state: &mut [],
-            report: &mut [],
+            state: &[],
+            report: &[],
+            fill: 0,
         }
     }
 }
 
-/// The number returned, or why there is none to be trusted.
-pub type Told = Result<u32, String>;
-
-pub trait Other {
-    fn call(&self, call: Call) -> Told;
+/// How table or work was left. No word of them was zero before.
+#[derive(Clone, Copy, Debug, Default, PartialEq, Eq)]
+pub struct After {
+    /// How many of the first words are zero.
+    pub zeros: usize,
+    /// The first word behind them that is not as it was.
+    pub odd: Option<usize>,
 }
 
+impl After {
+    /// From two words, the second of them one more than the odd one, or 0.
+    pub fn of(zeros: u64, odd: u64) -> After {
+        After {
+            zeros: zeros as usize,
+            odd: (odd as usize).checked_sub(1),
+        }
+    }
+
+    /// Whether it is left as it must be, if so many words are required.
+    pub fn hold(&self, name: &str, left: Left, required: usize) -> Result<(), String> {
+        let zeros = match left {
+            Left::AsBefore => 0,
+            Left::RequiredZero => required,
+        };
+        match self.odd {
+            None if self.zeros == zeros => Ok(()),
+            None => Err(format!(
+                "{name}: {} words are zero, not {zeros}",
+                self.zeros
+            )),
+            Some(odd) => Err(format!(
+                "{name}: {} words are zero, not {zeros}, and {name}[{odd}] is changed",
+                self.zeros
+            )),
+        }
+    }
+}
+
+/// What came of a call.
+#[derive(Clone, Debug)]
+pub struct Heard {
+    pub number: u64,
+    pub table: After,
+    pub work: After,
+    /// The first bytes of the output: all that were to be told, and up to the
+    /// last one that changed.
+    pub output: Vec<u8>,
+    /// How many bytes there are up to that.
+    pub changed: usize,
+    pub state: Vec<u64>,
+    pub report: Vec<u64>,
+}
+
+impl Heard {
+    /// Whether the output begins with this and the rest of it is as it was.
+    pub fn hold_output(&self, due: &[u8]) -> Result<(), String> {
+        if self.changed > due.len() {
+            return Err(format!("output[{}] is changed", self.changed - 1));
+        }
+        let told = self.output.get(..due.len()).unwrap_or(&self.output);
+        match told == due {
+            true => Ok(()),
+            false => Err(format!(
+                "the output is \"{}\", not \"{}\"",
+                quote::encode(told),
+                quote::encode(due)
+            )),
+        }
+    }
+}
+
+/// What came of a call, or why nothing is to be trusted.
+pub type Told = Result<Heard, String>;
+
+pub trait Other {
+    fn call(&self, call: &Call) -> Told;
+}
+
+/// Takes in one answer.
+pub type Tell<'a> = dyn FnMut(Service, u32) + 'a;
+
 /// Holds every service on this trial, and some on the sheet written out again.
-pub fn compare(other: &dyn Other, trial: &Trial) -> Result<(), String> {
+pub fn compare(other: &dyn Other, trial: &Trial, tell: &mut Tell) -> Result<(), String> {
     for service in Service::ALL {
         if service.applies(trial) {
-            hold(other, trial, service)?;
+            tell(service, hold(other, trial, service)?);
         }
     }
     // A sheet cut in two says the same wherever it is cut (R07.2).
     for cut in trial.cuts() {
-        hold(other, &cut, Service::RunPair)?;
+        tell(Service::RunPair, hold(other, &cut, Service::RunPair)?);
     }
     if trial.fill.is_multiple_of(2) {
         promise::kept(other, trial).map_err(|e| format!("promise: {e}"))?;
@@ -74,65 +159,84 @@ pub fn compare(other: &dyn Other, trial: &Trial) -> Result<(), String> {
         ..trial.clone()
     };
     for service in [Service::Run, Service::Write] {
-        hold(other, &back, service).map_err(|e| format!("written out: {e}"))?;
+        let told = hold(other, &back, service).map_err(|e| format!("written out: {e}"))?;
+        tell(service, told);
     }
     Ok(())
 }
 
-/// Holds one service on this trial.
-pub fn hold(other: &dyn Other, trial: &Trial, service: Service) -> Result<(), String> {
+/// Holds one service on this trial, and gives the number of the answer.
+pub fn hold(other: &dyn Other, trial: &Trial, service: Service) -> Result<u32, String> {
     differs(other, trial, service).map_err(|e| format!("{service:?}: {e}"))
 }
 
-fn differs(other: &dyn Other, trial: &Trial, service: Service) -> Result<(), String> {
+fn differs(other: &dyn Other, trial: &Trial, service: Service) -> Result<u32, String> {
     let mut chance = Chance::new(trial.fill, service.code());
-    let mut table = Memory::new(trial.lent.table, || chance.next_word() as u32);
-    let mut work = Memory::new(service.work(trial), || chance.next_word() as u32);
-    let mut output = Memory::new(service.output(trial), || chance.next_word() as u8);
-    let mut report = Memory::new(trial.report(service), || chance.next_word());
+    let report: Vec<u64> = (0..trial.report(service))
+        .map(|_| chance.next_word())
+        .collect();
+    // A report that is too short is all that matters then.
+    let due = match report.len() >= service.words() {
+        true => wanted(service, trial),
+        false => Wanted {
+            number: 40,
+            report: vec![],
+            output: vec![],
+            table: Left::AsBefore,
+            work: Left::AsBefore,
+        },
+    };
     let (source, second) = service.sources(trial);
-    let number = other.call(Call {
+    let heard = other.call(&Call {
         source: &source,
         second,
-        table: table.lent(),
-        work: work.lent(),
-        output: output.lent(),
+        table: trial.lent.table,
+        work: service.work(trial),
+        output: service.output(trial),
+        shown: due.output.len(),
         allowance: trial.lent.allowance,
-        report: report.lent(),
+        report: &report,
+        fill: chance.next_word(),
         ..Call::bare(service, trial.lent.edition)
     })?;
-    // A report that is too short is all that matters then.
-    let mut due = 40;
-    if trial.report(service) >= service.words() {
-        let wanted = wanted(service, trial);
-        due = wanted.number;
-        report.want(&[vec![u64::from(due)], wanted.report].concat());
-        output.want(&wanted.output);
-        table.want_left(wanted.table, TABLE_WORDS);
-        work.want_left(wanted.work, WORK_WORDS);
+    if heard.number != u64::from(due.number) {
+        return Err(format!("returned {}, not {}", heard.number, due.number));
     }
-    if number != due {
-        return Err(format!("returned {number}, not {due}"));
+    let mut words = report;
+    if words.len() >= service.words() {
+        let told = [vec![u64::from(due.number)], due.report].concat();
+        words[..told.len()].copy_from_slice(&told);
     }
-    report.compare("report")?;
-    output.compare("output")?;
-    table.compare("table")?;
-    work.compare("work")
+    same_words("report", &heard.report, &words)?;
+    heard.hold_output(&due.output)?;
+    heard.table.hold("table", due.table, TABLE_WORDS)?;
+    heard.work.hold("work", due.work, WORK_WORDS)?;
+    Ok(due.number)
+}
+
+/// Whether a memory holds just these words.
+pub fn same_words(name: &str, told: &[u64], due: &[u64]) -> Result<(), String> {
+    match (0..due.len()).find(|at| told.get(*at) != due.get(*at)) {
+        None => Ok(()),
+        Some(at) => Err(format!("{name}[{at}] is {:?}, not {:?}", told[at], due[at])),
+    }
 }
 
 #[cfg(test)]
 mod tests {
     use super::*;
-    use crate::answer::{Left, Lent};
+    use crate::answer::Lent;
     use crate::{on_big_stack, trial};
 
     /// This interpreter behind the other's interface, with a fault at will.
     struct Mirror(&'static str);
 
-    fn leave(memory: &mut [u32], left: Left, required: usize) {
-        if left == Left::RequiredZero {
-            memory[..required].fill(0);
-        }
+    fn left(left: Left, required: usize) -> After {
+        let zeros = match left {
+            Left::AsBefore => 0,
+            Left::RequiredZero => required,
+        };
+        After { zeros, odd: None }
     }
 
     impl Mirror {
@@ -144,40 +248,44 @@ mod tests {
             }
         }
 
-        fn spoil(&self, call: &mut Call, number: u32, used: usize) {
-            let Call { work, output, .. } = call;
+        fn spoil(&self, call: &Call, heard: &mut Heard) {
+            let (number, used) = (heard.number, heard.output.len());
+            let Heard {
+                work,
+                output,
+                report,
+                ..
+            } = heard;
             match self.0 {
-                "a unit too many" if call.service == Service::Run && number == 0 => {
-                    call.report[4] += 1
+                "a unit too many" if call.service == Service::Run && number == 0 => report[4] += 1,
+                "a word not cleared" if number == 20 && call.work > 0 => {
+                    *work = After::of(WORK_WORDS as u64 - 1, 0)
                 }
-                "a word not cleared" if number == 20 && !work.is_empty() => {
-                    work[WORK_WORDS - 1] = 1
+                "a word past the end" if call.work > WORK_WORDS => {
+                    work.odd = Some(WORK_WORDS);
                 }
-                "a word past the end" if work.len() > WORK_WORDS => work[WORK_WORDS] ^= 1,
-                "a byte too many" if output.len() > used => output[used] ^= 1,
+                "a byte too many" if call.output > used => heard.changed = used + 1,
                 "a unit for each allowed" if call.service == Service::Run && number == 0 => {
-                    call.report[3] = call.allowance
+                    report[3] = call.allowance
                 }
-                "the other sheet" if call.service == Service::RunPair => call.report[6] ^= 3,
+                "the other sheet" if call.service == Service::RunPair => report[6] ^= 3,
                 "the other sheet behind four LFs" if call.service == Service::RunPair => {
                     let feeds = call.source.iter().filter(|byte| **byte == b'\n');
-                    call.report[6] ^= if feeds.count() == 4 { 3 } else { 0 };
+                    report[6] ^= if feeds.count() == 4 { 3 } else { 0 };
                 }
-                "another not-a-number" if call.report.get(2..4) == Some(&[4, 0x7FF8 << 48]) => {
-                    call.report[3] = 0xFFF8 << 48
+                "another not-a-number" if report.get(2..4) == Some(&[4, 0x7FF8 << 48]) => {
+                    report[3] = 0xFFF8 << 48
                 }
-                "zero without its sign" if call.report.get(2..4) == Some(&[4, 1 << 63]) => {
-                    call.report[3] = 0
-                }
+                "zero without its sign" if report.get(2..4) == Some(&[4, 1 << 63]) => report[3] = 0,
                 "no line feed" if call.service == Service::Write && number == 0 => {
                     output[used - 1] = b' '
                 }
                 "a count from 0" if call.service == Service::Store && number == 0 => output[3] ^= 1,
                 "a count too small" if call.service == Service::Profile && number == 0 => {
-                    call.report[3] -= 1
+                    report[3] -= 1
                 }
                 "a byte for a line" if call.service == Service::RunStored && number == 20 => {
-                    call.report[1] += 2
+                    report[1] += 2
                 }
                 _ => {}
             }
@@ -185,15 +293,24 @@ mod tests {
     }
 
     impl Other for Mirror {
-        fn call(&self, mut call: Call) -> Told {
+        fn call(&self, call: &Call) -> Told {
+            let mut heard = Heard {
+                number: 40,
+                table: After::default(),
+                work: After::default(),
+                output: vec![],
+                changed: 0,
+                state: vec![],
+                report: call.report.to_vec(),
+            };
             if call.report.len() < call.service.words() {
-                return Ok(40);
+                return Ok(heard);
             }
             let lent = Lent {
                 edition: self.edition(call.edition),
-                table: call.table.len(),
-                work: call.work.len(),
-                output: call.output.len(),
+                table: call.table,
+                work: call.work,
+                output: call.output,
                 allowance: call.allowance,
                 ..Lent::default()
             };
@@ -203,18 +320,20 @@ mod tests {
                 }
                 _ => Trial::of(call.source, lent),
             };
-            (trial.room, trial.buffer) = (call.output.len(), call.output.len());
+            (trial.room, trial.buffer) = (call.output, call.output);
             if [Service::CheckStored, Service::RunStored].contains(&call.service) {
                 trial.stored = Some(call.source.to_vec());
             }
             let told = wanted(call.service, &trial);
-            leave(call.table, told.table, TABLE_WORDS);
-            leave(call.work, told.work, WORK_WORDS);
-            call.output[..told.output.len()].copy_from_slice(&told.output);
-            call.report[0] = u64::from(told.number);
-            call.report[1..=told.report.len()].copy_from_slice(&told.report);
-            self.spoil(&mut call, told.number, told.output.len());
-            Ok(told.number)
+            heard.number = u64::from(told.number);
+            heard.table = left(told.table, TABLE_WORDS);
+            heard.work = left(told.work, WORK_WORDS);
+            heard.changed = told.output.len();
+            heard.output = told.output;
+            heard.report[0] = u64::from(told.number);
+            heard.report[1..=told.report.len()].copy_from_slice(&told.report);
+            self.spoil(call, &mut heard);
+            Ok(heard)
         }
     }
 
@@ -239,7 +358,10 @@ mod tests {
     /// Whether some trial, of so many at the most, tells the mirror from this one.
     fn told_apart(fault: &'static str, trials: u64) -> bool {
         on_big_stack(move || {
-            let fails = |index: u64| compare(&Mirror(fault), &trial::make(5, index)).is_err();
+            let fails = |index: u64| {
+                let trial = trial::make(5, index);
+                compare(&Mirror(fault), &trial, &mut |_, _| {}).is_err()
+            };
             (0..trials).any(fails)
         })
     }

@@ -1,9 +1,12 @@
 //! Random trials, case files and deep sheets from the command line.
 //!
 //! ```text
-//! second N SEED [START]     N random trials, from number START (0) on
-//! second trace N SEED START the same, naming each trial before it is made
+//! second N SEED [START]     N random trials of all services, from number START (0) on
+//! second many N SEED [START]   N random cases, most of them of one service each
+//! second trace N SEED START the first of these, naming each trial before it is made
+//! second trace-many N SEED START   the second
 //! second show SEED INDEX    one random trial as a case
+//! second show-many SEED INDEX  one random case of a series of many
 //! second cases              all case files and all examples of the paper
 //! second table FILE         the file's sheets, each with the answer under it
 //! second deep BYTES         which sheets take the most stack, of that many bytes
@@ -11,24 +14,24 @@
 //! second bench FILE ALLOWANCE print     what it prints, its value under it
 //! ```
 //!
-//! Where GRUMPY_BOX names a program (see `piped`), each of them but `show` and
-//! `bench` holds that one against this one; without it this one runs alone.
+//! Where GRUMPY_BOX names a program (see `piped`), each of them but those that show
+//! and `bench` holds that one against this one; without it this one runs alone.
 
 mod bench;
 mod stack;
 
 use second::answer::{self, Answer, Lent};
-use second::cases;
-use second::compare::compare;
+use second::compare::Other;
+use second::many::{self, Case};
 use second::piped::Piped;
-use second::shift_trial::{self, ShiftTrial};
+use second::shares::Shares;
 use second::trial::Trial;
-use second::{casefile, follows, laws, near, neighbours, on_big_stack, paper};
-use second::{shift_file, shifts, shrink, trial};
-use std::collections::BTreeMap;
+use second::{casefile, cases, combine, combine_file, follows, near, neighbours};
+use second::{on_big_stack, paper, shift_file, shifts, shrink, trial};
 use std::io::Write;
 use std::process::ExitCode;
 use std::sync::LazyLock;
+use std::time::Instant;
 
 /// Failures shown in full; later ones are only counted.
 const MOST_SHOWN: u64 = 10;
@@ -39,10 +42,19 @@ fn main() -> ExitCode {
     let failed = match words[..] {
         ["cases"] => on_big_stack(all_cases),
         ["table", file] => on_big_stack(|| table(file)),
-        ["show", seed, index] => show(number(seed), number(index)),
+        ["show", seed, index] => {
+            let all = |seed, index| Case::All(trial::make(seed, index));
+            show(number(seed), number(index), all)
+        }
+        ["show-many", seed, index] => show(number(seed), number(index), many::draw),
         ["deep", bytes] => on_big_stack(|| stack::worst(number(bytes) as usize)),
         ["bench", file, allowance, repeats] => {
             on_big_stack(|| by_the_clock(file, number(allowance), repeats))
+        }
+        ["many", count, seed] => many(number(count), number(seed), 0, false),
+        ["many", count, seed, start] => many(number(count), number(seed), number(start), false),
+        ["trace-many", count, seed, start] => {
+            many(number(count), number(seed), number(start), true)
         }
         ["trace", count, seed, start] => series(number(count), number(seed), number(start), true),
         [count, seed] => series(number(count), number(seed), 0, false),
@@ -59,6 +71,7 @@ fn number(word: &str) -> u64 {
 
 fn usage() -> u64 {
     eprintln!("second N SEED [START] | trace N SEED START | show SEED INDEX | cases | table FILE");
+    eprintln!("second many N SEED [START] | trace-many N SEED START | show-many SEED INDEX");
     eprintln!("second deep BYTES | bench FILE ALLOWANCE REPEATS");
     1
 }
@@ -72,32 +85,60 @@ const STACK: usize = 1 << 23;
 /// The other implementation, started at its first use.
 static OTHER: LazyLock<Option<Piped>> = LazyLock::new(|| Piped::from_environment(STACK));
 
-/// Whether the trial passes. Alone, an answer can only be held against what is
-/// true of all answers.
-fn verdict(trial: &Trial) -> Result<(), String> {
-    match &*OTHER {
-        Some(other) => compare(other, trial),
-        None => laws::hold(trial),
-    }
+/// The same, if there is one.
+fn other() -> Option<&'static dyn Other> {
+    OTHER.as_ref().map(|other| other as &dyn Other)
 }
 
+/// Whether the case passes. Alone, an answer can only be held against what is true
+/// of all answers.
+fn verdict(case: &Case) -> Result<(), String> {
+    many::hold(other(), case, &mut |_, _| {})
+}
+
+/// All services on every trial.
 fn series(count: u64, seed: u64, start: u64, trace: bool) -> u64 {
+    let draw = |index: u64| {
+        let mut cases = vec![Case::All(trial::make(seed, index))];
+        if index.is_multiple_of(SHIFTS) {
+            cases.push(Case::Shift(shifts::make(seed, index)));
+        }
+        cases
+    };
+    in_turn(count, seed, start, trace, draw)
+}
+
+/// One service on most of the cases, drawn for it.
+fn many(count: u64, seed: u64, start: u64, trace: bool) -> u64 {
+    in_turn(count, seed, start, trace, |index| {
+        vec![many::draw(seed, index)]
+    })
+}
+
+fn in_turn(
+    count: u64,
+    seed: u64,
+    start: u64,
+    trace: bool,
+    draw: impl Fn(u64) -> Vec<Case> + Send,
+) -> u64 {
     on_big_stack(move || {
+        let clock = Instant::now();
         let mut tally = Tally::default();
         for index in start..start + count {
             if trace {
                 println!("trial {index}");
             }
-            let trial = trial::make(seed, index);
-            tally.add(&format!("seed {seed} trial {index}"), trial);
-            if index.is_multiple_of(SHIFTS) {
-                tally.add_shift(
-                    &format!("seed {seed} shift {index}"),
-                    &shifts::make(seed, index),
-                );
+            for case in draw(index) {
+                tally.add(&format!("seed {seed} trial {index}"), case);
             }
-            if (index + 1 - start).is_multiple_of(20_000) {
-                println!("{} of {count}, {} failed", index + 1 - start, tally.failed);
+            let done = index + 1 - start;
+            if done.is_multiple_of(20_000) || done == count {
+                let each = done as f64 / clock.elapsed().as_secs_f64();
+                println!(
+                    "{done} of {count}, {} failed, {each:.0} a second",
+                    tally.failed
+                );
             }
         }
         tally.close()
@@ -106,52 +147,51 @@ fn series(count: u64, seed: u64, start: u64, trace: bool) -> u64 {
 
 #[derive(Default)]
 struct Tally {
-    numbers: BTreeMap<u32, u64>,
+    shares: Shares,
     passed: u64,
     failed: u64,
 }
 
 impl Tally {
-    fn add(&mut self, title: &str, trial: Trial) {
-        let number = answer::run(&trial.sheet, &trial.lent).number;
-        *self.numbers.entry(number).or_default() += 1;
-        match verdict(&trial) {
+    fn add(&mut self, title: &str, case: Case) {
+        let edition = case.edition();
+        let tell = &mut |service, number| self.shares.add(service, edition, number);
+        match many::hold(other(), &case, tell) {
             Ok(()) => self.passed += 1,
-            Err(difference) => self.fail(title, trial, &difference),
+            Err(difference) => self.fail(title, case, &difference),
         }
     }
 
-    fn fail(&mut self, title: &str, trial: Trial, difference: &str) {
+    fn fail(&mut self, title: &str, case: Case, difference: &str) {
         self.failed += 1;
         if self.failed > MOST_SHOWN {
             return;
         }
-        let small = shrink::shrink(trial, |t| verdict(t).is_err());
-        let now = verdict(&small).err().unwrap_or_default();
         println!("# FAILED {title}: {difference}");
-        println!("# made smaller: {now}; {}", reports(&small));
-        println!("{}", cases::show_case(title, &small));
-    }
-
-    fn add_shift(&mut self, title: &str, trial: &ShiftTrial) {
-        let verdict = match &*OTHER {
-            Some(other) => shift_trial::hold(other, trial),
-            None => shift_file::laws(trial),
-        };
-        match verdict {
-            Ok(()) => self.passed += 1,
-            Err(difference) => {
-                self.failed += 1;
-                println!("# FAILED {title}: {difference}");
-                println!("{}", shift_file::show(title, trial));
+        let small = match case {
+            Case::Shift(trial) => {
+                println!("{}", shift_file::show(title, &trial));
+                return;
             }
+            Case::One(trial, service) => {
+                let one = |t: &Trial| Case::One(t.clone(), service);
+                let fails = |t: &Trial| service.applies(t) && verdict(&one(t)).is_err();
+                one(&shrink::shrink(trial, fails))
+            }
+            Case::All(trial) => {
+                let all = |t: &Trial| Case::All(t.clone());
+                all(&shrink::shrink(trial, |t| verdict(&all(t)).is_err()))
+            }
+        };
+        let now = verdict(&small).err().unwrap_or_default();
+        if let Case::One(trial, _) | Case::All(trial) = &small {
+            println!("# made smaller: {now}; {}", reports(trial));
+            println!("{}", cases::show_case(title, trial));
         }
     }
 
     fn close(self) -> u64 {
-        for (number, times) in &self.numbers {
-            println!("{number:>4} {times:>9}");
-        }
+        print!("{}", self.shares);
         println!("{} passed, {} failed", self.passed, self.failed);
         self.failed
     }
@@ -165,12 +205,20 @@ fn reports(trial: &Trial) -> String {
     }
 }
 
-fn show(seed: u64, index: u64) -> u64 {
+fn show(seed: u64, index: u64, draw: fn(u64, u64) -> Case) -> u64 {
     on_big_stack(move || {
-        let trial = trial::make(seed, index);
-        println!("# {}", reports(&trial));
         let title = format!("seed {seed} trial {index}");
-        println!("{}", cases::show_case(&title, &trial));
+        match draw(seed, index) {
+            Case::Shift(trial) => println!("{}", shift_file::show(&title, &trial)),
+            Case::One(trial, service) => {
+                println!("# {service:?}, {}", reports(&trial));
+                println!("{}", cases::show_case(&title, &trial));
+            }
+            Case::All(trial) => {
+                println!("# {}", reports(&trial));
+                println!("{}", cases::show_case(&title, &trial));
+            }
+        }
         0
     })
 }
@@ -187,7 +235,7 @@ fn all_cases() -> u64 {
     let mut tally = Tally::default();
     for case in all {
         match case.try_own() {
-            Ok(()) => tally.add(&case.title, case.trial),
+            Ok(()) => tally.add(&case.title, Case::All(case.trial)),
             Err(difference) => {
                 println!("# FAILED {difference}");
                 tally.failed += 1;
@@ -198,7 +246,26 @@ fn all_cases() -> u64 {
         systematic(&mut tally, edition);
     }
     shift_cases(&mut tally);
+    combine_cases(&mut tally);
     tally.close()
+}
+
+/// Each two reports that combine, here and, if it combines, by the other one.
+fn combine_cases(tally: &mut Tally) {
+    let cases = combine_file::read_folder(&casefile::folder()).unwrap_or_else(|e| panic!("{e}"));
+    for case in cases {
+        let tell = &mut |service, number| tally.shares.add(service, 1, number);
+        let held = case
+            .try_own()
+            .and_then(|()| other().map_or(Ok(()), |o| combine::hold_case(o, &case.parts, tell)));
+        match held {
+            Ok(()) => tally.passed += 1,
+            Err(difference) => {
+                println!("# FAILED {}: {difference}", case.title);
+                tally.failed += 1;
+            }
+        }
+    }
 }
 
 /// Each shift as a whole, and cut into pieces of every small size.
@@ -214,7 +281,7 @@ fn shift_cases(tally: &mut Tally) {
             let mut trial = case.trial.clone();
             trial.cuts = (1..40).map(|piece| size.saturating_mul(piece)).collect();
             trial.cuts.retain(|cut| *cut < trial.input.len());
-            tally.add_shift(&case.title, &trial);
+            tally.add(&case.title, Case::Shift(trial));
         }
     }
 }
@@ -230,13 +297,13 @@ fn systematic(tally: &mut Tally, edition: u32) {
     for (turn, sheet) in sheets.enumerate() {
         let mut trial = Trial::of(&sheet, lent);
         trial.turn = Some(turn);
-        tally.add("a token or an end", trial);
+        tally.add("a token or an end", Case::All(trial));
     }
     for (sheet, _) in near::sheets(edition) {
-        tally.add("near misses", Trial::of(&sheet, lent));
+        tally.add("near misses", Case::All(Trial::of(&sheet, lent)));
     }
     for sheet in neighbours::all(edition) {
-        tally.add("neighbours", Trial::of(&sheet, lent));
+        tally.add("neighbours", Case::All(Trial::of(&sheet, lent)));
     }
 }
 

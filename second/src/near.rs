@@ -1,6 +1,7 @@
 //! Names that are all but reserved words.
 
 use crate::chance::Chance;
+use std::sync::LazyLock;
 
 /// The paper's list once more, apart from the one that tokens are read with.
 const WORDS: &str =
@@ -72,10 +73,16 @@ pub fn name(chance: &mut Chance, edition: u32) -> String {
     if edition == 1 && chance.one_in(4) {
         return chance.pick(&["for", "by"]).to_string();
     }
-    let all = near(chance.pick(&words(2)).as_bytes());
+    let all = &NEAR[chance.below(NEAR.len())];
     let name = all[chance.below(all.len())].clone();
     String::from_utf8(name).expect("letters")
 }
+
+/// By word of both editions, what is near it.
+static NEAR: LazyLock<Vec<Vec<Vec<u8>>>> = LazyLock::new(|| {
+    let words = words(2).into_iter();
+    words.map(|word| near(word.as_bytes())).collect()
+});
 
 #[cfg(test)]
 mod tests {

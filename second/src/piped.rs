@@ -3,7 +3,7 @@
 //! may be made for another machine than this one and run under an emulator, and
 //! one that crashes is started again.
 
-use crate::compare::{Call, Other, Told};
+use crate::compare::{After, Call, Heard, Other, Told};
 use std::io::{self, BufReader, BufWriter, Read, Write};
 use std::process::{Child, ChildStdin, ChildStdout, Command, Stdio};
 use std::sync::Mutex;
@@ -68,12 +68,12 @@ impl Piped {
 }
 
 impl Other for Piped {
-    fn call(&self, mut call: Call) -> Told {
+    fn call(&self, call: &Call) -> Told {
         let mut pipes = self.pipes.lock().expect("one call at a time");
-        let told = pipes.ask(&call).and_then(|()| pipes.hear(&mut call));
+        let told = pipes.ask(call).and_then(|()| pipes.hear(call));
         match told {
-            Ok([number, 0]) => u32::try_from(number).map_err(|_| format!("returned {number}")),
-            Ok([_, spilt]) => Err(format!("{spilt} bytes were changed that were not lent")),
+            Ok((heard, 0)) => Ok(heard),
+            Ok((_, spilt)) => Err(format!("{spilt} bytes were changed that were not lent")),
             Err(_) => {
                 let end = pipes.child.wait().map(|status| status.to_string());
                 *pipes = Pipes::start(&self.words);
@@ -92,7 +92,7 @@ impl Pipes {
             .stdout(Stdio::piped())
             .spawn()
             .expect("the other implementation starts");
-        let asked = BufWriter::new(child.stdin.take().expect("its input"));
+        let asked = BufWriter::with_capacity(1 << 16, child.stdin.take().expect("its input"));
         let told = BufReader::new(child.stdout.take().expect("its output"));
         let stack = Stack::default();
         Pipes {
@@ -104,70 +104,64 @@ impl Pipes {
     }
 
     fn ask(&mut self, call: &Call) -> io::Result<()> {
-        let lengths = [
-            call.source.len(),
-            call.second.len(),
-            call.table.len(),
-            call.work.len(),
-            call.output.len(),
-            call.state.len(),
-            call.report.len(),
-        ];
-        self.send_long(&[call.service.code(), u64::from(call.edition)])?;
-        self.send_long(&lengths.map(|n| n as u64))?;
-        self.send_long(&[call.allowance])?;
+        self.send(&[
+            call.service.code(),
+            u64::from(call.edition),
+            call.source.len() as u64,
+            call.second.len() as u64,
+            call.table as u64,
+            call.work as u64,
+            call.output as u64,
+            call.state.len() as u64,
+            call.report.len() as u64,
+            call.allowance,
+            call.fill,
+            call.shown as u64,
+        ])?;
         self.asked.write_all(call.source)?;
         self.asked.write_all(call.second)?;
-        self.send_short(call.table)?;
-        self.send_short(call.work)?;
-        self.asked.write_all(call.output)?;
-        self.send_long(call.state)?;
-        self.send_long(call.report)?;
+        self.send(call.state)?;
+        self.send(call.report)?;
         self.asked.flush()
     }
 
-    /// The number returned, and how many bytes were changed that were not lent.
-    fn hear(&mut self, call: &mut Call) -> io::Result<[u64; 2]> {
-        let mut told = [0; 4];
-        self.hear_long(&mut told)?;
-        let [number, spilt, taken, left] = told;
+    /// What came back, and how many bytes were changed that were not lent.
+    fn hear(&mut self, call: &Call) -> io::Result<(Heard, u64)> {
+        let told = self.hear_words(10)?;
+        let [number, spilt, taken, left, zeros, odd, work_zeros, work_odd, changed, shown] =
+            told[..]
+        else {
+            unreachable!("ten words");
+        };
         self.stack = Stack {
             taken: taken.max(self.stack.taken),
             left: left.min(self.stack.left),
         };
-        self.hear_short(call.table)?;
-        self.hear_short(call.work)?;
-        self.told.read_exact(call.output)?;
-        self.hear_long(call.state)?;
-        self.hear_long(call.report)?;
-        Ok([number, spilt])
+        let mut output = vec![0; shown as usize];
+        self.told.read_exact(&mut output)?;
+        let heard = Heard {
+            number,
+            table: After::of(zeros, odd),
+            work: After::of(work_zeros, work_odd),
+            output,
+            changed: changed as usize,
+            state: self.hear_words(call.state.len())?,
+            report: self.hear_words(call.report.len())?,
+        };
+        Ok((heard, spilt))
     }
 
-    fn send_long(&mut self, words: &[u64]) -> io::Result<()> {
-        let bytes: Vec<u8> = words.iter().flat_map(|w| w.to_ne_bytes()).collect();
-        self.asked.write_all(&bytes)
-    }
-
-    fn send_short(&mut self, words: &[u32]) -> io::Result<()> {
-        let bytes: Vec<u8> = words.iter().flat_map(|w| w.to_ne_bytes()).collect();
-        self.asked.write_all(&bytes)
-    }
-
-    fn hear_long(&mut self, words: &mut [u64]) -> io::Result<()> {
-        let mut bytes = vec![0; 8 * words.len()];
-        self.told.read_exact(&mut bytes)?;
-        for (word, eight) in words.iter_mut().zip(bytes.chunks_exact(8)) {
-            *word = u64::from_ne_bytes(eight.try_into().expect("eight bytes"));
+    fn send(&mut self, words: &[u64]) -> io::Result<()> {
+        for word in words {
+            self.asked.write_all(&word.to_ne_bytes())?;
         }
         Ok(())
     }
 
-    fn hear_short(&mut self, words: &mut [u32]) -> io::Result<()> {
-        let mut bytes = vec![0; 4 * words.len()];
+    fn hear_words(&mut self, count: usize) -> io::Result<Vec<u64>> {
+        let mut bytes = vec![0; 8 * count];
         self.told.read_exact(&mut bytes)?;
-        for (word, four) in words.iter_mut().zip(bytes.chunks_exact(4)) {
-            *word = u32::from_ne_bytes(four.try_into().expect("four bytes"));
-        }
-        Ok(())
+        let word = |eight: &[u8]| u64::from_ne_bytes(eight.try_into().expect("eight bytes"));
+        Ok(bytes.chunks_exact(8).map(word).collect())
     }
 }

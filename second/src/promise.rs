@@ -32,20 +32,18 @@ pub fn fits(kind: u64, value: i64) -> bool {
 type Ended = (Vec<u64>, Vec<u8>);
 
 fn call(other: &dyn Other, service: Service, trial: &Trial, lent: &Lent) -> Result<Ended, String> {
-    let mut table = vec![0; TABLE_WORDS];
-    let mut work = vec![0; WORK_WORDS];
-    let mut output = vec![0; lent.output];
-    let mut report = vec![0; service.words()];
-    other.call(Call {
+    let heard = other.call(&Call {
         source: &trial.sheet,
-        table: &mut table,
-        work: &mut work,
-        output: &mut output,
+        table: TABLE_WORDS,
+        work: WORK_WORDS,
+        output: lent.output,
+        shown: lent.output,
         allowance: lent.allowance,
-        report: &mut report,
+        report: &vec![0; service.words()],
+        fill: trial.fill,
         ..Call::bare(service, lent.edition)
     })?;
-    Ok((report, output))
+    Ok((heard.report, heard.output))
 }
 
 /// Whether both promises hold on this trial, with the memory asked for.

@@ -11,11 +11,23 @@ use crate::sheets::Writer;
 use crate::text::MOST_TOKENS;
 use crate::types::Type;
 
+/// Those that are long take long, and are seldom drawn.
+const LONG_ONE_IN: usize = 15;
+
 pub fn sheet(chance: &mut Chance) -> Vec<u8> {
+    if chance.one_in(LONG_ONE_IN) {
+        let make = chance.pick(&[
+            long::long_sheet as fn(&mut Chance) -> String,
+            long::many_tokens,
+            long::long_text,
+            long::many_words,
+            long::long_program,
+            long::long_program,
+        ]);
+        return make(chance).into_bytes();
+    }
     let make = chance.pick(&[
-        long::long_sheet as fn(&mut Chance) -> String,
-        long::many_tokens,
-        long::large_number,
+        long::large_number as fn(&mut Chance) -> String,
         long::odd_number,
         long::long_float,
         long::odd_float,
@@ -43,10 +55,6 @@ pub fn sheet(chance: &mut Chance) -> Vec<u8> {
         low_end,
         much_output,
         endless,
-        long::long_text,
-        long::many_words,
-        long::long_program,
-        long::long_program,
     ]);
     make(chance).into_bytes()
 }

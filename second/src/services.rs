@@ -8,7 +8,7 @@ use crate::trial::Trial;
 use crate::write::{self, Written};
 use std::borrow::Cow;
 
-#[derive(Clone, Copy, Debug, PartialEq, Eq)]
+#[derive(Clone, Copy, Debug, PartialEq, Eq, PartialOrd, Ord)]
 pub enum Service {
     Check,
     Run,
@@ -22,8 +22,12 @@ pub enum Service {
     CheckStored,
     RunStored,
     Profile,
+    /// Two reports of shifts made one; the other implementation may lack it.
+    Combine,
     /// No service, but how many words of state a shift needs.
     StateWords,
+    /// No service, but whether there is Combine.
+    HasCombine,
 }
 
 use Service::{Check, CheckPair, CheckStored, Profile, Run, RunPair, RunStored, Store, Write};
@@ -71,8 +75,8 @@ impl Service {
             RunPair => 9,
             Service::ShiftBegin => 2,
             Service::ShiftFeed => 1,
-            Service::ShiftFinish => 15,
-            Service::StateWords => 0,
+            Service::ShiftFinish | Service::Combine => 15,
+            Service::StateWords | Service::HasCombine => 0,
         }
     }
 

@@ -20,7 +20,10 @@
 //! set under the book, it is `-`, as none is laid down.
 
 use crate::answer::Lent;
+use crate::combine;
+use crate::compare::Tell;
 use crate::quote;
+use crate::services::Service;
 use crate::shift::{begin, Shift};
 use crate::shift_trial::ShiftTrial;
 use crate::Refusal;
@@ -57,24 +60,29 @@ impl ShiftCase {
     }
 }
 
-/// R14.8, for this interpreter alone: cut or not it is the same report, and its
-/// lines are all accounted for.
-pub fn laws(trial: &ShiftTrial) -> Result<(), String> {
+/// R14.8, for this interpreter alone: cut or not it is the same report, its lines
+/// are all accounted for, and two reports combine to the one of both.
+pub fn laws(trial: &ShiftTrial, tell: &mut Tell) -> Result<(), String> {
     let ShiftTrial { book, lent, .. } = trial;
-    if begin(book, lent).is_err() {
+    let begun = begin(book, lent).err().map_or(0, |refusal| refusal.number);
+    tell(Service::ShiftBegin, begun);
+    if begun != 0 {
         return Ok(());
     }
     let (mut whole, mut cut) = (Shift::new(book, lent), Shift::new(book, lent));
     whole.feed(&trial.input);
+    let mut last = 0;
     for piece in trial.pieces() {
-        cut.feed(piece);
+        last = cut.feed(piece).0;
+        tell(Service::ShiftFeed, last);
     }
+    tell(Service::ShiftFinish, last);
     let sums = whole.finish();
     let counted = sums.bad + sums.stops.iter().sum::<u64>() + sums.pays.len() as u64;
-    match sums == cut.finish() && counted == sums.lines {
-        true => Ok(()),
-        false => Err("another report where it is cut".to_string()),
+    if sums != cut.finish() || counted != sums.lines {
+        return Err("another report where it is cut".to_string());
     }
+    combine::laws(trial)
 }
 
 fn shown(number: u32, words: &[u64]) -> String {

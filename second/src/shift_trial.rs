@@ -3,8 +3,8 @@
 
 use crate::answer::{Left, Lent, TABLE_WORDS, WORK_WORDS};
 use crate::chance::Chance;
-use crate::compare::{Call, Other};
-use crate::memory::Memory;
+use crate::combine;
+use crate::compare::{same_words, Call, Other, Tell};
 use crate::pair::NOWHERE;
 use crate::services::Service;
 use crate::shift::{begin, Shift};
@@ -39,21 +39,21 @@ impl ShiftTrial {
     }
 }
 
-/// The memories of a shift, which stay the same from call to call.
+/// What stays the same from call to call of a shift.
 struct Lending<'a> {
     other: &'a dyn Other,
     trial: &'a ShiftTrial,
     chance: Chance,
     state_words: usize,
-    state: Memory<u64>,
-    output: Memory<u8>,
+    state: Vec<u64>,
 }
 
-/// What is said of a call before its memories are looked at.
+/// What a call must come to.
 struct Due {
     number: u32,
     /// The words behind the number, where each is laid down.
     report: Vec<Option<u64>>,
+    output: Vec<u8>,
     left: Left,
 }
 
@@ -67,31 +67,35 @@ enum Short {
 }
 
 /// Holds a whole shift.
-pub fn hold(other: &dyn Other, trial: &ShiftTrial) -> Result<(), String> {
+pub fn hold(other: &dyn Other, trial: &ShiftTrial, tell: &mut Tell) -> Result<(), String> {
     let mut chance = Chance::new(trial.fill, 14);
     let state_words = state_words(other)?;
     let more = chance.pick(&[0, 0, 3]);
     let mut lending = Lending {
-        state: Memory::new(state_words + more, || chance.next_word()),
-        output: Memory::new(trial.lent.output, || chance.next_word() as u8),
+        state: (0..state_words + more)
+            .map(|_| chance.next_word())
+            .collect(),
         other,
         trial,
         chance,
         state_words,
     };
     let refused = lending.begin().map_err(|e| format!("begin: {e}"))?;
+    tell(Service::ShiftBegin, refused.unwrap_or(0));
     if let Some(number) = refused {
         // A short memory leaves the state as it was, and nothing to finish.
-        return match number {
-            40 => Ok(()),
-            _ => lending.finish(&Shift::new(b"", &trial.lent), number),
-        };
+        if number != 40 {
+            let told = lending.finish(&Shift::new(b"", &trial.lent), number)?;
+            tell(Service::ShiftFinish, told);
+        }
+        return Ok(());
     }
     let mut shift = Shift::new(&trial.book, &trial.lent);
     let mut last = 0;
     for piece in trial.pieces() {
         let told = lending.feed(&mut shift, piece);
         last = told.map_err(|e| format!("feed: {e}"))?;
+        tell(Service::ShiftFeed, last);
         if last != 0 {
             // No further byte changes anything.
             let again = lending.feed(&mut shift, piece);
@@ -99,13 +103,15 @@ pub fn hold(other: &dyn Other, trial: &ShiftTrial) -> Result<(), String> {
             break;
         }
     }
-    lending.finish(&shift, last)
+    let told = lending.finish(&shift, last)?;
+    tell(Service::ShiftFinish, told);
+    combine::hold(other, trial, tell).map_err(|e| format!("combined: {e}"))
 }
 
 /// The words of state that the other implementation asks for.
 fn state_words(other: &dyn Other) -> Result<usize, String> {
-    let words = other.call(Call::bare(Service::StateWords, 1))?;
-    Ok(words as usize)
+    let heard = other.call(&Call::bare(Service::StateWords, 1))?;
+    Ok(heard.number as usize)
 }
 
 impl Lending<'_> {
@@ -125,14 +131,15 @@ impl Lending<'_> {
         let due = Due {
             number,
             report,
+            output: vec![],
             left,
         };
         self.call(Service::ShiftBegin, b"", due, Short::Nothing)?;
         Ok((number != 0).then_some(number))
     }
 
-    /// The same call with a memory too short, which changes nothing at all; of a state or a report that is too short
-    /// not even the report tells.
+    /// The same call with a memory too short, which changes nothing at all; of a
+    /// state or a report that is too short not even the report tells.
     fn at_times_short(
         &mut self,
         service: Service,
@@ -152,10 +159,12 @@ impl Lending<'_> {
         let due = Due {
             number: 40,
             report,
+            output: vec![],
             left: Left::AsBefore,
         };
         let told = self.call(service, piece, due, short);
-        told.map_err(|e| format!("{short:?} too short: {e}"))
+        told.map(drop)
+            .map_err(|e| format!("{short:?} too short: {e}"))
     }
 
     /// Whether the book by itself, with all room, is refused at a place in it.
@@ -168,113 +177,107 @@ impl Lending<'_> {
     fn feed(&mut self, shift: &mut Shift, piece: &[u8]) -> Result<u32, String> {
         self.at_times_short(Service::ShiftFeed, piece, 0)?;
         let (number, printed) = shift.feed(piece);
+        // Each line prints from the front on, over what the one before it left.
+        let mut output = vec![];
         for bytes in printed {
-            self.output.want(&bytes);
+            let behind = output.split_off(bytes.len().min(output.len()));
+            output = [bytes, behind].concat();
         }
         let due = Due {
             number,
             report: vec![],
+            output,
             left: Left::RequiredZero,
         };
-        self.call(Service::ShiftFeed, piece, due, Short::Nothing)?;
-        Ok(number)
+        self.call(Service::ShiftFeed, piece, due, Short::Nothing)
     }
 
     /// The report at the end. Its number is that of the last feed, or 0 where
     /// what was refused was no line.
-    fn finish(&mut self, shift: &Shift, last: u32) -> Result<(), String> {
+    fn finish(&mut self, shift: &Shift, last: u32) -> Result<u32, String> {
         let report: Vec<Option<u64>> = shift.finish().words().into_iter().map(Some).collect();
         let due = Due {
             number: last,
-            left: Left::AsBefore,
             report,
+            output: vec![],
+            left: Left::AsBefore,
         };
         self.at_times_short(Service::ShiftFinish, b"", due.report.len())?;
         let told = self.call(Service::ShiftFinish, b"", due, Short::Nothing);
         told.map_err(|e| format!("finish: {e}"))
     }
 
+    /// The number told.
     fn call(
         &mut self,
         service: Service,
         piece: &[u8],
         due: Due,
         short: Short,
-    ) -> Result<(), String> {
-        let mut loans = self.loans(service, short);
+    ) -> Result<u32, String> {
         let ShiftTrial { lent, book, .. } = self.trial;
-        // More is lent than some of the services take.
-        let mut call = Call {
-            source: book,
-            second: piece,
-            table: loans.table.lent(),
-            work: loans.work.lent(),
-            output: self.output.lent(),
-            allowance: lent.allowance,
-            state: self.state.lent(),
-            report: loans.report.lent(),
-            ..Call::bare(service, lent.edition)
-        };
-        if short == Short::State {
-            call.state = &mut call.state[..self.state_words - 1];
-        }
-        let number = self.other.call(call)?;
-        // After a refusal it is open whether finish tells it once more.
-        // So it is with an edition that is none, which finish may tell by itself.
-        let unknown = number == 42 && !(1..=2).contains(&lent.edition);
-        let retold =
-            service == Service::ShiftFinish && short == Short::Nothing && (number == 0 || unknown);
-        if number != due.number && !retold {
-            return Err(format!("returned {number}, not {}", due.number));
-        }
-        if due.number != 40 {
-            self.state.accept(self.state_words);
-        }
-        loans.compare(number, &due, short)?;
-        self.state.compare("state")?;
-        self.output.compare("output")
-    }
-
-    /// What is lent for one call only.
-    fn loans(&mut self, service: Service, short: Short) -> Loans {
-        let chance = &mut self.chance;
-        let Lent { table, work, .. } = self.trial.lent;
         let (table, work) = match (service, short) {
             (Service::ShiftFinish, _) => (0, 0),
-            (_, Short::Table) => (TABLE_WORDS - 1, work),
-            _ => (table, work),
+            (_, Short::Table) => (TABLE_WORDS - 1, lent.work),
+            _ => (lent.table, lent.work),
         };
         let words = match short {
             Short::Report => service.words() - 1,
-            _ => service.words() + chance.pick(&[0, 0, 2]),
+            _ => service.words() + self.chance.pick(&[0, 0, 2]),
         };
-        Loans {
-            table: Memory::new(table, || chance.next_word() as u32),
-            work: Memory::new(work, || chance.next_word() as u32),
-            report: Memory::new(words, || chance.next_word()),
+        let report: Vec<u64> = (0..words).map(|_| self.chance.next_word()).collect();
+        let state = match short {
+            Short::State => &self.state[..self.state_words - 1],
+            _ => &self.state[..],
+        };
+        // More is lent than some of the services take.
+        let heard = self.other.call(&Call {
+            source: book,
+            second: piece,
+            table,
+            work,
+            output: lent.output,
+            shown: due.output.len(),
+            allowance: lent.allowance,
+            state,
+            report: &report,
+            fill: self.chance.next_word(),
+            ..Call::bare(service, lent.edition)
+        })?;
+        // After a refusal it is open whether finish tells it once more.
+        // So it is with an edition that is none, which finish may tell by itself.
+        let unknown = heard.number == 42 && !(1..=2).contains(&lent.edition);
+        let retold = service == Service::ShiftFinish
+            && short == Short::Nothing
+            && (heard.number == 0 || unknown);
+        if heard.number != u64::from(due.number) && !retold {
+            return Err(format!("returned {}, not {}", heard.number, due.number));
         }
-    }
-}
-
-struct Loans {
-    table: Memory<u32>,
-    work: Memory<u32>,
-    report: Memory<u64>,
-}
-
-impl Loans {
-    fn compare(&mut self, number: u32, due: &Due, short: Short) -> Result<(), String> {
+        let mut all = report;
         if short != Short::Report && short != Short::State {
-            let told = self.report.lent().to_vec();
-            let words = due.report.iter().zip(&told[1..]);
-            let words = words.map(|(due, told)| due.unwrap_or(*told));
-            let all = [u64::from(number)].into_iter().chain(words);
-            self.report.want(&all.collect::<Vec<u64>>());
+            all[0] = heard.number;
+            for (at, word) in due.report.iter().enumerate() {
+                all[at + 1] = word.unwrap_or(heard.report[at + 1]);
+            }
         }
-        self.table.want_left(due.left, TABLE_WORDS);
-        self.work.want_left(due.left, WORK_WORDS);
-        self.report.compare("report")?;
-        self.table.compare("table")?;
-        self.work.compare("work")
+        same_words("report", &heard.report, &all)?;
+        heard.hold_output(&due.output)?;
+        heard.table.hold("table", due.left, TABLE_WORDS)?;
+        heard.work.hold("work", due.left, WORK_WORDS)?;
+        self.take_state(service, &due, heard.state)?;
+        Ok(heard.number as u32)
+    }
+
+    /// The state as it was left. What it holds is the other's own matter, but it
+    /// has to be as before after 40 and after finish.
+    fn take_state(&mut self, service: Service, due: &Due, left: Vec<u64>) -> Result<(), String> {
+        let open = match due.number == 40 || service == Service::ShiftFinish {
+            true => 0,
+            false => self.state_words,
+        };
+        let due = [&left[..open], &self.state[open..left.len()]].concat();
+        same_words("state", &left, &due)?;
+        self.state[..left.len()].copy_from_slice(&left);
+        Ok(())
     }
 }

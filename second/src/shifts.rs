@@ -5,6 +5,7 @@ use crate::chance::Chance;
 use crate::damage;
 use crate::forms::SEQ;
 use crate::sheets::Writer;
+use crate::shift::MOST_LINES;
 use crate::shift_trial::ShiftTrial;
 use crate::text::MOST_TOKENS;
 use crate::types::Type;
@@ -35,6 +36,48 @@ pub fn make(seed: u64, index: u64) -> ShiftTrial {
         input,
         cuts,
         lent,
+        fill: chance.next_word(),
+    }
+}
+
+/// A shift of as many lines as there may be, a few less or more. Nearly all of
+/// them are bad, and most of these empty: so many runs would take too long.
+pub fn most_lines(seed: u64, index: u64) -> ShiftTrial {
+    let mut chance = Chance::new(seed, index ^ 0x46);
+    let most = MOST_LINES as usize;
+    let mut lines = vec![b"\n".to_vec(); most - 2 + chance.below(6)];
+    for _ in 0..chance.below(6) {
+        let at = match chance.below(3) {
+            0 => chance.below(3),
+            1 => lines.len() - 1 - chance.below(6),
+            _ => chance.below(lines.len()),
+        };
+        lines[at] = line(&mut chance);
+    }
+    let mut input = lines.concat();
+    // A last line without its LF, which is one line more or one cut short.
+    match chance.below(4) {
+        0 => input.extend(chance.pick(&["0", "00070001117000000003", "x"]).bytes()),
+        1 => drop(input.pop()),
+        _ => {}
+    }
+    let mut cuts: Vec<usize> = (0..chance.below(4))
+        .map(|_| match chance.one_in(2) {
+            true => chance.below(input.len() + 1),
+            false => input.len() - chance.below(50),
+        })
+        .collect();
+    cuts.sort();
+    let book = chance.pick(&["p", "r-p", "p/r", "putchar(p)+r", "p*r"]);
+    ShiftTrial {
+        book: format!("def pay(p:int,r:int):int{{{book}}}").into_bytes(),
+        input,
+        cuts,
+        lent: Lent {
+            edition: 1 + chance.below(2) as u32,
+            allowance: chance.pick(&[5, 40, 500]),
+            ..Lent::default()
+        },
         fill: chance.next_word(),
     }
 }
@@ -176,4 +219,27 @@ fn cuts(chance: &mut Chance, length: usize) -> Vec<usize> {
     let mut cuts: Vec<usize> = (0..count).map(|_| chance.below(length + 1)).collect();
     cuts.sort();
     cuts
+}
+
+#[cfg(test)]
+mod tests {
+    use super::*;
+    use crate::on_big_stack;
+    use crate::shift::Shift;
+
+    /// Both sides of the most lines are met.
+    #[test]
+    fn most_lines_and_more() {
+        on_big_stack(|| {
+            let mut met = [0, 0];
+            for index in 0..40 {
+                let trial = most_lines(46, index);
+                let mut shift = Shift::new(&trial.book, &trial.lent);
+                let (number, _) = shift.feed(&trial.input);
+                assert!([0, 46].contains(&number));
+                met[usize::from(number == 46)] += 1;
+            }
+            assert!(met.iter().all(|times| *times > 5), "{met:?}");
+        });
+    }
 }

@@ -82,7 +82,10 @@ impl Tally {
             let bytes = quote::decode(book).expect("a sheet in the spelling of the case files");
             let line = b"00010000000100000001\n";
             let trial = ShiftTrial::of(&bytes, line, lent());
-            let (verdict, taken) = enough(shift_trial::hold(other, &trial), other.stack());
+            let (verdict, taken) = enough(
+                shift_trial::hold(other, &trial, &mut |_, _| {}),
+                other.stack(),
+            );
             self.count(verdict, book);
             most = most.max((taken, book));
         }
@@ -98,7 +101,7 @@ fn one(other: &Piped, service: Service, sheet: &str) -> (Result<(), String>, u64
         Service::CheckPair | Service::RunPair => Trial::of_pair(b"", &bytes, lent()),
         _ => Trial::of(&bytes, lent()),
     };
-    enough(hold(other, &trial, service), other.stack())
+    enough(hold(other, &trial, service).map(drop), other.stack())
 }
 
 /// Edition 2 has all that edition 1 has.

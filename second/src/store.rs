@@ -13,12 +13,19 @@ pub fn store(source: &[u8], lent: &Lent, buffer: usize) -> Written {
 
 /// The stored form of tokens that are spelled so.
 pub fn form(spelled: &[&[u8]]) -> Vec<u8> {
-    let mut text = format!("{:04X}\n", spelled.len());
+    let mut text = format!("{:04X}\n", spelled.len()).into_bytes();
     for spelling in spelled {
-        text.extend(spelling.iter().map(|byte| format!("{byte:02X}")));
-        text.push('\n');
+        text.extend(hexadecimal(spelling));
+        text.push(b'\n');
     }
-    text.into_bytes()
+    text
+}
+
+/// Two digits, capitals, for each byte.
+pub fn hexadecimal(bytes: &[u8]) -> impl Iterator<Item = u8> + '_ {
+    const DIGITS: &[u8; 16] = b"0123456789ABCDEF";
+    let both = |byte: &u8| [byte / 16, byte % 16].map(|digit| DIGITS[usize::from(digit)]);
+    bytes.iter().flat_map(both)
 }
 
 /// The stored form of a source's tokens, passing or not, if it has tokens.

@@ -5,32 +5,35 @@ use crate::answer::MOST_BYTES;
 use crate::chance::Chance;
 use crate::damage;
 use crate::quote;
-use crate::store::{form, form_of};
+use crate::store::{form, form_of, hexadecimal};
 use crate::text::MOST_TOKENS;
 
 /// A stored sheet that is not just the source's own, if there is to be one.
 pub fn make(chance: &mut Chance, sheet: &[u8], edition: u32) -> Option<Vec<u8>> {
-    let choice = chance.below(16);
-    if choice < 7 {
+    let choice = chance.below(48);
+    if choice < 21 {
         return None;
     }
     let own = form_of(sheet, edition).unwrap_or_else(|| soup(chance));
     let text = String::from_utf8(own).expect("digits and LFs");
-    let mut lines: Vec<String> = text.lines().map(str::to_string).collect();
-    match choice {
-        7 => lines[0] = wrong_count(chance, lines.len() - 1),
-        8 => spoil_line(chance, &mut lines),
-        9 | 10 => no_token(chance, &mut lines),
-        11 => move_lines(chance, &mut lines),
-        12 => return Some(long(chance)),
-        13 => return Some(many(chance)),
-        14 => return Some(cut(chance, &text)),
+    let lines = || text.lines().map(str::to_string).collect::<Vec<String>>();
+    let lines = match choice {
+        21..=24 => {
+            let count = wrong_count(chance, lines().len() - 1);
+            [vec![count], lines().split_off(1)].concat()
+        }
+        25..=28 => spoil_line(chance, lines()),
+        29..=35 => no_token(chance, lines()),
+        36..=39 => move_lines(chance, lines()),
+        40 => return Some(long(chance)),
+        41 => return Some(many(chance)),
+        42..=44 => return Some(cut(chance, &text)),
         _ => {
             let mut bytes = text.into_bytes();
             damage::damage_bytes(chance, &mut bytes);
             return Some(bytes);
         }
-    }
+    };
     let text: String = lines.iter().map(|line| format!("{line}\n")).collect();
     match chance.one_in(10) {
         true => Some(cut(chance, &text)),
@@ -38,12 +41,8 @@ pub fn make(chance: &mut Chance, sheet: &[u8], edition: u32) -> Option<Vec<u8>> 
     }
 }
 
-fn hexadecimal(bytes: &[u8]) -> String {
-    bytes.iter().map(|byte| format!("{byte:02X}")).collect()
-}
-
 /// Tokens without a sheet.
-fn soup(chance: &mut Chance) -> Vec<u8> {
+pub fn soup(chance: &mut Chance) -> Vec<u8> {
     let tokens: Vec<String> = (0..chance.below(9))
         .map(|_| damage::any_token(chance))
         .collect();
@@ -70,7 +69,7 @@ fn wrong_count(chance: &mut Chance, count: usize) -> String {
 }
 
 /// Makes a line, maybe the first, into no hexadecimal.
-fn spoil_line(chance: &mut Chance, lines: &mut [String]) {
+fn spoil_line(chance: &mut Chance, mut lines: Vec<String>) -> Vec<String> {
     let at = chance.below(lines.len());
     let line = &mut lines[at];
     match chance.below(8) {
@@ -83,6 +82,7 @@ fn spoil_line(chance: &mut Chance, lines: &mut [String]) {
         6 => line.push_str("0x"),
         _ => line.push_str(chance.pick(&["G0", "0g", "@A", "/0", ":0", "`0"])),
     }
+    lines
 }
 
 /// Lines that are no token, or two, or one after all, in the spelling of the case
@@ -92,10 +92,10 @@ const LINES: &str = r"1\x20 \x201 1\n \t1 \r \x20 // //1 1// /**/ /**/1 1/**/ /*
     0x7fffffff 0x80000000 123456789012345. 1234567890123456.";
 
 /// Puts one of these in place of a line.
-fn no_token(chance: &mut Chance, lines: &mut Vec<String>) {
+fn no_token(chance: &mut Chance, mut lines: Vec<String>) -> Vec<String> {
     let all: Vec<&str> = LINES.split_whitespace().collect();
     let bytes = quote::decode(chance.pick(&all)).expect("the spelling of the case files");
-    let line = hexadecimal(&bytes);
+    let line = hexadecimal(&bytes).map(char::from).collect();
     let at = chance.between(1, lines.len());
     match at < lines.len() {
         true => lines[at] = line,
@@ -104,16 +104,18 @@ fn no_token(chance: &mut Chance, lines: &mut Vec<String>) {
     if chance.one_in(3) {
         lines[0] = format!("{:04X}", lines.len() - 1);
     }
+    lines
 }
 
 /// A line is left out, doubled, or changes its place; the count stays.
-fn move_lines(chance: &mut Chance, lines: &mut Vec<String>) {
+fn move_lines(chance: &mut Chance, mut lines: Vec<String>) -> Vec<String> {
     let (from, to) = (chance.below(lines.len()), chance.below(lines.len()));
     match chance.below(3) {
         0 if lines.len() > 1 => drop(lines.remove(from)),
         1 => lines.swap(from, to),
         _ => lines.insert(to, lines[from].clone()),
     }
+    lines
 }
 
 /// Spellings of as many bytes as a source may have, or nearly.

@@ -4,9 +4,8 @@ use crate::answer::{self, Lent, MOST_BYTES, MOST_UNITS, TABLE_WORDS, WORK_WORDS}
 use crate::chance::Chance;
 use crate::pair::whole;
 use crate::services::Service;
-use crate::store::{form_of, store};
-use crate::write::write;
-use crate::{damage, rare, sheets, slips, stores};
+use crate::store::form_of;
+use crate::{damage, rare, sheets, slips, stores, text};
 use std::borrow::Cow;
 
 /// A buffer that has room for every stored sheet.
@@ -96,49 +95,62 @@ impl Trial {
 
 /// The trial of this number in the series of this seed.
 pub fn make(seed: u64, index: u64) -> Trial {
+    let mut trial = make_for(&Service::ALL, seed, index);
+    // Half of them are not cut.
+    if trial.fill.is_multiple_of(5) || trial.fill.is_multiple_of(3) {
+        trial.cut = None;
+    }
+    trial
+}
+
+/// A trial for these services; what only the others need is left out.
+pub fn make_for(services: &[Service], seed: u64, index: u64) -> Trial {
+    let asked = |some: &[Service]| some.iter().any(|service| services.contains(service));
     let mut chance = Chance::new(seed, index);
     let edition = 1 + chance.below(2) as u32;
     let mut sheet = make_sheet(&mut chance, edition);
-    let cut = make_cut(&mut chance, &mut sheet);
-    let mut lent = make_loans(&mut chance, &sheet, edition);
-    let written = write(&sheet, &lent, usize::MAX).text.len();
-    let room = make_room(&mut chance, written);
-    let buffer = store(&sheet, &lent, usize::MAX).text.len();
-    let buffer = make_room(&mut chance, buffer);
-    let stored = stores::make(&mut chance, &sheet, edition);
+    let mut trial = Trial::of(b"", Lent::default());
+    if asked(&[Service::CheckPair, Service::RunPair]) {
+        trial.cut = Some(make_cut(&mut chance, &mut sheet));
+    }
+    let runs = asked(&[Service::Run, Service::RunPair, Service::RunStored]);
+    trial.lent = make_loans(&mut chance, &sheet, edition, runs);
+    if asked(&[Service::Write, Service::Store]) {
+        let [written, stored] = lengths(&sheet, edition);
+        trial.room = make_room(&mut chance, written);
+        trial.buffer = make_room(&mut chance, stored);
+    }
+    if asked(&[Service::CheckStored, Service::RunStored]) {
+        trial.stored = stores::make(&mut chance, &sheet, edition);
+    }
     if chance.one_in(100) {
-        lent.edition = chance.pick(&[0, 3, 1 << 16, u32::MAX]);
+        trial.lent.edition = chance.pick(&[0, 3, 1 << 16, u32::MAX]);
     }
-    let short = chance.one_in(300).then(|| chance.below(100));
-    Trial {
-        sheet,
-        cut,
-        stored,
-        lent,
-        room,
-        buffer,
-        short,
-        more: chance.pick(&[0, 0, 0, 1, 4]),
-        fill: chance.next_word(),
-        turn: None,
-    }
+    trial.short = chance.one_in(300).then(|| chance.below(100));
+    trial.more = chance.pick(&[0, 0, 0, 1, 4]);
+    trial.fill = chance.next_word();
+    Trial { sheet, ..trial }
+}
+
+/// The bytes of what is written of the sheet, and of what is stored, if it passes.
+fn lengths(sheet: &[u8], edition: u32) -> [usize; 2] {
+    let tokens = text::tokens(sheet, edition).unwrap_or_default();
+    let bytes: usize = tokens.iter().map(|token| token.length).sum();
+    [bytes + tokens.len(), 2 * bytes + tokens.len() + 5]
 }
 
 /// One of the sheet's LFs to cut it at. If it has none, a space becomes one, or
 /// one is put in anywhere, so that tokens, comments and numbers are cut too.
-fn make_cut(chance: &mut Chance, sheet: &mut Vec<u8>) -> Option<usize> {
-    if chance.one_in(2) {
-        return None;
-    }
+fn make_cut(chance: &mut Chance, sheet: &mut Vec<u8>) -> usize {
     let feeds = places_of(b'\n', sheet);
     let spaces = places_of(b' ', sheet);
     if !feeds.is_empty() && !chance.one_in(6) {
-        return Some(chance.pick(&feeds));
+        return chance.pick(&feeds);
     }
     if !spaces.is_empty() && !chance.one_in(6) {
         let at = chance.pick(&spaces);
         sheet[at] = b'\n';
-        return Some(at);
+        return at;
     }
     let at = match chance.below(4) {
         0 => 0,
@@ -146,7 +158,7 @@ fn make_cut(chance: &mut Chance, sheet: &mut Vec<u8>) -> Option<usize> {
         _ => chance.below(sheet.len() + 1),
     };
     sheet.insert(at, b'\n');
-    Some(at)
+    at
 }
 
 fn places_of(byte: u8, sheet: &[u8]) -> Vec<usize> {
@@ -201,7 +213,8 @@ fn damaged_at_times(chance: &mut Chance) -> Vec<u8> {
     sheet
 }
 
-fn make_loans(chance: &mut Chance, sheet: &[u8], edition: u32) -> Lent {
+/// Loans; for those that run with an allowance that may be just enough.
+fn make_loans(chance: &mut Chance, sheet: &[u8], edition: u32, runs: bool) -> Lent {
     let table = length(chance, TABLE_WORDS);
     let work = length(chance, WORK_WORDS);
     let output = match chance.below(5) {
@@ -214,34 +227,36 @@ fn make_loans(chance: &mut Chance, sheet: &[u8], edition: u32) -> Lent {
         table,
         work,
         output,
-        allowance: MOST_UNITS,
         ..Lent::default()
     };
-    let allowance = match chance.below(30) {
-        0 => 0,
-        1 => 1,
-        2 | 3 => units(sheet, lent),
-        4 | 5 => units(sheet, lent).saturating_sub(1),
-        6 => chance.pick(&[MOST_UNITS + 1, u64::MAX, 1 << 32]),
-        7..=10 => chance.below(60) as u64,
-        11 | 12 => chance.below(20_000) as u64,
+    let choice = chance.below(30);
+    let used = match choice {
+        2..=5 | 13.. if runs => units(sheet, lent),
+        _ => Some(0),
+    };
+    let allowance = match (choice, used) {
+        (0, _) => 0,
+        (1, _) => 1,
+        (2 | 3, Some(units)) => units,
+        (4 | 5, Some(units)) => units.saturating_sub(1),
+        (6, _) => chance.pick(&[MOST_UNITS + 1, u64::MAX, 1 << 32]),
+        (7..=10, _) => chance.below(60) as u64,
+        (11 | 12, _) => chance.below(LONG as usize) as u64,
+        // Long runs are much alike, and a few of them are enough.
+        (_, None) if !chance.one_in(100) => chance.below(5_000) as u64,
         _ => MOST_UNITS,
     };
-    let lent = Lent { allowance, ..lent };
-    // Long runs are much alike, and a few of them are enough.
-    if units(sheet, lent) > LONG && !chance.one_in(40) {
-        let allowance = chance.below(5_000) as u64;
-        return Lent { allowance, ..lent };
-    }
-    lent
+    Lent { allowance, ..lent }
 }
 
 /// Units of a run that is long enough to be cut short most of the time.
 const LONG: u64 = 20_000;
 
-/// The units that this sheet uses of those it is allowed.
-fn units(sheet: &[u8], lent: Lent) -> u64 {
-    answer::run(sheet, &lent).units
+/// The units that this sheet uses, if they are not too many.
+fn units(sheet: &[u8], lent: Lent) -> Option<u64> {
+    let allowance = LONG;
+    let told = answer::run(sheet, &Lent { allowance, ..lent });
+    (told.number != 50).then_some(told.units)
 }
 
 fn length(chance: &mut Chance, required: usize) -> usize {

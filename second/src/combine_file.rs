@@ -1,0 +1,84 @@
+//! Files of reports that combine, whose names end in `.combine`:
+//!
+//! ```text
+//! * a title, which starts the case
+//! + number lines bad stop50 ... stop58 sum least largest
+//! + the second report
+//! = what they combine to
+//! ```
+
+use crate::combine::{combine, Report};
+use std::fs;
+use std::path::{Path, PathBuf};
+
+#[derive(Clone, Debug)]
+pub struct CombineCase {
+    pub title: String,
+    pub parts: [Report; 2],
+    pub due: Report,
+}
+
+impl CombineCase {
+    /// Whether this interpreter says the same.
+    pub fn try_own(&self) -> Result<(), String> {
+        let told = combine(&self.parts[0], &self.parts[1]);
+        match told == self.due {
+            true => Ok(()),
+            false => Err(format!("{}: gave {told:?}", self.title)),
+        }
+    }
+}
+
+/// All cases of all such files in the folder.
+pub fn read_folder(folder: &Path) -> Result<Vec<CombineCase>, String> {
+    let entries = fs::read_dir(folder).map_err(|e| e.to_string())?;
+    let mut paths: Vec<PathBuf> = entries.flatten().map(|e| e.path()).collect();
+    paths.retain(|p| p.extension().is_some_and(|e| e == "combine"));
+    paths.sort();
+    let mut cases = Vec::new();
+    for path in paths {
+        let text = fs::read_to_string(&path).map_err(|e| e.to_string())?;
+        let name = path.file_name().unwrap_or_default().to_string_lossy();
+        cases.extend(read_file(&name, &text)?);
+    }
+    Ok(cases)
+}
+
+fn read_file(name: &str, text: &str) -> Result<Vec<CombineCase>, String> {
+    let mut cases = Vec::new();
+    let mut title = String::new();
+    let mut parts: Vec<Report> = Vec::new();
+    for (index, line) in text.lines().enumerate() {
+        let at = format!("{name} line {}", index + 1);
+        let (mark, rest) = line.split_once(' ').unwrap_or((line, ""));
+        match mark {
+            "" | "#" => {}
+            "*" => title = format!("{at}: {rest}"),
+            "+" => parts.push(report(rest).map_err(|e| format!("{at}: {e}"))?),
+            "=" => {
+                let due = report(rest).map_err(|e| format!("{at}: {e}"))?;
+                let parts = std::mem::take(&mut parts);
+                let parts = parts.try_into().map_err(|_| format!("{at}: two reports"))?;
+                cases.push(CombineCase {
+                    title: title.clone(),
+                    parts,
+                    due,
+                });
+            }
+            _ => return Err(format!("{at}: unknown line")),
+        }
+    }
+    match parts.is_empty() {
+        true => Ok(cases),
+        false => Err(format!("{title}: no answer")),
+    }
+}
+
+fn report(text: &str) -> Result<Report, String> {
+    let words: Result<Vec<i64>, _> = text.split(' ').map(str::parse).collect();
+    let words = words.map_err(|_| "no numbers".to_string())?;
+    let words: Vec<u64> = words.into_iter().map(|word| word as u64).collect();
+    words
+        .try_into()
+        .map_err(|_| "fifteen numbers are wanted".to_string())
+}
