@@ -165,6 +165,7 @@ first-word Task.RunStored a t i = with-plain (a .plain) a i
 first-word Task.Shift a t i = with-plain (a .plain) a i
 first-word Task.Profile a t i = with-plain (a .plain) a i
 first-word Task.ProfileWhole a t i = with-plain (a .plain) a i
+first-word Task.Combine a t i = with-plain (a .plain) a i
 first-word Task.Help a t i = a
 first-word Task.Version a t i = a
 
@@ -187,6 +188,7 @@ with-whole Task.RunStored a i = with-strange a i
 with-whole Task.Shift a i = with-strange a i
 with-whole Task.Profile a i = with-task a Task.ProfileWhole
 with-whole Task.ProfileWhole a i = a
+with-whole Task.Combine a i = with-strange a i
 with-whole Task.Help a i = a
 with-whole Task.Version a i = a
 
@@ -205,6 +207,46 @@ in-turn Turn.Meaning a w i = with-word a w i
 in-turn Turn.Name a w i = with-report a i
 in-turn Turn.Edition a w i = with-edition a i
 in-turn Turn.Plain a w i = with-plain (a .plain) a i
+
+-- ---- whether a word is taken as a plain one, with these before it
+
+abbrev pub a-task : Task → Bool
+a-task Task.Pay = false
+a-task Task.Check = true
+a-task Task.CheckWhole = true
+a-task Task.Run = true
+a-task Task.Write = true
+a-task Task.Store = true
+a-task Task.CheckStored = true
+a-task Task.RunStored = true
+a-task Task.Shift = true
+a-task Task.Combine = true
+a-task Task.Help = false
+a-task Task.Version = false
+
+-- a word for a task is a plain one from then on
+abbrev pub begun-with : Count → Task → Bool
+begun-with Count.None t = a-task t
+begun-with Count.One t = true
+begun-with Count.Two t = true
+begun-with Count.Three t = true
+begun-with Count.More t = true
+
+abbrev pub plain-if : Bool → Word → Bool
+plain-if begun (Word.Command t) = begun
+plain-if begun (Word.Instead t) = false
+plain-if begun Word.Whole = false
+plain-if begun Word.Report = false
+plain-if begun Word.Edition = false
+plain-if begun Word.Rest = false
+plain-if begun Word.Strange = false
+plain-if begun Word.Plain = true
+
+abbrev pub plain-in : Turn → Bool → Word → Bool
+plain-in Turn.Meaning begun w = plain-if begun w
+plain-in Turn.Name begun w = false
+plain-in Turn.Edition begun w = false
+plain-in Turn.Plain begun w = true
 
 -- ---- what all of them ask for
 
@@ -236,6 +278,13 @@ two-or-three Count.Two = true
 two-or-three Count.Three = true
 two-or-three Count.More = false
 
+abbrev pub some-word : Count → Bool
+some-word Count.None = false
+some-word Count.One = true
+some-word Count.Two = true
+some-word Count.Three = true
+some-word Count.More = true
+
 abbrev pub fitting : Task → Count → Bool
 fitting Task.Pay n = three-words n
 fitting Task.Check n = one-word n
@@ -248,6 +297,7 @@ fitting Task.RunStored n = two-words n
 fitting Task.Shift n = two-or-three n
 fitting Task.Profile n = one-word n
 fitting Task.ProfileWhole n = one-word n
+fitting Task.Combine n = some-word n
 fitting Task.Help n = true
 fitting Task.Version n = true
 

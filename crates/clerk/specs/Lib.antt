@@ -6,3 +6,4 @@ pub mod Meanings
 pub mod Shifts
 pub mod Told
 pub mod Values
+pub mod Readings

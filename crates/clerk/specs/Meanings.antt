@@ -31,6 +31,7 @@ CommandIs t Task.RunStored = t ≡ spell "run-stored"
 CommandIs t Task.Shift = t ≡ spell "shift"
 CommandIs t Task.Profile = t ≡ spell "profile"
 CommandIs t Task.ProfileWhole = ⊥
+CommandIs t Task.Combine = t ≡ spell "--combine"
 CommandIs t Task.Help = t ≡ spell "--help"
 CommandIs t Task.Version = t ≡ spell "--version"
 

@@ -19,6 +19,7 @@ pub enum Task {
     Shift,
     Profile,
     ProfileWhole,
+    Combine,
     Help,
     Version,
 }
@@ -187,6 +188,7 @@ fn first(asked: Asked, task: Task, i: usize) -> Asked
         Task::Shift => plain(asked, i),
         Task::Profile => plain(asked, i),
         Task::ProfileWhole => plain(asked, i),
+        Task::Combine => plain(asked, i),
         Task::Help => asked,
         Task::Version => asked,
     }
@@ -222,6 +224,7 @@ fn whole(asked: Asked, i: usize) -> Asked
         Task::Shift => unknown(asked, i),
         Task::Profile => tasked(asked, Task::ProfileWhole),
         Task::ProfileWhole => asked,
+        Task::Combine => unknown(asked, i),
         Task::Help => asked,
         Task::Version => asked,
     }

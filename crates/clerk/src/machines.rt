@@ -240,3 +240,28 @@ pub fn shift(
     let e = counts(out, d, sums);
     amounts(out, e, sums)
 }
+
+// Whether all is well with parts together.
+fn together(out: &mut [u8], at: usize, over: bool) -> usize
+    ensures { λ r. ⌜ Counts r (now (out .exit)) ⌝ }
+{
+    if over {
+        return put(
+            out,
+            at,
+            b"number 46\nmeaning more than 65536 lines together, and so no sums\n",
+        );
+    }
+    well(out, at)
+}
+
+// The report of parts of a shift together, which has no sheet and no allowance of its own. It can be read as those of
+// the parts can.
+pub fn combined(out: &mut [u8], status: u32, over: bool, sums: Sums) -> usize
+    ensures { λ r. ⌜ Counts r (now (out .exit)) ⌝ }
+{
+    let a = field(out, 0, b"status", status as u64);
+    let b = together(out, a, over);
+    let c = counts(out, b, sums);
+    amounts(out, c, sums)
+}

@@ -32,6 +32,9 @@ fn option(text: &[u8]) -> Word
     if same(text, b"--edition") {
         return Word::Edition;
     }
+    if same(text, b"--combine") {
+        return Word::Instead(Task::Combine);
+    }
     if same(text, b"--help") {
         return Word::Instead(Task::Help);
     }

@@ -1,17 +1,23 @@
 // The words that the program is started with.
 use clerk::asked;
 use clerk::asked::Asked;
+use clerk::asked::Word;
 use clerk::meanings;
+
+// What a word means by itself.
+pub fn meaning(i: usize) -> Word {
+    let mut word = io::buffer();
+    let length = os::arg(i, &mut word);
+    meanings::meaning(&word[..length])
+}
 
 // Takes one word more. One that does not fit the buffer is as strange as one that has no meaning.
 fn step(asked: Asked, i: usize) -> Asked {
-    let mut word = io::buffer();
-    let length = os::arg(i, &mut word);
+    let word = meaning(i);
     if os::errno() != 0 {
         return asked::unknown(asked, i);
     }
-    let meaning = meanings::meaning(&word[..length]);
-    asked::take(asked, meaning, i)
+    asked::take(asked, word, i)
 }
 
 // What all of them ask for.

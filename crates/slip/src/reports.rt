@@ -159,3 +159,31 @@ pub fn shift(asked: Asked, allowance: u64, over: bool, sums: Sums) -> u32 {
     }
     status
 }
+
+fn record_combined(asked: Asked, status: u32, over: bool, sums: Sums) -> bool {
+    let mut text = io::buffer();
+    let n = machines::combined(&mut text, status, over, sums);
+    keep(asked, &text[..n])
+}
+
+// The report for people, or that there is none; true if it could be written.
+fn say_combined(over: bool, sums: Sums) -> bool {
+    if over {
+        return output::tell(b"slip: number 46: more than 65536 lines together, and so no sums\n");
+    }
+    let mut text = io::buffer();
+    let n = shifts::report(&mut text, sums);
+    output::say(&text[..n])
+}
+
+// Tells what the reports of parts come to, and answers the status.
+pub fn combined(asked: Asked, over: bool, sums: Sums) -> u32 {
+    if !say_combined(over, sums) {
+        return failed(asked);
+    }
+    let mut status = ends::shift_status(over);
+    if !record_combined(asked, status, over, sums) {
+        status = 2;
+    }
+    status
+}

@@ -1,4 +1,5 @@
 // What is done for each task: one function each, which answers the status, and one row in `serve`.
+use crate::combining;
 use crate::help;
 use crate::input;
 use crate::input::Sheet;
@@ -211,6 +212,7 @@ fn perform(asked: Asked, task: Task, edition: u32) -> u32 {
         Task::Shift => shifts::shift(asked, edition),
         Task::Profile => examine_rates(asked, edition, Called::Counted),
         Task::ProfileWhole => profiling::whole(asked, edition),
+        Task::Combine => combining::combine(asked),
         Task::Help => help::help(),
         Task::Version => help::version(),
     }
@@ -241,7 +243,7 @@ pub fn serve(asked: Asked) -> u32 {
             asked,
             b"use: slip RATE-SHEET PICKS RATE, slip check [--whole] SHEET, slip profile [--whole] SHEET,
      slip run SHEET [ALLOWANCE], slip write SHEET, slip store SHEET, slip check-stored FILE,
-     slip run-stored FILE [ALLOWANCE], slip shift BOOK LINES [ALLOWANCE]
+     slip run-stored FILE [ALLOWANCE], slip shift BOOK LINES [ALLOWANCE], slip shift --combine REPORT ..
 ",
         ),
     }
