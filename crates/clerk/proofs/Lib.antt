@@ -4,3 +4,4 @@ pub mod ReadBack
 pub mod Rows
 pub mod Signs
 pub mod Taken
+pub mod Writable

@@ -11,7 +11,7 @@ use mathlib.Core.Option.{some}
 use mathlib.Core.Path.{_≡_, refl, sym, ap, subst, _∙_}
 use borrow.Author.Tests.{leb-true, eqb-true}
 use native.Mathlib.Omega.{arith}
-use Prim.Native.Nat.{ℕ, suc, _+_, _*_, _^_, _≤_}
+use Prim.Native.Nat.{ℕ, suc, _+_, _-_, _*_, _^_, _≤_}
 use Rattle.language.proofs.Text.Choices.{and-both}
 use Rattle.language.specs.Combining.{all-stops, paid-lines, possible}
 use Rattle.language.specs.Sizes.{LARGEST, LINES}
@@ -88,7 +88,8 @@ module _ (s : Sums) (w : whole s ≡ true) where
   few =
       let a = parts .0 in
       let b = parts .1 in
-      let p = eqb-true (paid-lines (report-in s)) (s .paid) (told .1) in
+      let p : s .lines - (s .bad + all-stops (report-in s .stops)) ≡ s .paid =
+      eqb-true (paid-lines (report-in s)) (s .paid) (told .1) in
       let q = stops-sum in (
         omega arith,
         omega arith,

@@ -62,7 +62,7 @@ module _ (s : Sums) {b : Bool} (e : b ≡ possible (report-in s)) where
 
 -- ---- as many lines as there have to be
 
-module _ (t : List ℕ) {last : ℕ} (e : last + behind (take (length t) t) ≡ length t) where
+module _ (t : List ℕ) (last : ℕ) (e : last + behind (take (length t) t) ≡ length t) where
   left : last + behind t ≡ length t
   left = ap (λ (u : List ℕ). last + behind u) (sym (take-length t)) ∙ e
 
@@ -77,7 +77,7 @@ module _ (t : List ℕ) {last : ℕ} (e : last + behind (take (length t) t) ≡ 
   pub not-ended : (last ≡ length t → ⊥) → false ≡ full t
   unfolding full
   not-ended h =
-      let z : eqb (behind t) 0 ≡ false = ne-eqb _ _ (λ b. h (omega (arith, left))) in
+      let z : eqb (behind t) 0 ≡ false = ne-eqb (behind t) 0 (λ (b : behind t ≡ 0). h (omega (arith, left))) in
       rw z refl
 
 -- ---- the whole

@@ -40,10 +40,12 @@ returns c =
     let at-field2 = at-counts .before .before .before .before in
     let at-outcome = at-field2 .before .before .before .before .before in
     let at-sheet = at-outcome .before .before .before .before in
-    let at-field = at-sheet .before .before .before .before in (
+    let at-field = at-sheet .before .before .before .before in
+    let front = both (at-field .field .ensures) (at-sheet .sheet .ensures) in (
       at-amounts .amounts .ensures .0,
       λ h.
-          (both (both (both (both (both (at-field .field .ensures) (at-sheet .sheet .ensures)) (at-outcome .outcome .ensures .0, at-outcome .outcome .ensures .1 h)) (at-field2 .field2 .ensures)) (at-counts .counts .ensures)) (at-amounts .amounts .ensures)) .1,
+          let well = both front (at-outcome .outcome .ensures .0, at-outcome .outcome .ensures .1 h) in
+          both (both (both well (at-field2 .field2 .ensures)) (at-counts .counts .ensures)) (at-amounts .amounts .ensures) .1,
     )
 
 pub shift-spec : {M : Type 1} → statement M

@@ -16,13 +16,13 @@ is-length-requires c κs = search needs
 returns : tie.Need-returns
 returns c =
     let at-start = c .before .before .before in
-    is-ended (at-start .before .before .args .text .now) (at-start .line-start .ensures) (c .before .before .feeds-before .ensures) (c .before .if1 .taken)
-    (c .is-length .ensures)
+    is-ended (at-start .before .before .args .text .now) (at-start .line-start .result) (at-start .line-start .ensures)
+    (c .before .before .feeds-before .ensures) (c .before .if1 .taken) (c .is-length .ensures)
 
 returns-2 : tie.Need-returns-2
 returns-2 c =
     let at-start = c .before .before in
-    not-ended (at-start .before .before .args .text .now) (at-start .line-start .ensures) (c .if1 .left)
+    not-ended (at-start .before .before .args .text .now) (at-start .line-start .result) (at-start .line-start .ensures) (c .if1 .left)
 
 pub is-full-spec : {M : Type 1} → statement M
 is-full-spec =
