@@ -235,44 +235,35 @@ module _ (status : ℕ) (file : List ℕ) (allowance : ℕ) (s : Sums) where
       let y = subst (λ (t : List ℕ). Reads t r) (shift-text status file allowance s) x in
       back _ _ shift-tells w y 0 (numbered _ _ shift-tells w y refl refl) refl (is-full _ _ (shift-clean status file allowance s) (inr refl))
 
+-- whatever stands in the three lines before them
+module _ (a v m : List ℕ) (s : Sums) where
+  abbrev rows : List Line
+  rows = line (spell "status ") a ∷ line (spell "number ") v ∷ line (spell "meaning ") m ∷ sum-rows s
+
+  behind-three : Clean rows → Tells rows s
+  unfolding look apart same
+  behind-three c = record {
+    clean = c;
+    lines = refl;
+    bad = refl;
+    stop0 = refl;
+    stop1 = refl;
+    stop2 = refl;
+    stop3 = refl;
+    stop4 = refl;
+    stop5 = refl;
+    stop6 = refl;
+    stop7 = refl;
+    stop8 = refl;
+    paid = refl;
+    sum = refl;
+    least = refl;
+    largest = refl;
+  }
+
 combined-tells : (status : ℕ) (over : Bool) (s : Sums) → Tells (combined-rows status over s) s
-unfolding look apart same
-combined-tells status true s = record {
-  clean = combined-clean status true s;
-  lines = refl;
-  bad = refl;
-  stop0 = refl;
-  stop1 = refl;
-  stop2 = refl;
-  stop3 = refl;
-  stop4 = refl;
-  stop5 = refl;
-  stop6 = refl;
-  stop7 = refl;
-  stop8 = refl;
-  paid = refl;
-  sum = refl;
-  least = refl;
-  largest = refl;
-}
-combined-tells status false s = record {
-  clean = combined-clean status false s;
-  lines = refl;
-  bad = refl;
-  stop0 = refl;
-  stop1 = refl;
-  stop2 = refl;
-  stop3 = refl;
-  stop4 = refl;
-  stop5 = refl;
-  stop6 = refl;
-  stop7 = refl;
-  stop8 = refl;
-  paid = refl;
-  sum = refl;
-  least = refl;
-  largest = refl;
-}
+combined-tells status true s = behind-three _ _ _ s (combined-clean status true s)
+combined-tells status false s = behind-three _ _ _ s (combined-clean status false s)
 
 pub combined-back : (status : ℕ) (over : Bool) (s : Sums) → Writable s → {r : Reading} → Reads (combined-lines status over s) r
     → Back r over s
