@@ -5,7 +5,7 @@
  * GRUMPY_STACK bytes are enough, and call nothing from outside but memset. They may be called from several
  * threads at once, each with memory of its own.
  *
- * Editions. The first argument of each is the edition of the language that the sheet is written in:
+ * Editions. The first argument of each that takes a sheet is the edition of the language that it is written in:
  * GRUMPY_EDITION_1, or GRUMPY_EDITION_2, which has counted loops, with the words `for` and `by` and the marks
  * `..` and `..=`. A sheet with none of these is answered the same in both. Another number is answered with
  * GRUMPY_NO_EDITION.
@@ -100,6 +100,14 @@
  * nothing. With more than GRUMPY_SHIFT_LINES lines the number of feed and finish is GRUMPY_MANY_LINES; the
  * report is then that of the lines up to there, and no byte more changes anything. `out` is what each line
  * prints to, from its front on, over what the line before it left.
+ *
+ * Parts. The lines of a shift may be paid in parts, by several states or on several machines, and their reports
+ * combined two by two, in any order: grumpy_shift_combine takes two reports as grumpy_shift_finish writes them, of
+ * GRUMPY_SHIFT_FINISH_REPORT words each, and writes that of both. Where the first part ends at a line's end it is
+ * that of the whole, if they were paid by the same book with the same edition and allowance, and lent memories of
+ * the same lengths. With more than GRUMPY_SHIFT_LINES lines together, or where one of the two says so, the number is
+ * GRUMPY_MANY_LINES and all other words are 0; GRUMPY_NO_EDITION is told again, with 0 likewise. Words that no shift
+ * can come to are answered with GRUMPY_MANY_LINES too.
  *
  * A state or report that is too short is answered with GRUMPY_SHORT_MEMORY, and nothing is changed.
  */
@@ -282,6 +290,11 @@ uint32_t grumpy_shift_feed(uint32_t edition,
 uint32_t grumpy_shift_finish(uint32_t edition,
                              const uint64_t *state, size_t state_length,
                              uint64_t *report, size_t report_length);
+
+/* The report of two parts together. It reads no sheet, and so takes no edition. */
+uint32_t grumpy_shift_combine(const uint64_t *first, size_t first_length,
+                              const uint64_t *second, size_t second_length,
+                              uint64_t *report, size_t report_length);
 
 #ifdef __cplusplus
 }

@@ -10,6 +10,7 @@ pub mod meanings;
 pub mod mistakes;
 pub mod people;
 pub mod places;
+pub mod readings;
 mod refusals;
 pub mod shifts;
 pub mod tasks;

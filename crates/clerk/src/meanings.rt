@@ -26,6 +26,9 @@ fn option(text: &[u8]) -> Word
     if same(text, b"--whole") {
         return Word::Whole;
     }
+    if same(text, b"--combine") {
+        return Word::Combine;
+    }
     if same(text, b"--report") {
         return Word::Report;
     }

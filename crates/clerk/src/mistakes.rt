@@ -1,4 +1,4 @@
-// What is wrong with the words behind the program's name.
+// What is wrong with the words behind the program's name, and with files that they name.
 ghost use Rattle.io.specs.Counts.{Counts};
 use crate::fields::name;
 use page::decimal;
@@ -33,4 +33,16 @@ pub fn file(out: &mut [u8], at: usize, word: &[u8]) -> usize
     let a = put(out, at, b"slip: `");
     let b = name(out, a, word);
     put(out, b, b"`")
+}
+
+// A file that is no report of a shift, or one without its sums.
+pub fn no_report(out: &mut [u8], at: usize, word: &[u8]) -> usize
+    ensures { λ r. ⌜ Counts r (now (out .exit)) ⌝ }
+{
+    let a = file(out, at, word);
+    put(
+        out,
+        a,
+        b" is no report of a shift with its sums, as slip shift writes it with --report\n",
+    )
 }

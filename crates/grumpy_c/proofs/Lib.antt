@@ -8,3 +8,5 @@ pub mod StateWords
 pub mod ToldShifts
 pub mod ShiftWhole
 pub mod OneShift
+pub mod ToldCombined
+pub mod PartsWhole

@@ -5,3 +5,4 @@ pub mod Pairs
 pub mod Words
 pub mod States
 pub mod Shifts
+pub mod Combining

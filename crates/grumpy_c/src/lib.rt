@@ -1,14 +1,15 @@
-// The C interface of the box. All functions take the number of an edition first. They return the paper's
-// number and write a report: number, place, type, and for run also value (64-bit two's complement; a float's
-// bits), units and bytes printed, for profile the count; for write and store bytes written in the type's stead; for
-// two sheets also the sheet, and where the line that is shown begins and ends in it; the places of a stored sheet are
-// lines. A report that is too short is answered like memory that is too short, and nothing is changed.
+// The C interface of the box. Functions that take a sheet take the number of an edition first. All return the paper's
+// number and write a report: number, place, type, and for run also value (64-bit two's complement; a float's bits),
+// units and bytes printed, for profile the count; for write and store bytes written in the type's stead; for two sheets
+// also the sheet, and where the line that is shown begins and ends in it; the places of a stored sheet are lines. A
+// report that is too short is answered like memory that is too short, and nothing is changed.
 ghost use Prim.Native.Nat.{_≤_};
 ghost use lib.ListN.{length};
 ghost use Rattle.grumpy_c.specs.Reports.{ToldChecked, ToldRan, ToldWrote, CheckedC, RanC, WroteC};
 ghost use Rattle.grumpy_c.specs.Stored.{StoredC, StoredCheckedC, StoredRanC};
 ghost use Rattle.grumpy_c.specs.Pairs.{ToldPairChecked, ToldPairRan, PairCheckedC, PairRanC};
 
+mod combining;
 mod profilings;
 mod reports;
 mod shifts;

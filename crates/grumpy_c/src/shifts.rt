@@ -28,7 +28,7 @@ const BEGIN: usize = 2;
 
 const FEED: usize = 1;
 
-const FINISH: usize = 15;
+pub const FINISH: usize = 15;
 
 fn number_of(why: Why) -> u32
     ensures { λ r. ⌜ r ≡ shift-number (why-meant why) ⌝ }
@@ -187,7 +187,7 @@ pub extern "C" fn grumpy_shift_feed(
     number
 }
 
-fn ending_number(told: Ending) -> u32
+pub fn ending_number(told: Ending) -> u32
     ensures { λ r. ⌜ r ≡ ending-number told ⌝ }
 {
     match told {
@@ -196,7 +196,7 @@ fn ending_number(told: Ending) -> u32
     }
 }
 
-fn tell_finished(report: &mut [u64], number: u32, sums: Sums)
+pub fn tell_finished(report: &mut [u64], number: u32, sums: Sums)
     requires { ⌜ FINISH ≤ length (now report) ⌝ }
     ensures { λ _. ⌜ now (report .exit) ≡
         with-front (now (report .entry)) (report-words number (report-in sums)) ⌝ }

@@ -11,5 +11,8 @@ pub mod OneReport
 pub mod Cuts
 pub mod Whole
 pub mod Totals
+pub mod Joins
+pub mod Combining
+pub mod AnyOrder
 pub mod Books
 pub mod Examples

@@ -19,3 +19,4 @@ pub mod Edition
 pub mod Outline
 pub mod Shift
 pub mod Feeding
+pub mod Combining

@@ -9,3 +9,5 @@ pub mod Negative
 pub mod Returns
 pub mod Seen
 pub mod Spelling
+pub mod Signed
+pub mod Named

@@ -5,3 +5,4 @@ pub mod Lines
 pub mod Money
 pub mod Sheet
 pub mod Text
+pub mod Fields

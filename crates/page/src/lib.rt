@@ -1,6 +1,6 @@
 // What the program around the box does with bytes: it reads a number among its arguments, spells the call
 // of a shift, finds the line and the column of a place, puts text behind text so that it can be seen, writes a
-// float or pence for who reads it, and takes a number's sign off.
+// float or pence for who reads it, takes a number's sign off, and reads a value that has a name on its line.
 ghost use mathlib.Core.Path.{_≡_};
 ghost use Prim.Native.Nat.{min};
 ghost use lib.IntN.{natAbs};
@@ -10,6 +10,7 @@ ghost use Rattle.page.specs.Lines.{Spotted};
 mod amounts;
 mod bytes;
 mod characters;
+mod fields;
 mod floats;
 pub mod lines;
 mod money;
@@ -21,9 +22,12 @@ use crate::lines::columns;
 use crate::lines::feeds_before;
 use crate::lines::line_end;
 use crate::lines::line_start;
+pub use amounts::Amount;
 pub use amounts::Number;
 pub use amounts::up_to;
 pub use characters::readable;
+pub use fields::amount;
+pub use fields::count;
 pub use floats::bits;
 pub use floats::float;
 pub use lines::trimmed;

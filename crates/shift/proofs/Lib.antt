@@ -8,3 +8,4 @@ pub mod Going
 pub mod Learnt
 pub mod Pieces
 pub mod InPieces
+pub mod Combined

@@ -3,3 +3,4 @@ pub mod After
 pub mod Admitting
 pub mod Feeding
 pub mod Promises
+pub mod Combining

@@ -2,16 +2,22 @@
 // the lines come to. It stands above the services of the box and knows them by their promises alone. The
 // input comes in pieces of any size: `begin`, `feed` as often as there is a piece, `finish`. What is carried
 // between is plain data that the caller keeps; whatever he makes of it, nothing here wraps or goes past an
-// end, and nothing is run of a book that is not admitted, since every piece asks that anew.
+// end, and nothing is run of a book that is not admitted, since every piece asks that anew. Reports of two parts of
+// an input add up to that of the whole: `combine`.
 ghost use mathlib.Core.Path.{_≡_};
 ghost use Rattle.shift.specs.Meanings.{new-state, closed-sums};
 ghost use Rattle.shift.specs.Promises.{Begin, Feed, Finish};
+ghost use Rattle.language.specs.Combining.{without-sums};
+ghost use Rattle.language.specs.Shift.{sheet, many-lines};
+ghost use Rattle.numbers.specs.Meanings.{refusal-meant};
+ghost use Rattle.shift.specs.Combining.{Tells, Together, Combine};
 
 mod asking;
 mod feeding;
 
 use numbers::Refusal;
 use pairs::Spot;
+use tally::combining;
 use tally::lines;
 use tally::lines::Part;
 use tally::sums;
@@ -141,5 +147,64 @@ pub fn finish(edition: u32, state: State) -> Finished
     Finished {
         told: Ending::Refused(Refusal::NoEdition),
         sums,
+    }
+}
+
+fn refused(why: Refusal) -> Finished
+    ensures { λ r. ⌜ Tells r (without-sums (sheet (refusal-meant why))) ⌝ }
+{
+    let sums = sums::none();
+    Finished {
+        told: Ending::Refused(why),
+        sums,
+    }
+}
+
+// A line too many: the sums of those before it are not in the reports of two parts.
+fn overfull() -> Finished
+    ensures { λ r. ⌜ Tells r (without-sums many-lines) ⌝ }
+{
+    let sums = sums::none();
+    Finished {
+        told: Ending::Report { over: true },
+        sums,
+    }
+}
+
+// Two parts of which neither is refused.
+fn together(a: Sums, b: Sums) -> Finished
+    ensures { λ r. ⌜ Together a b r ⌝ }
+{
+    if combining::addable(a, b) {
+        let sums = combining::both(a, b);
+        return Finished {
+            told: Ending::Report { over: false },
+            sums,
+        };
+    }
+    overfull()
+}
+
+// What is told of an input whose two parts were told this, the first of which ends at a line's end. Where one is
+// refused, so is the whole: for the first refusal that is not for the lines, and else for these.
+pub fn combine(first: Finished, second: Finished) -> Finished
+    ensures { λ r. ⌜ Combine first second r ⌝ }
+{
+    let told = first.told;
+    let other = second.told;
+    match told {
+        Ending::Refused(why) => refused(why),
+        Ending::Report { over } => match other {
+            Ending::Refused(why) => refused(why),
+            Ending::Report { over: also } => {
+                if over {
+                    return overfull();
+                }
+                if also {
+                    return overfull();
+                }
+                together(first.sums, second.sums)
+            }
+        },
     }
 }

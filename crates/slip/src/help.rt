@@ -32,6 +32,7 @@ slip store SHEET                   writes the stored form of a whole sheet, line
 slip check-stored FILE             checks a stored sheet
 slip run-stored FILE [ALLOWANCE]   runs a stored sheet
 slip shift BOOK LINES [ALLOWANCE]  pays each line of a shift by the book, and tells what they come to
+slip shift --combine REPORT ..     tells what the reports of a shift's parts come to together
 slip --help                        this text
 slip --version                     editions and sizes
 ./slip --prove [WORDS]             proves the program first, and from then on uses the proved one
@@ -44,6 +45,7 @@ A sheet is a file; - is standard input. PICKS and RATE are 0 to 2147483647, ALLO
 A stored sheet may have 131071 bytes; its places are told as lines, counted from 1.
 A book is a sheet of functions, pay among them. A line of a shift is a loom in 4 digits of hexadecimal, then
 picks and rate in 8 each, in capitals, and a line feed; there may be 65536 of them. ALLOWANCE is for each.
+A shift may be paid in parts, cut at a line's end: --report writes the report of each, and --combine takes them.
 What the sheet prints goes to standard output, the report to standard error; the report of a shift goes to
 standard output, and what the book prints is dropped. Status: 0 paid or passed, 1 refused or stopped, 2 where
 the words do not serve, or a file cannot be read or an output written.

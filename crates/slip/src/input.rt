@@ -122,6 +122,15 @@ pub fn strange(word: usize) {
     output::tell(&text[..n]);
 }
 
+// Says of the file that a word names that it is no report of a shift.
+pub fn no_report(word: usize) {
+    let mut name = io::buffer();
+    let length = os::arg(word, &mut name);
+    let mut text = [0u8; 20000];
+    let n = clerk::mistakes::no_report(&mut text, 0, &name[..length]);
+    output::tell(&text[..n]);
+}
+
 // Are these two words, and the same?
 pub fn same(first: usize, second: usize) -> bool {
     if second == 0 {

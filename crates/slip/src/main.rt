@@ -7,6 +7,7 @@
 // cannot be read or written. A program cannot end with a status of its own; the script `slip` at the top of
 // the repository listens on that descriptor and ends with it.
 mod arguments;
+mod combining;
 mod help;
 mod input;
 mod output;

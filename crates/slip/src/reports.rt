@@ -1,4 +1,5 @@
 // The two reports, written.
+use crate::arguments;
 use crate::output;
 use clerk::asked::Asked;
 use clerk::causes::Cause;
@@ -41,9 +42,11 @@ fn keep(asked: Asked, text: &[u8]) -> bool {
     write(&file[..length], text)
 }
 
-// Something was wrong before any sheet was looked at; it was told.
+// Something was wrong before any sheet was looked at; it was told. What was to be read is not written over.
 pub fn failed(asked: Asked) -> u32 {
-    keep(asked, b"status 2\n");
+    if !arguments::is_plain(asked.report) {
+        keep(asked, b"status 2\n");
+    }
     2
 }
 
@@ -155,6 +158,34 @@ pub fn shift(asked: Asked, allowance: u64, over: bool, sums: Sums) -> u32 {
         status = 2;
     }
     if !record_shift(asked, status, &file[..length], allowance, over, sums) {
+        status = 2;
+    }
+    status
+}
+
+fn record_combined(asked: Asked, status: u32, over: bool, sums: Sums) -> bool {
+    let mut text = io::buffer();
+    let n = machines::combined(&mut text, status, over, sums);
+    keep(asked, &text[..n])
+}
+
+// The report for people, or that there is none; true if it could be written.
+fn say_combined(over: bool, sums: Sums) -> bool {
+    if over {
+        return output::tell(b"slip: number 46: more than 65536 lines together, and so no sums\n");
+    }
+    let mut text = io::buffer();
+    let n = shifts::report(&mut text, sums);
+    output::say(&text[..n])
+}
+
+// Tells what the reports of parts come to, and answers the status.
+pub fn combined(asked: Asked, over: bool, sums: Sums) -> u32 {
+    if !say_combined(over, sums) {
+        return failed(asked);
+    }
+    let mut status = ends::shift_status(over);
+    if !record_combined(asked, status, over, sums) {
         status = 2;
     }
     status

@@ -3,6 +3,7 @@
 // here wraps: what no shift can come to is counted no further.
 
 pub mod calls;
+pub mod combining;
 pub mod lines;
 pub mod sums;
 

@@ -75,13 +75,13 @@ fn plus(a: i64, b: i64) -> i64
     a + b
 }
 
-fn lesser_of(a: i64, b: i64) -> i64
+pub fn lesser_of(a: i64, b: i64) -> i64
     ensures { λ r. ⌜ r ≡ lesser a b ⌝ }
 {
     if b < a { b } else { a }
 }
 
-fn greater_of(a: i64, b: i64) -> i64
+pub fn greater_of(a: i64, b: i64) -> i64
     ensures { λ r. ⌜ r ≡ greater a b ⌝ }
 {
     if a < b { b } else { a }

@@ -116,7 +116,7 @@ unfolding pays
 all-in-range ready none-comes = all-none
 all-in-range ready (one-comes {o = o} x xs) = before-in-range o (in-range-run ready x) (all-in-range ready xs)
 
-come-long : {ed : ℕ} {book : List ℕ} {l : Lent} {ls : List Line} {os : List Outcome} {output output′ : List ℕ} → AllCome ed book l ls os output output′
+pub come-long : {ed : ℕ} {book : List ℕ} {l : Lent} {ls : List Line} {os : List Outcome} {output output′ : List ℕ} → AllCome ed book l ls os output output′
     → length os ≡ length ls
 come-long none-comes = refl
 come-long (one-comes x xs) = ap suc (come-long xs)

@@ -6,7 +6,8 @@ use lib.Signed.{ltZ, mag}
 use mir.Facts.{toZ-ofZ, fits-ofZ}
 use mir.Syntax.{w64}
 use mir.Val.{toZ, ofZ, SFits}
-use Rattle.grumpy_c.proofs.TwosComplement.{one-up-fits, below-zero, complement-below, complement-up}
+use Rattle.tally.proofs.Distance.{one-up-fits, below-zero, as-word}
+use Rattle.grumpy_c.proofs.TwosComplement.{complement-below}
 use Rattle.grumpy_c.proofs.words.complement.Statement.{statement}
 use Rattle.grumpy_c.proofs.words.complement.Tie as tie
 
@@ -28,7 +29,7 @@ module _ (c : tie.Then1) where
 
 module _ (c : tie.Else1) where
   plain : c .before .args .v ≡ pos (ofZ w64 (c .before .args .v))
-  plain = complement-up (c .before .args .v) (rw (toZ-ofZ {w = w64} (c .before .fits .v)) at (c .if1 .left))
+  plain = as-word (c .before .args .v) (rw (toZ-ofZ {w = w64} (c .before .fits .v)) at (c .if1 .left))
 
 add-below : tie.Need-add-below
 add-below c = rw (toZ-ofZ {w = w64} (fits c)) (up c)

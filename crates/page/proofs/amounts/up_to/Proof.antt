@@ -22,16 +22,14 @@ cast-t7 c = search needs
 
 returns-2 : tie.Need-returns-2
 returns-2 c =
-    let at-is-number = c .before .before .before in
-    let start = at-is-number .before .before in
-    small-enough (start .args .most) (start .args .word .now) (sym (at-is-number .is-number .ensures) ∙ not-false _ (c .before .before .if1 .left))
+    let start = c .before .before .before .before .before in
+    small-enough (start .args .most) (start .args .word .now) (sym (c .before .before .before .is-number .ensures) ∙ not-false _ (c .before .before .if1 .left))
     (c .before .spelled .ensures) (c .if2 .taken)
 
 returns-3 : tie.Need-returns-3
 returns-3 c =
-    let at-is-number = c .before .before .before in
-    let start = at-is-number .before .before in
-    too-large (start .args .most) (start .args .word .now) (sym (at-is-number .is-number .ensures) ∙ not-false _ (c .before .before .if1 .left))
+    let start = c .before .before .before .before .before in
+    too-large (start .args .most) (start .args .word .now) (sym (c .before .before .before .is-number .ensures) ∙ not-false _ (c .before .before .if1 .left))
     (c .before .spelled .ensures) (c .if2 .left)
 
 pub up-to-spec : {M : Type 1} → statement M

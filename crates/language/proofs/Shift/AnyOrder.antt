@@ -1,0 +1,189 @@
+-- Reports may be combined in whichever order, two by two as they come: a report of no lines changes nothing, and neither
+-- does it matter which two are combined first, nor, where nothing but 46 was told, which of two is the first (R14.6).
+use lib.Dec.{eqb}
+use lib.IntN.{ℤ, pos, negsuc, +ℤ-comm}
+use lib.ListN.{length, length-append}
+use lib.Signed.{ltZ}
+use mathlib.Core.Bool.{Bool, true, false, cond}
+use mathlib.Core.List.{List, [], _∷_, _++_, append-assoc}
+use mathlib.Core.Logic.{_⊎_, inl, inr}
+use mathlib.Core.Option.{none, some}
+use mathlib.Core.Path.{_≡_, refl, sym, ap, subst, _∙_}
+use borrow.Author.Tests.{ltb-true, ltb-false, eqb-true}
+use native.Mathlib.Nat.{add-comm}
+use native.Mathlib.Omega.{arith}
+use Prim.Native.Nat.{ℕ, _+_, _≤_, _<_}
+use Rattle.language.specs.Sizes.{LINES}
+use Rattle.language.specs.Shift.{Outcome, tally, is-bad, is-stop, pays, total, lesser, greater, chosen, Report, report-of}
+use Rattle.language.specs.Shift.{ShiftRefusal, sheet, no-book, many-lines}
+use Rattle.language.specs.Combining.{paid-lines, either-pay, both, Ending, no-report, without-sums, together, combined}
+use Rattle.language.proofs.Text.Choices.{either, clash}
+use Rattle.language.proofs.Shift.Totals.{AllInRange, all-none, all-more}
+use Rattle.language.proofs.Shift.Joins.{pays-join, paid-counted, report-join, report-none}
+use Rattle.language.proofs.Shift.Combining.{Few, add-few, add-many}
+
+abbrev told : List Outcome → Ending
+told os = record { told = none; report = report-of os }
+
+-- what may be told: the report of some outcomes, or a refusal
+pub data Real : Ending → Type 0 where
+  of-lines : {os : List Outcome} → Few os → Real (told os)
+  refused : (w : ShiftRefusal) {r : Report} → Real record { told = some w; report = r }
+
+-- ---- which two come first
+
+append-range : {zs ys : List ℤ} → AllInRange zs → AllInRange ys → AllInRange (zs ++ ys)
+append-range all-none k = k
+append-range (all-more r rs) k = all-more r (append-range rs k)
+
+join-few : {os ps : List Outcome} → Few os → Few ps → length os + length ps ≤ LINES → Few (os ++ ps)
+join-few {os} {ps} h k n = record {
+  few = omega (arith, length-append os ps);
+  ints = subst AllInRange (sym (pays-join os ps)) (append-range (h .ints) (k .ints));
+}
+
+module _ {os ps qs : List Outcome} (h : Few os) (k : Few ps) (m : Few qs) where
+  left-long : length (os ++ ps) ≡ length os + length ps
+  left-long = length-append os ps
+
+  right-long : length (ps ++ qs) ≡ length ps + length qs
+  right-long = length-append ps qs
+
+  fit : length os + length ps ≤ LINES → length ps + length qs ≤ LINES
+      → (LINES < length os + length ps + length qs) ⊎ (length os + length ps + length qs ≤ LINES)
+      → combined (combined (told os) (told ps)) (told qs) ≡ combined (told os) (combined (told ps) (told qs))
+  fit n o (inl t) =
+      let l = add-many (join-few h k n) m (omega (arith, left-long)) in
+      let r = add-many h (join-few k m o) (omega (arith, right-long)) in
+      rw (add-few h k n, add-few k m o) (l ∙ sym r)
+  fit n o (inr t) =
+      let l = add-few (join-few h k n) m (omega (arith, left-long)) in
+      let r = add-few h (join-few k m o) (omega (arith, right-long)) in
+      let e = ap told (append-assoc os ps qs) in
+      rw (add-few h k n, add-few k m o) (l ∙ e ∙ sym r)
+
+  lines-assoc : (LINES < length os + length ps) ⊎ (length os + length ps ≤ LINES) → (LINES < length ps + length qs) ⊎ (length ps + length qs ≤ LINES)
+      → combined (combined (told os) (told ps)) (told qs) ≡ combined (told os) (combined (told ps) (told qs))
+  lines-assoc (inr n) (inr o) = fit n o (either LINES (length os + length ps + length qs))
+  lines-assoc (inr n) (inl o) = rw (add-few h k n, add-many k m o) (add-many (join-few h k n) m (omega (arith, left-long)))
+  lines-assoc (inl n) (inr o) = rw (add-many h k n, add-few k m o) (sym (add-many h (join-few k m o) (omega (arith, right-long))))
+  lines-assoc (inl n) (inl o) = rw (add-many h k n, add-many k m o)
+
+module _ {os ps : List Outcome} (h : Few os) (k : Few ps) where
+  by-few : (P : Ending → Type 0) → P (told (os ++ ps)) → P (without-sums many-lines)
+      → P (together (report-of os) (report-of ps))
+  by-few P a b = go (either LINES (length os + length ps))
+    where
+      go : (LINES < length os + length ps) ⊎ (length os + length ps ≤ LINES) → P (together (report-of os) (report-of ps))
+      go (inl n) = subst P (sym (add-many h k n)) b
+      go (inr n) = subst P (sym (add-few h k n)) a
+
+pub combined-assoc : {x y z : Ending} → Real x → Real y → Real z → combined (combined x y) z ≡ combined x (combined y z)
+combined-assoc (of-lines {os} h) (of-lines {os = ps} k) (of-lines {os = qs} m) =
+    lines-assoc h k m (either LINES (length os + length ps)) (either LINES (length ps + length qs))
+combined-assoc (of-lines h) (of-lines k) (refused u {r}) =
+    by-few h k (λ (x : Ending). combined x (record { told = some u; report = r }) ≡ without-sums u) refl refl
+combined-assoc (of-lines h) (refused (sheet v)) z = refl
+combined-assoc (of-lines h) (refused no-book) z = refl
+combined-assoc (of-lines h) (refused many-lines) (of-lines m) = refl
+combined-assoc (of-lines h) (refused many-lines) (refused u) = refl
+combined-assoc (refused (sheet w)) y z = refl
+combined-assoc (refused no-book) y z = refl
+combined-assoc (refused many-lines) (refused (sheet v)) z = refl
+combined-assoc (refused many-lines) (refused no-book) z = refl
+combined-assoc (refused many-lines) (refused many-lines) (of-lines m) = refl
+combined-assoc (refused many-lines) (refused many-lines) (refused u) = refl
+combined-assoc (refused many-lines {r}) (of-lines k) (of-lines m) =
+    by-few k m (λ (x : Ending). without-sums many-lines ≡ combined (record { told = some many-lines; report = r }) x) refl refl
+combined-assoc (refused many-lines) (of-lines k) (refused u) = refl
+
+-- ---- no lines
+
+none-few : Few []
+unfolding pays
+none-few = record { few = omega arith; ints = all-none }
+
+pub combined-with-none : {os : List Outcome} → Few os
+    → combined (record { told = none; report = no-report }) (told os) ≡ told os
+combined-with-none {os} h =
+    subst (λ (r : Report). together r (report-of os) ≡ told os) report-none
+    (add-few none-few h (omega (arith, h .few)))
+
+-- ---- which is the first
+
+less-not : (y z : ℤ) → ltZ y z ≡ true → ltZ z y ≡ true → ⊥
+less-not (pos y) (pos z) e f = omega (arith, ltb-true y z e, ltb-true z y f)
+less-not (pos y) (negsuc z) e f = clash e refl
+less-not (negsuc y) (pos z) e f = clash f refl
+less-not (negsuc y) (negsuc z) e f = omega (arith, ltb-true z y e, ltb-true y z f)
+
+less-neither : (y z : ℤ) → ltZ y z ≡ false → ltZ z y ≡ false → z ≡ y
+less-neither (pos y) (pos z) e f = let q : z ≡ y = omega (arith, ltb-false y z e, ltb-false z y f) in ap pos q
+less-neither (pos y) (negsuc z) e f = absurd (clash refl f)
+less-neither (negsuc y) (pos z) e f = absurd (clash refl e)
+less-neither (negsuc y) (negsuc z) e f = let q : z ≡ y = omega (arith, ltb-false z y e, ltb-false y z f) in ap negsuc q
+
+lesser-comm : (y z : ℤ) → lesser y z ≡ lesser z y
+lesser-comm y z = go (ltZ y z) (ltZ z y) refl refl
+  where
+    go : (a b : Bool) → ltZ y z ≡ a → ltZ z y ≡ b → cond (ltZ z y) z y ≡ cond (ltZ y z) y z
+    go true true e f = absurd (less-not y z e f)
+    go true false e f = rw (e, f)
+    go false true e f = rw (e, f)
+    go false false e f = rw (e, f) (sym (less-neither y z e f))
+
+greater-comm : (y z : ℤ) → greater y z ≡ greater z y
+greater-comm y z = go (ltZ y z) (ltZ z y) refl refl
+  where
+    go : (a b : Bool) → ltZ y z ≡ a → ltZ z y ≡ b → cond (ltZ y z) z y ≡ cond (ltZ z y) y z
+    go true true e f = absurd (less-not y z e f)
+    go true false e f = rw (e, f)
+    go false true e f = rw (e, f)
+    go false false e f = rw (e, f) (sym (less-neither y z e f))
+
+-- of nobody's there is nothing to compare; of two such, which are told as 0, neither
+either-comm : (f : ℤ → ℤ → ℤ) → ((y z : ℤ) → f y z ≡ f z y) → (n m : ℕ) (y z : ℤ) → (n ≡ 0 → m ≡ 0 → y ≡ z) → either-pay f n y m z ≡ either-pay f m z n y
+unfolding either-pay
+either-comm f c n m y z h = go (eqb n 0) (eqb m 0) refl refl
+  where
+    go : (a b : Bool) → eqb n 0 ≡ a → eqb m 0 ≡ b → cond (eqb n 0) z (cond (eqb m 0) y (f y z)) ≡ cond (eqb m 0) y (cond (eqb n 0) z (f z y))
+    go true true e d = rw (e, d) (sym (h (eqb-true n 0 e) (eqb-true m 0 d)))
+    go true false e d = rw (e, d)
+    go false true e d = rw (e, d)
+    go false false e d = rw (e, d) (c y z)
+
+chosen-none : (f : ℤ → ℤ → ℤ) → chosen f [] ≡ pos 0
+unfolding chosen
+chosen-none f = refl
+
+unpaid : (f : ℤ → ℤ → ℤ) (os : List Outcome) → paid-lines (report-of os) ≡ 0 → chosen f (pays os) ≡ pos 0
+unpaid f os e = go (pays os) (sym (paid-counted os) ∙ e)
+  where
+    go : (zs : List ℤ) → length zs ≡ 0 → chosen f zs ≡ pos 0
+    go [] h = chosen-none f
+    go (z ∷ zs) h = absurd (omega arith)
+
+pub both-comm : (os ps : List Outcome) → both (report-of os) (report-of ps) ≡ both (report-of ps) (report-of os)
+unfolding both report-of
+both-comm os ps =
+    let n = paid-lines (report-of os) in
+    let m = paid-lines (report-of ps) in
+    let l = either-comm lesser lesser-comm n m _ _ (λ e d. unpaid lesser os e ∙ sym (unpaid lesser ps d)) in
+    let g = either-comm greater greater-comm n m _ _ (λ e d. unpaid greater os e ∙ sym (unpaid greater ps d)) in
+    λ i. record {
+      lines = add-comm (length os) (length ps) i;
+      bad = add-comm (tally is-bad os) (tally is-bad ps) i;
+      stops = λ s. add-comm (tally (is-stop s) os) (tally (is-stop s) ps) i;
+      sum = +ℤ-comm (total (pays os)) (total (pays ps)) i;
+      least = l i;
+      largest = g i;
+    }
+
+pub combined-comm : {os ps : List Outcome} → Few os → Few ps → combined (told os) (told ps) ≡ combined (told ps) (told os)
+combined-comm {os} {ps} h k = go (either LINES (length os + length ps))
+  where
+    go : (LINES < length os + length ps) ⊎ (length os + length ps ≤ LINES) → combined (told os) (told ps) ≡ combined (told ps) (told os)
+    go (inl n) = add-many h k n ∙ sym (add-many k h (omega arith))
+    go (inr n) =
+        let e = report-join os ps ∙ both-comm os ps ∙ sym (report-join ps os) in
+        add-few h k n ∙ ap (λ (r : Report). record { told = none; report = r }) e ∙ sym (add-few k h (omega arith))

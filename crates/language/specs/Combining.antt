@@ -1,0 +1,99 @@
+-- Reports that add up (R14.6, R14.8): what is told of an input from what is told of its two parts, where the first of
+-- them ends at a line's end. So several boxes can share the lines of a shift. The reports know nothing of the lines.
+use mathlib.Core.Bool.{Bool, cond, _&&_}
+use mathlib.Core.List.{List, [], _∷_, _++_}
+use mathlib.Core.Option.{Option, none, some}
+use Prim.Native.Char.{code}
+use Prim.Native.Nat.{ℕ, _+_, _-_, _*_, _^_}
+use lib.Dec.{eqb, leb}
+use lib.IntN.{ℤ, pos, _+ℤ_}
+use lib.Signed.{mag}
+use Rattle.language.specs.Sizes.{LARGEST, LINES}
+use Rattle.language.specs.State.{Stop, no-unit, too-deep, out-of-range, zero-divisor, cell-freed, cells-full}
+use Rattle.language.specs.State.{not-a-byte, output-full, zero-step}
+use Rattle.language.specs.Shift.{lesser, greater, Report, ShiftRefusal, sheet, no-book, many-lines}
+
+-- ---- a report by itself
+
+-- lines that stopped, whatever with
+unfoldable pub all-stops : (Stop → ℕ) → ℕ
+all-stops n =
+    n no-unit
+    + (n too-deep
+    + (n out-of-range
+    + (n zero-divisor + (n cell-freed + (n cells-full + (n not-a-byte + (n output-full + n zero-step)))))))
+
+-- lines that were paid; least and largest say nothing where there is none
+abbrev pub paid-lines : Report → ℕ
+paid-lines r = r .lines - (r .bad + all-stops (r .stops))
+
+-- Whether the counts and sums can be those of a shift: not too many lines, no more bad and stopped ones than there are,
+-- and pays that are ints. The lowest int is one further from zero than the largest, as `mag` counts.
+unfoldable pub possible : Report → Bool
+possible r =
+    leb (r .lines) LINES
+    && (leb (r .bad + all-stops (r .stops)) (r .lines)
+    && (leb (mag (r .sum)) (paid-lines r * 2 ^ 31) && (leb (mag (r .least)) LARGEST && leb (mag (r .largest)) LARGEST)))
+
+-- ---- two of them
+
+-- the better of two; where nobody was paid in the one, it is that of the other
+unfoldable pub either-pay : (ℤ → ℤ → ℤ) → ℕ → ℤ → ℕ → ℤ → ℤ
+either-pay f n y m z = cond (eqb n 0) z (cond (eqb m 0) y (f y z))
+
+unfoldable pub both : Report → Report → Report
+both r q = record {
+  lines = r .lines + q .lines;
+  bad = r .bad + q .bad;
+  stops = λ s. r .stops s + q .stops s;
+  sum = r .sum +ℤ q .sum;
+  least = either-pay lesser (paid-lines r) (r .least) (paid-lines q) (q .least);
+  largest = either-pay greater (paid-lines r) (r .largest) (paid-lines q) (q .largest);
+}
+
+-- they are reports of as many lines together as a shift may have
+unfoldable pub addable : Report → Report → Bool
+addable r q = possible r && (possible q && leb (r .lines + q .lines) LINES)
+
+-- ---- what is told
+
+-- what is told of a shift in the end: whether it was refused, and the report
+pub record Ending : Type 0 where
+  pub told : Option ShiftRefusal
+  pub report : Report
+
+abbrev pub no-report : Report
+no-report = record { lines = 0; bad = 0; stops = λ s. 0; sum = pos 0; least = pos 0; largest = pos 0 }
+
+-- A refusal has no sums here, 46 neither: which lines are the first that a shift may have, and what those came to, is
+-- not in the reports of two parts.
+abbrev pub without-sums : ShiftRefusal → Ending
+without-sums w = record { told = some w; report = no-report }
+
+unfoldable pub together : Report → Report → Ending
+together r q = cond (addable r q) (record { told = none; report = both r q }) (without-sums many-lines)
+
+-- of two refusals the first; but 46 only where there is no other, so that it does not matter which two come first
+abbrev pub refused-by : ShiftRefusal → Option ShiftRefusal → Ending
+refused-by many-lines (some w) = without-sums w
+refused-by many-lines none = without-sums many-lines
+refused-by (sheet r) t = without-sums (sheet r)
+refused-by no-book t = without-sums no-book
+
+abbrev pub told-both : Option ShiftRefusal → Option ShiftRefusal → Report → Report → Ending
+told-both none none r q = together r q
+told-both none (some w) r q = without-sums w
+told-both (some w) t r q = refused-by w t
+
+abbrev pub combined : Ending → Ending → Ending
+combined x y = told-both (x .told) (y .told) (x .report) (y .report)
+
+-- what is told of a shift, its sums only where it is not refused
+abbrev pub shown : Option ShiftRefusal → Report → Ending
+shown none r = record { told = none; report = r }
+shown (some w) r = without-sums w
+
+-- an input may be cut behind a line's LF, or in front of everything
+pub data AtLineEnd : List ℕ → Type 0 where
+  at-front : AtLineEnd []
+  behind-feed : (bytes : List ℕ) → AtLineEnd (bytes ++ (code "\n" ∷ []))
