@@ -13,7 +13,9 @@ read-counts-requires : tie.Need-read-counts-requires
 read-counts-requires c κs = search needs
 
 returns : tie.Need-returns
-returns c = let start = c .before .before .before .before in finished-read (start .args .words .now) (c .before .read-ending .ensures) (c .read-counts .ensures)
+returns c =
+    let start = c .before .before .before .before in
+    finished-read (start .args .words .now) (c .before .read-ending .ensures) (c .read-counts .ensures)
 
 pub read-finished-spec : {M : Type 1} → statement M
 read-finished-spec =
