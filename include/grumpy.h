@@ -1,7 +1,7 @@
 /* The box: reads, checks, runs, rewrites and stores a rate sheet written in Grumpy, tells how much it can use, and
  * pays a shift by one.
  *
- * Twelve functions. They keep nothing between calls, ask for no memory of their own but the stack, of which
+ * Thirteen functions. They keep nothing between calls, ask for no memory of their own but the stack, of which
  * GRUMPY_STACK bytes are enough, and call nothing from outside but memset. They may be called from several
  * threads at once, each with memory of its own.
  *

@@ -12,16 +12,18 @@ both-requires c κs = sym (c .before .addable .ensures) ∙ c .if1 .taken
 
 returns : tie.Need-returns
 returns c =
-    let start = c .before .before .before in
-    added (start .args .a) (start .args .b) (c .before .before .addable .ensures) (c .before .if1 .taken) (c .both .ensures)
+    let at-addable = c .before .before in
+    let start = at-addable .before in
+    added (start .args .a) (start .args .b) (at-addable .addable .ensures) (c .before .if1 .taken) (c .both .ensures)
 
 overfull-requires : tie.Need-overfull-requires
 overfull-requires c κs = search needs
 
 returns-2 : tie.Need-returns-2
 returns-2 c =
-    let start = c .before .before .before in
-    not-added (start .args .a) (start .args .b) (c .before .before .addable .ensures) (c .before .if1 .left) (c .overfull .ensures)
+    let at-addable = c .before .before in
+    let start = at-addable .before in
+    not-added (start .args .a) (start .args .b) (at-addable .addable .ensures) (c .before .if1 .left) (c .overfull .ensures)
 
 pub together-spec : {M : Type 1} → statement M
 together-spec =
