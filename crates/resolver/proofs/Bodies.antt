@@ -85,7 +85,7 @@ module _ {w : List ℕ} {ts : List Token} {f a b : ℕ} {d : Def} {ds : List Def
   row-is : function-row t k ≡ function-row w k
   row-is = function-alike (s .scene .alike) k few
 
-  cut : (m : ℕ) × ((n : ℕ) × (a ≤ m) × (length (d .params) ≤ m) × Spans m (d .body) n × SpansDefs n ds e b)
+  pub cut : (m : ℕ) × ((n : ℕ) × (a ≤ m) × (length (d .params) ≤ m) × Spans m (d .body) n × SpansDefs n ds e b)
   unfolding SpansDefs
   cut = s .spans
 
