@@ -1,5 +1,5 @@
--- What is noted of tokens before a run, in the words where the checker's variables lay: the names of the slots in sight
--- while names are resolved, then a word for each token.
+-- What is noted of tokens before a run, in the words where the checker's variables lay: the names of the slots in
+-- sight while names are resolved, then a word for each token.
 use mathlib.Core.List.{List, [], _∷_}
 use Prim.Native.Nat.{ℕ, zero, suc, _+_, _*_}
 use lib.ListN.{getD, set}

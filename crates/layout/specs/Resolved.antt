@@ -1,6 +1,6 @@
--- Names and calls resolved before a run: of the own token of each name the slot of its frame that it means is noted, and of
--- that of each call the row of the function that it calls. A frame's slots are a list, the newest first: of each the
--- number of the name that is bound there, or HELD where an operand, an argument, an end or a step waits.
+-- Names and calls resolved before a run: of the own token of each name the slot of its frame that it means is noted,
+-- and of that of each call the row of the function that it calls. A frame's slots are a list, the newest first: of each
+-- the number of the name that is bound there, or HELD where an operand, an argument, an end or a step waits.
 use mathlib.Core.Bool.{cond}
 use mathlib.Core.List.{List, [], _∷_}
 use mathlib.Core.Option.{Option, none, some}
@@ -37,8 +37,8 @@ parameters-in w row (suc n) = token-value w (row-word w (row + 1 + n) OWN) ∷ p
 abbrev pub counting : ℕ → List ℕ → List ℕ
 counting x L = HELD ∷ HELD ∷ x ∷ L
 
--- What t notes of a tree that begins where its frame has the slots L. The table w has the tokens and the functions, the
--- first `defs` of which can be called.
+-- What t notes of a tree that begins where its frame has the slots L. The table w has the tokens and the functions,
+-- the first `defs` of which can be called.
 module _ (w t : List ℕ) (defs : ℕ) where
   unfoldable mutual
     pub Placed : List ℕ → Exp → Type 0
