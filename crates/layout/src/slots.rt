@@ -43,9 +43,10 @@ pub fn put(work: &mut [u32], base: usize, i: usize, key: u32, v: Value)
     ensures { λ _. ⌜ (now (work .exit) ≡ put-slot (now (work .entry)) base i key v) × Survives v ⌝ }
 {
     let at = base + 3 * i;
-    let tag = values::tag(v);
-    let low = values::low(v);
-    let high = values::high(v);
+    let words = values::words(v);
+    let tag = words.tag;
+    let low = words.low;
+    let high = words.high;
     let head = pack(key, tag);
     work[at] = head;
     work[at + 1] = low;

@@ -27,7 +27,7 @@ use Rattle.runner.specs.Trees.{at-block, at-call, at-bind, at-branch, at
 use Rattle.runner.specs.Waiting.{Run, Then, Binds, Stack}
 use Rattle.runner.specs.Standing.{Fair, Begins, Starts, Gives, Good, charged, over}
 use Rattle.runner.specs.declared.state.Spot.{Spot}
-use Rattle.runner.specs.declared.state.Ending.{Ending}
+use Rattle.runner.specs.Standing.{Ending}
 use Rattle.layout.proofs.Shapes.{unary-high, binary-between}
 use Rattle.runner.proofs.RowKinds.{literal-range, range-between, range-waits, unary-waits, binary-waits, semi-waits}
 use Rattle.runner.proofs.RowKinds.{group-waits, block-waits, call-waits, let-waits, if-waits, while-waits, clash, clash-waits}
@@ -145,7 +145,7 @@ starts {q} {w = w} {o = o} {s = s} (suc d) e L env κ scene fair deep high at si
 
 module _ {q : Run} {t w o : List ℕ} {node : ℕ} {p : Spot} {s : Tally} (b : Begins q t w o node p s) where
   pub begin-none : s .units ≡ 0 → (place : ℕ) → place ≡ row-word t node OWN → (v : Value)
-      → Good q t w o (over (Ending.Stop Stop.NoUnit place) v p s)
+      → Good q t w o (over (Ending.stopped Stop.NoUnit place) v p s)
   unfolding then
   begin-none z place e v = record {
     fair = fair-low 0 (omega arith) (b .fair);
@@ -154,7 +154,7 @@ module _ {q : Run} {t w o : List ℕ} {node : ℕ} {p : Spot} {s : Tally} (b : B
   }
 
   pub begin-deep : (s .units ≡ 0 → ⊥) → p .height ≡ ACTIVE + 1 → (place : ℕ) → place ≡ row-word t node OWN → (v : Value)
-      → Good q t w o (over (Ending.Stop Stop.TooDeep place) v p (charged s))
+      → Good q t w o (over (Ending.stopped Stop.TooDeep place) v p (charged s))
   unfolding then
   begin-deep n l place e v = record {
     fair = fair-low 0 (omega arith) (fair-charged n (b .fair));

@@ -26,7 +26,7 @@ use Rattle.runner.specs.Phases.{LAST, UNARY, LEFT, RIGHT, BEFORE, INSIDE
 use Rattle.runner.specs.Waiting.{Run, Then, binds-name, which, tested, WaitsBefore, WaitsBound, WaitsCondition, WaitsTest, WaitsPass, WaitsWhole, Waits}
 use Rattle.runner.specs.Standing.{Begins, Gives, Resumes, Ends}
 use Rattle.runner.specs.declared.state.Spot.{Spot}
-use Rattle.runner.specs.declared.state.Ending.{Ending}
+use Rattle.runner.specs.Standing.{Ending}
 use Rattle.runner.proofs.Stacks.{then-then}
 use Rattle.runner.proofs.Entering.{fair-low, spot}
 use Rattle.runner.proofs.Finding.{name-small}
@@ -210,5 +210,5 @@ module _ {q : Run} {t w o : List ℕ} {v : Value} {row phase : ℕ} {p : Spot} {
           ne-eqb phase COUNTED (c .counted),
         ) at (r .waits)
 
-    pub resume-whole : Ends q t w o Ending.«Value» v s
+    pub resume-whole : Ends q t w o Ending.complete v s
     resume-whole = record { fair = fair-low 0 (omega arith) (r .fair); tells = sym (whole .goes (meant v) σ) ∙ r .means }

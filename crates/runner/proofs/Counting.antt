@@ -34,7 +34,7 @@ use Rattle.runner.specs.Waiting.{Run, Then, bounded, ForAt, ForDoes, Doe
 use Rattle.runner.specs.Standing.{Begins, Starts, Resumes, Good, over}
 use Rattle.runner.specs.Loops.{Counting}
 use Rattle.runner.specs.declared.state.Spot.{Spot}
-use Rattle.runner.specs.declared.state.Ending.{Ending}
+use Rattle.runner.specs.Standing.{Ending}
 use Rattle.runner.proofs.RowKinds.{literal-range}
 use Rattle.runner.proofs.Entering.{fair-low, spot}
 use Rattle.runner.proofs.Arguments.{for-does, none-left, first-inside, first-begins-at}
@@ -229,7 +229,7 @@ module _ {q : Run} {t w o : List ℕ} {v : Value} {row : ℕ} {p : Spot} {s : Ta
 
 module _ {q : Run} {t w o : List ℕ} {node : ℕ} {z to by : Value} {p : Spot} {s : Tally} (c : Counting q t w o true node z to by p s) where
   pub open-zero : is-zero (c .step) ≡ true → (place : ℕ) → place ≡ row-word t node OWN → (v : Value)
-      → Good q t w o (over (Ending.Stop Stop.ZeroStep place) v p s)
+      → Good q t w o (over (Ending.stopped Stop.ZeroStep place) v p s)
   unfolding choose then
   open-zero h place e v = record {
     fair = fair-low 0 (omega arith) (c .frame .fair);

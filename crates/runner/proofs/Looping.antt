@@ -27,7 +27,7 @@ use Rattle.runner.specs.Waiting.{Run}
 use Rattle.runner.specs.Standing.{Resumes, above, begun, given, over, Some, Goes, LastOf}
 use Rattle.runner.specs.Loops.{Counting, BodyBegins}
 use Rattle.runner.specs.declared.state.Spot.{Spot}
-use Rattle.runner.specs.declared.state.Ending.{Ending}
+use Rattle.runner.specs.Standing.{Ending}
 use Rattle.runner.specs.declared.state.Next.{Next}
 use Rattle.runner.proofs.Passing.{waiting}
 use Rattle.runner.proofs.Counting.{bounded-two, bounded-three, open-zero, open-turns}
@@ -68,7 +68,7 @@ module _ {t w : List ℕ} {node : ℕ} {z to by : Value} {p : Spot} {s : Tally} 
     zero-is c = h .is (c .step) (ap as-int (c .step-is))
 
     pub opens-zero : b ≡ true → {place : ℕ} → place ≡ row-word t node OWN → (v : Value) {r : Next}
-        → r ≡ over (Ending.Stop Stop.ZeroStep place) v p s → Goes (Counted true t w node z to by p s) t w (3 * s .units + p .height + 3) r
+        → r ≡ over (Ending.stopped Stop.ZeroStep place) v p s → Goes (Counted true t w node z to by p s) t w (3 * s .units + p .height + 3) r
     opens-zero e {place} f v g = goes-to refl g (λ q o c. open-zero c (sym (zero-is c) ∙ e) place f v) (omega arith)
 
     pub opens-turns : b ≡ false → (q : Run) (o : List ℕ) → Counted true t w node z to by p s q o → Counted false t w node z to by p s q o

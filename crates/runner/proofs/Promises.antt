@@ -20,7 +20,7 @@ use Rattle.machine.specs.declared.state.Tally.{Tally}
 use Rattle.runner.specs.Waiting.{Run}
 use Rattle.runner.specs.Standing.{Begins, Starts, Gives, Resumes, Good, charged, given, over}
 use Rattle.runner.specs.Standing.{onward, weight, Some, Goes, Of, Any, Prints, Printing, Creating}
-use Rattle.runner.specs.declared.state.Ending.{Ending}
+use Rattle.runner.specs.Standing.{Ending}
 use Rattle.runner.specs.declared.state.Spot.{Spot}
 use Rattle.runner.specs.declared.state.Next.{Next}
 use Rattle.runner.proofs.Beginning.{inside-at, slack-one}
@@ -135,12 +135,12 @@ module _ {i : ℕ} {v : Value} {o o1 : List ℕ} {p : Spot} {s : Tally} {r : Out
     is = g ∙ ap (λ (z : Tally). given y p z) f ∙ ap (λ (z : Outcome). onward z i v p (after-byte z s)) (sym e);
   }
 
-  pub printing-halts : {y : Stop} → r ≡ Outcome.Halts y → {place : ℕ} → place ≡ i → {n : Next} → n ≡ over (Ending.Stop y place) v p s
+  pub printing-halts : {y : Stop} → r ≡ Outcome.Halts y → {place : ℕ} → place ≡ i → {n : Next} → n ≡ over (Ending.stopped y place) v p s
       → Printing i v o o1 p s n
   printing-halts {y} e f g = record {
     outcome = r;
     printed = x;
-    is = g ∙ ap (λ (z : ℕ). over (Ending.Stop y z) v p s) f ∙ ap (λ (z : Outcome). onward z i v p (after-byte z s)) (sym e);
+    is = g ∙ ap (λ (z : ℕ). over (Ending.stopped y z) v p s) f ∙ ap (λ (z : Outcome). onward z i v p (after-byte z s)) (sym e);
   }
 
 module _ {i : ℕ} {v : Value} {w w1 : List ℕ} {p : Spot} {s : Tally} {r : Outcome} (x : Created (meant v) w w1 s r) where
@@ -151,7 +151,7 @@ module _ {i : ℕ} {v : Value} {w w1 : List ℕ} {p : Spot} {s : Tally} {r : Out
     is = g ∙ ap (λ (z : Tally). given y p z) f ∙ ap (λ (z : Outcome). onward z i v p (after-birth z s)) (sym e);
   }
 
-  pub creating-halts : {y : Stop} → r ≡ Outcome.Halts y → {n : Next} → n ≡ over (Ending.Stop y i) v p s → Creating i v w w1 p s n
+  pub creating-halts : {y : Stop} → r ≡ Outcome.Halts y → {n : Next} → n ≡ over (Ending.stopped y i) v p s → Creating i v w w1 p s n
   creating-halts {y} e g = record {
     outcome = r;
     created = x;

@@ -25,7 +25,7 @@ use Rattle.runner.specs.Phases.{LAST, UNARY, LEFT, RIGHT, BEFORE, INSIDE
 use Rattle.runner.specs.Waiting.{Run}
 use Rattle.runner.specs.Standing.{Gives, Resumes, Good, above, begun, given, over, onward, weight, Some, Goes, Any, OfAll, Creating}
 use Rattle.runner.specs.declared.state.Spot.{Spot}
-use Rattle.runner.specs.declared.state.Ending.{Ending}
+use Rattle.runner.specs.Standing.{Ending}
 use Rattle.runner.specs.declared.state.Next.{Next}
 use Rattle.runner.proofs.Giving.{give-resumes}
 use Rattle.runner.proofs.Operating.{resume-last, resume-inside, unary-inside, unary-other, resume-unary, resume-create}
@@ -124,7 +124,7 @@ module _ {t w : List ℕ} {v : Value} {row phase : ℕ} {p : Spot} {s : Tally} w
       (λ q o r. resume-bound r e key (b ∙ ap (λ (k : ℕ). token-value t (k + 1)) a) back) (omega arith)
 
   pub resumes-whole : Controls phase → (phase ≡ BOUND → ⊥) → (phase ≡ CONDITION → ⊥) → (phase ≡ TEST → ⊥) → (phase ≡ PASS → ⊥) → {r : Next}
-      → r ≡ over Ending.«Value» v p s → Less t w v row phase p s w r
+      → r ≡ over Ending.complete v p s → Less t w v row phase p s w r
   resumes-whole c a b d e f = goes-to refl f (λ q o r. resume-whole r c a b d e) (omega arith)
 
   -- ---- what they ask

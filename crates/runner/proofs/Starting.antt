@@ -6,10 +6,10 @@ use mathlib.Core.Option.{none, some}
 use Prim.Native.Nat.{ℕ, _+_, _*_, _≤_, _<_}
 use native.Mathlib.Omega.{arith}
 use Rattle.language.specs.Sizes.{TOKENS, NODES, ACTIVE}
-use Rattle.language.specs.Tokens.{NAME}
+use Rattle.language.specs.Tokens.{NAME, NUMBER}
 use Rattle.language.specs.Meaning.{literal-value}
 use Rattle.layout.specs.Table.{KIND, OWN, FIRST, EXPRESSION, ARITY, row-word, token-value}
-use Rattle.layout.specs.Rows.{CALL}
+use Rattle.layout.specs.Rows.{PREFIX, CALL}
 use Rattle.layout.specs.Decode.{counts}
 use Rattle.layout.specs.Slots.{TAGS, SLOTS}
 use Rattle.layout.specs.Frames.{put-frame}
@@ -19,12 +19,13 @@ use Rattle.machine.specs.Slots.{Bound}
 use Rattle.machine.specs.Rows.{literal-of, LiteralRow}
 use Rattle.machine.specs.declared.state.Tally.{Tally}
 use Rattle.numbers.specs.declared.Stop.{Stop}
-use Rattle.runner.specs.Phases.{ARGUMENT, waits, phase-of}
+use Rattle.runner.specs.Phases.{UNARY, LEFT, ARGUMENT, waits, phase-of, operates}
 use Rattle.runner.specs.Waiting.{Run}
 use Rattle.runner.specs.Standing.{Begins, Starts, Good, charged, above, begun, given, over, Some, Goes, Of, Heads, callee, Callable, Enters}
 use Rattle.runner.specs.declared.state.Spot.{Spot}
-use Rattle.runner.specs.declared.state.Ending.{Ending}
+use Rattle.runner.specs.Standing.{Ending}
 use Rattle.runner.specs.declared.state.Next.{Next}
+use Rattle.runner.proofs.RowKinds.{Plain, number-waits, number-named, operator-plain, prefix-plain}
 use Rattle.runner.proofs.Beginning.{begin-none, begin-deep, begin-starts, name-token, start-name, literal-is, start-literal}
 use Rattle.runner.proofs.Waiting.{start-waits}
 use Rattle.runner.proofs.Calling.{call-heads, start-nobody, start-callable, start-fits, start-enters, argument-inside, start-pass}
@@ -42,14 +43,14 @@ module _ {defs : ℕ} {t w : List ℕ} {node : ℕ} {p : Spot} {s : Tally} where
 
   -- no unit is left
   pub begins-none : s .units ≡ 0 → {place : ℕ} → place ≡ row-word t node OWN → (v : Value) {r : Next}
-      → r ≡ over (Ending.Stop Stop.NoUnit place) v p s → Goes (Beginning defs t w node p s) t w (3 * s .units + p .height + 1) r
+      → r ≡ over (Ending.stopped Stop.NoUnit place) v p s → Goes (Beginning defs t w node p s) t w (3 * s .units + p .height + 1) r
   begins-none z {place} e v f = goes-to refl f (λ q o b. begin-none (b .1) z place e v) (omega arith)
 
   -- too many are active
   pub begins-deep : (s .units ≡ 0 → ⊥) → p .height ≡ ACTIVE + 1 → {place : ℕ} → place ≡ row-word t node OWN → (v : Value) {s1 : Tally}
-      → s1 ≡ charged s → {r : Next} → r ≡ over (Ending.Stop Stop.TooDeep place) v p s1 → Goes (Beginning defs t w node p s) t w (3 * s .units + p .height + 1) r
+      → s1 ≡ charged s → {r : Next} → r ≡ over (Ending.stopped Stop.TooDeep place) v p s1 → Goes (Beginning defs t w node p s) t w (3 * s .units + p .height + 1) r
   begins-deep n l {place} e v c f =
-      goes-to refl (f ∙ ap (λ (x : Tally). over (Ending.Stop Stop.TooDeep place) v p x) c) (λ q o b. begin-deep (b .1) n l place e v) (omega arith)
+      goes-to refl (f ∙ ap (λ (x : Tally). over (Ending.stopped Stop.TooDeep place) v p x) c) (λ q o b. begin-deep (b .1) n l place e v) (omega arith)
 
   -- it has begun
   pub begins-starts : (s .units ≡ 0 → ⊥) → (p .height ≡ ACTIVE + 1 → ⊥) → {s1 : Tally} → s1 ≡ charged s → (q : Run) (o : List ℕ)
@@ -71,6 +72,23 @@ module _ {defs : ℕ} {t w : List ℕ} {node : ℕ} {p : Spot} {s : Tally} where
         (λ q o b. start-waits (b .1) (λ z. n (k ∙ z)) (λ z. c (k ∙ z)) (ap counts (sym k) ∙ sym i ∙ j) (ap waits (sym k) ∙ sym e ∙ f))
         (omega arith)
 
+    -- it is an operator, which waits for its first operand
+    starts-operand : {phase : ℕ} → Plain kind phase → {first : ℕ} → first ≡ row-word t node FIRST → (v : Value) {w1 : List ℕ} {r : Next}
+        → w1 ≡ put-frame w (p .height) node phase (p .base) (p .size) (s .cells)
+        → r ≡ begun first v (above (p .base) (p .size) p) s → Goes (Started defs t w node p s) t w1 (3 * s .units + p .height + 3) r
+    starts-operand x h v y z =
+        starts-waits (x .no-name) (x .no-call) (sym (x .no-for)) refl (sym (x .waits-for)) refl (x .phase-is) h v y z
+
+    pub starts-operator : {b : Bool} → b ≡ operates kind → b ≡ true → {first : ℕ} → first ≡ row-word t node FIRST → (v : Value) {w1 : List ℕ}
+        {r : Next} → w1 ≡ put-frame w (p .height) node LEFT (p .base) (p .size) (s .cells)
+        → r ≡ begun first v (above (p .base) (p .size) p) s → Goes (Started defs t w node p s) t w1 (3 * s .units + p .height + 3) r
+    starts-operator e f h v y z = starts-operand (operator-plain kind (sym e ∙ f)) h v y z
+
+    pub starts-prefix : PREFIX ≤ kind → {first : ℕ} → first ≡ row-word t node FIRST → (v : Value) {w1 : List ℕ} {r : Next}
+        → w1 ≡ put-frame w (p .height) node UNARY (p .base) (p .size) (s .cells)
+        → r ≡ begun first v (above (p .base) (p .size) p) s → Goes (Started defs t w node p s) t w1 (3 * s .units + p .height + 3) r
+    starts-prefix l h v y z = starts-operand (prefix-plain kind l) h v y z
+
     -- it is a `for`, whose first bound begins
     module _ {a : Bool} (i : a ≡ counts kind) (j : a ≡ true) {row : ℕ} (e : row ≡ row-word t node FIRST) where
       pub starts-inside : Some (Started defs t w node p s) → row < NODES
@@ -89,6 +107,15 @@ module _ {defs : ℕ} {t w : List ℕ} {node : ℕ} {p : Spot} {s : Tally} where
         → {r : Next} → r ≡ given v p s → Goes (Started defs t w node p s) t w (3 * s .units + p .height + 3) r
     starts-leaf n e f {v} g h =
         goes-to refl h (λ q o b. start-literal (b .1) (λ z. n (k ∙ z)) (ap waits (sym k) ∙ sym e ∙ f) v g) (omega arith)
+
+    -- it is a number
+    module _ (e : kind ≡ NUMBER) where
+      pub starts-number : Some (Started defs t w node p s) → LiteralRow t node
+      starts-number x = starts-literal (number-named kind e) refl (ap waits e ∙ number-waits) x
+
+      pub starts-amount : {v : Value} → meant v ≡ literal-value (literal-of t node) → {r : Next} → r ≡ given v p s
+          → Goes (Started defs t w node p s) t w (3 * s .units + p .height + 3) r
+      starts-amount g h = starts-leaf (number-named kind e) refl (ap waits e ∙ number-waits) g h
 
   -- ---- call
 

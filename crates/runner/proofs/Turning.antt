@@ -4,6 +4,7 @@ use mathlib.Core.Bool.{true}
 use mathlib.Core.List.{List}
 use Prim.Native.Nat.{ℕ, _+_, _*_, _≤_, _<_}
 use native.Mathlib.Omega.{arith}
+use Rattle.numbers.specs.declared.Stop.{Stop}
 use Rattle.runner.specs.Waiting.{Run}
 use Rattle.runner.specs.Standing.{Begins, Gives, GoodBy, Good, weight-by, weight, running-by, Some, Of, Goes, Any, OfAll, Prints, Turns, Steps}
 use Rattle.runner.specs.declared.state.Mode.{Mode}
@@ -17,11 +18,17 @@ give-begin e = let z : _≡_ {A = ℕ} 0 1 = cc in omega arith
 over-begin : Mode.Over ≡ Mode.Begin → ⊥
 over-begin e = let z : _≡_ {A = ℕ} 0 1 = cc in omega arith
 
+halt-begin : {y : Stop} {i : ℕ} → Mode.Halt y i ≡ Mode.Begin → ⊥
+halt-begin e = let z : _≡_ {A = ℕ} 0 1 = cc in omega arith
+
 begin-give : Mode.Begin ≡ Mode.Give → ⊥
 begin-give e = let z : _≡_ {A = ℕ} 0 1 = cc in omega arith
 
 over-give : Mode.Over ≡ Mode.Give → ⊥
 over-give e = let z : _≡_ {A = ℕ} 0 1 = cc in omega arith
+
+halt-give : {y : Stop} {i : ℕ} → Mode.Halt y i ≡ Mode.Give → ⊥
+halt-give e = let z : _≡_ {A = ℕ} 0 1 = cc in omega arith
 
 -- ---- what a mode says
 
@@ -68,11 +75,17 @@ module _ (defs : ℕ) (t w o : List ℕ) (n : Next) where
   pub begun-over : n .mode ≡ Mode.Over → Turns defs t w o w o n n Mode.Begin
   begun-over e = turns-still Mode.Over Mode.Begin e over-begin
 
+  pub begun-halt : {y : Stop} {i : ℕ} → n .mode ≡ Mode.Halt y i → Turns defs t w o w o n n Mode.Begin
+  begun-halt {y} {i} e = turns-still (Mode.Halt y i) Mode.Begin e halt-begin
+
   pub given-begin : n .mode ≡ Mode.Begin → Turns defs t w o w o n n Mode.Give
   given-begin e = turns-still Mode.Begin Mode.Give e begin-give
 
   pub given-over : n .mode ≡ Mode.Over → Turns defs t w o w o n n Mode.Give
   given-over e = turns-still Mode.Over Mode.Give e over-give
+
+  pub given-halt : {y : Stop} {i : ℕ} → n .mode ≡ Mode.Halt y i → Turns defs t w o w o n n Mode.Give
+  given-halt {y} {i} e = turns-still (Mode.Halt y i) Mode.Give e halt-give
 
 -- ---- a turn
 
@@ -86,6 +99,7 @@ module _ {defs : ℕ} {t w o w1 o1 w2 o2 : List ℕ} {n m r : Next} (a : Turns d
   near-given Mode.Begin e = near Mode.Begin Mode.Give e (no begin-give) b
   near-given Mode.Give e = near Mode.Give Mode.Give e (yes refl) b
   near-given Mode.Over e = near Mode.Over Mode.Give e (no over-give) b
+  near-given (Mode.Halt y i) e = near (Mode.Halt y i) Mode.Give e (no halt-give) b
 
   lower : (k : Mode) → n .mode ≡ k → running-by k ≡ true → weight r < weight n
   lower Mode.Begin e f = omega (arith, a .nearer e, near-given (m .mode) refl)
@@ -93,6 +107,7 @@ module _ {defs : ℕ} {t w o w1 o1 w2 o2 : List ℕ} {n m r : Next} (a : Turns d
       let same : m ≡ n = a .still (λ g. give-begin (sym e ∙ g)) in
       omega (arith, b .nearer (ap (λ (x : Next). x .mode) same ∙ e), ap weight same)
   lower Mode.Over e f = absurd (let z : _≡_ {A = ℕ} 0 1 = cc in omega arith)
+  lower (Mode.Halt y i) e f = absurd (let z : _≡_ {A = ℕ} 0 1 = cc in omega arith)
 
   pub turn-steps : Steps defs t w o w2 o2 n r
   turn-steps = record { right = λ q d x. b .right q d (a .right q d x); less = λ e. lower (n .mode) refl e }

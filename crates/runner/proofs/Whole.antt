@@ -28,7 +28,7 @@ use Rattle.machine.specs.declared.state.Tally.{Tally}
 use Rattle.runner.specs.Phases.{WHOLE}
 use Rattle.runner.specs.Trees.{At, slack, Function, Defines, defines-none, defines-more, Scene}
 use Rattle.runner.specs.Waiting.{Run, binds-none, which, Waits, Stack, ground, frame}
-use Rattle.runner.specs.Standing.{Fair, Begins, Ends, Good, GoodBy, begun, running-by, running, Any, OfAll, Ran}
+use Rattle.runner.specs.Standing.{Fair, Begins, Ends, Good, GoodBy, begun, running-by, running, ending-of, Any, OfAll, Ran}
 use Rattle.runner.specs.Contract.{Loaded, reported, EndsAs, RunsTo}
 use Rattle.runner.specs.declared.Done.{Done}
 use Rattle.runner.specs.declared.state.Mode.{Mode}
@@ -232,15 +232,17 @@ module _ (table w o : List ℕ) (P : Held) (allowance : ℕ) where
 
   -- ---- the end
 
-  over-mode : (m : Mode) → running-by m ≡ false → m ≡ Mode.Over
-  over-mode Mode.Begin e = absurd (let z : _≡_ {A = ℕ} 0 1 = cc in omega arith)
-  over-mode Mode.Give e = absurd (let z : _≡_ {A = ℕ} 0 1 = cc in omega arith)
-  over-mode Mode.Over e = refl
+  over-so : (q : Run) (w1 o1 : List ℕ) (n : Next) (m : Mode) → running-by m ≡ false → GoodBy q table w1 o1 m n
+      → Ends q table w1 o1 (ending-of m) (n .value) (n .tally)
+  over-so q w1 o1 n Mode.Begin e g = absurd (let z : _≡_ {A = ℕ} 0 1 = cc in omega arith)
+  over-so q w1 o1 n Mode.Give e g = absurd (let z : _≡_ {A = ℕ} 0 1 = cc in omega arith)
+  over-so q w1 o1 n Mode.Over e g = g
+  over-so q w1 o1 n (Mode.Halt y i) e g = g
 
   ends-of : (ts : List Token) (p : Program) (t : Ty) (h : Holds ts table P p) (typed : HasType p t) (w1 o1 : List ℕ) (n : Next)
-      → running n ≡ false → Loop w1 o1 n → Ends (run-of table w o P allowance ts p t typed) table w1 o1 (n .ending) (n .value) (n .tally)
+      → running n ≡ false → Loop w1 o1 n → Ends (run-of table w o P allowance ts p t typed) table w1 o1 (ending-of (n .mode)) (n .value) (n .tally)
   ends-of ts p t h typed w1 o1 n e x =
-      subst (λ (m : Mode). GoodBy (run-of table w o P allowance ts p t typed) table w1 o1 m n) (over-mode (n .mode) e) (x ts p t h typed)
+      over-so (run-of table w o P allowance ts p t typed) w1 o1 n (n .mode) e (x ts p t h typed)
 
   stands-few : Loaded table w P allowance → (w1 o1 : List ℕ) (n : Next) → running n ≡ false → Loop w1 o1 n
       → n .tally .units ≤ ALLOWANCE + 1

@@ -16,20 +16,20 @@ use Rattle.layout.specs.declared.Held.{Held}
 use Rattle.layout.specs.Values.{meant}
 use Rattle.numbers.specs.Meanings.{stop-meant}
 use Rattle.machine.specs.declared.state.Tally.{Tally}
+use Rattle.runner.specs.Standing.{Ending, ending-of}
 use Rattle.runner.specs.declared.Spent.{Spent}
 use Rattle.runner.specs.declared.Done.{Done}
-use Rattle.runner.specs.declared.state.Ending.{Ending}
 use Rattle.runner.specs.declared.state.Next.{Next}
 
 abbrev pub spent : Tally → Spent
 spent t = record { left = t .units; printed = t .printed }
 
 abbrev pub reported-by : Ending → Next → Done
-reported-by Ending.«Value» n = Done.Value (n .value) (spent (n .tally))
-reported-by (Ending.Stop y i) n = Done.Stop y i (spent (n .tally))
+reported-by Ending.complete n = Done.Value (n .value) (spent (n .tally))
+reported-by (Ending.stopped y i) n = Done.Stop y i (spent (n .tally))
 
 abbrev pub reported : Next → Done
-reported n = reported-by (n .ending) n
+reported n = reported-by (ending-of (n .mode)) n
 
 -- What is asked: the table holds a program that has a type.
 pub record Loaded (table w : List ℕ) (P : Held) (allowance : ℕ) : Type 0 where

@@ -3,7 +3,7 @@ use mathlib.Core.Bool.{Bool, true, false, cond}
 use mathlib.Core.Path.{_≡_}
 use Prim.Native.Nat.{ℕ}
 use lib.Dec.{eqb, leb}
-use Rattle.language.specs.Tokens.{FLOAT-NUMBER, LET, WHILE, IF, PLUS, SEMI, LPAR, LBRACE}
+use Rattle.language.specs.Tokens.{FLOAT-NUMBER, LET, WHILE, IF, PLUS, BECOMES, SEMI, LPAR, LBRACE}
 use Rattle.layout.specs.Rows.{PREFIX}
 
 -- the last part, whose value is the node's
@@ -61,6 +61,10 @@ unfoldable pub phase-of : ℕ → ℕ
 phase-of k =
     cond (eqb k LPAR) LAST (cond (eqb k LBRACE) INSIDE (cond (eqb k SEMI) BEFORE (cond (eqb k LET) BOUND
     (cond (eqb k IF) CONDITION (cond (eqb k WHILE) TEST (cond (leb PREFIX k) UNARY LEFT))))))
+
+-- the kinds of operators between two operands
+unfoldable pub operates : ℕ → Bool
+operates k = cond (leb PLUS k) (leb k BECOMES) false
 
 -- none of the phases of operators, `;`, Blocks, calls and `for`s, nor the last part
 pub record Controls (p : ℕ) : Type 0 where

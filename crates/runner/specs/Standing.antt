@@ -17,6 +17,7 @@ use Rattle.layout.specs.Frames.{frame-mark, put-frame}
 use Rattle.layout.specs.Values.{meant}
 use Rattle.layout.specs.declared.values.Value.{Value}
 use Rattle.numbers.specs.Meanings.{stop-meant}
+use Rattle.numbers.specs.declared.Stop.{Stop}
 use Rattle.machine.specs.Outcomes.{memory, Room, after-birth, Created, after-byte, Printed}
 use Rattle.machine.specs.declared.state.Tally.{Tally}
 use Rattle.machine.specs.declared.state.Outcome.{Outcome}
@@ -25,7 +26,6 @@ use Rattle.runner.specs.Trees.{At, slack, Scene}
 use Rattle.runner.specs.Waiting.{Run, Then, Binds, FrameAt, Later, Waits, Stack}
 use Rattle.runner.specs.declared.state.Spot.{Spot}
 use Rattle.runner.specs.declared.state.Mode.{Mode}
-use Rattle.runner.specs.declared.state.Ending.{Ending}
 use Rattle.runner.specs.declared.state.Next.{Next}
 
 -- the memories and the tally of a run with so many frames: each frame's node has used a unit, which pays for a birth
@@ -38,10 +38,25 @@ pub record Fair (q : Run) (w o : List ℕ) (s : Tally) (h : ℕ) : Type 0 where
   pub wide : length o ≡ length (q .out)
   pub rest : (k : ℕ) → s .printed ≤ k → getD o k 0 ≡ getD (q .out) k 0
 
--- how a run ends
+-- how a run ends: with its value, or by a stop at a token
+pub data Ending : Type 0 where
+  complete : Ending
+  stopped : Stop → ℕ → Ending
+
 abbrev pub ended : Ending → Value → M.State → M.Outcome
-ended Ending.«Value» v σ = value (meant v) σ
-ended (Ending.Stop y i) v σ = stop (stop-meant y) i σ
+ended Ending.complete v σ = value (meant v) σ
+ended (Ending.stopped y i) v σ = stop (stop-meant y) i σ
+
+-- the mode in which it is over so, and how it ends where it is over
+abbrev pub ending-mode : Ending → Mode
+ending-mode Ending.complete = Mode.Over
+ending-mode (Ending.stopped y i) = Mode.Halt y i
+
+abbrev pub ending-of : Mode → Ending
+ending-of Mode.Begin = Ending.complete
+ending-of Mode.Give = Ending.complete
+ending-of Mode.Over = Ending.complete
+ending-of (Mode.Halt y i) = Ending.stopped y i
 
 module _ (q : Run) (t w o : List ℕ) where
   -- a node is to begin
@@ -122,7 +137,8 @@ module _ (q : Run) (t w o : List ℕ) where
   abbrev pub GoodBy : Mode → Next → Type 0
   GoodBy Mode.Begin r = Begins (r .node) (r .spot) (r .tally)
   GoodBy Mode.Give r = Gives (r .value) (r .spot) (r .tally)
-  GoodBy Mode.Over r = Ends (r .ending) (r .value) (r .tally)
+  GoodBy Mode.Over r = Ends Ending.complete (r .value) (r .tally)
+  GoodBy (Mode.Halt y i) r = Ends (Ending.stopped y i) (r .value) (r .tally)
 
   abbrev pub Good : Next → Type 0
   Good r = GoodBy (r .mode) r
@@ -138,17 +154,17 @@ abbrev pub above : ℕ → ℕ → Spot → Spot
 above base size p = record { base = base; size = size; height = p .height + 1 }
 
 abbrev pub begun : ℕ → Value → Spot → Tally → Next
-begun node v p s = record { mode = Mode.Begin; node = node; value = v; spot = p; tally = s; ending = Ending.«Value» }
+begun node v p s = record { mode = Mode.Begin; node = node; value = v; spot = p; tally = s }
 
 abbrev pub given : Value → Spot → Tally → Next
-given v p s = record { mode = Mode.Give; node = 0; value = v; spot = p; tally = s; ending = Ending.«Value» }
+given v p s = record { mode = Mode.Give; node = 0; value = v; spot = p; tally = s }
 
 abbrev pub over : Ending → Value → Spot → Tally → Next
-over e v p s = record { mode = Mode.Over; node = 0; value = v; spot = p; tally = s; ending = e }
+over e v p s = record { mode = ending-mode e; node = 0; value = v; spot = p; tally = s }
 
 abbrev pub onward : Outcome → ℕ → Value → Spot → Tally → Next
 onward (Outcome.Gives x) i v p s = given x p s
-onward (Outcome.Halts y) i v p s = over (Ending.Stop y i) v p s
+onward (Outcome.Halts y) i v p s = over (Ending.stopped y i) v p s
 
 -- ---- what the functions ask and promise
 
@@ -157,6 +173,7 @@ abbrev pub weight-by : Mode → Next → ℕ
 weight-by Mode.Begin r = 3 * r .tally .units + r .spot .height + 1
 weight-by Mode.Give r = 3 * r .tally .units + r .spot .height + 2
 weight-by Mode.Over r = 0
+weight-by (Mode.Halt y i) r = 0
 
 abbrev pub weight : Next → ℕ
 weight r = weight-by (r .mode) r
@@ -165,6 +182,7 @@ abbrev pub running-by : Mode → Bool
 running-by Mode.Begin = true
 running-by Mode.Give = true
 running-by Mode.Over = false
+running-by (Mode.Halt y i) = false
 
 abbrev pub running : Next → Bool
 running r = running-by (r .mode)

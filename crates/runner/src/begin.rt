@@ -6,7 +6,7 @@ ghost use Rattle.language.specs.Sizes.{NODES, WORK};
 ghost use Rattle.language.specs.Tokens.{NAME};
 ghost use Rattle.layout.specs.Table.{KIND, row-word};
 ghost use Rattle.layout.specs.Frames.{FRAMES, SIZES, put-frame};
-ghost use Rattle.runner.specs.Phases.{waits, phase-of};
+ghost use Rattle.runner.specs.Phases.{waits, phase-of, operates};
 ghost use Rattle.runner.specs.Standing.{Begins, Starts, Some, Goes, Of, charged, above, begun};
 use crate::calls;
 use crate::loops;
@@ -111,7 +111,17 @@ fn phase_of(kind: u32) -> u32
     state::LEFT
 }
 
-// A node that has used its unit.
+// Is it an operator between two operands?
+fn operates(kind: u32) -> bool
+    ensures { λ r. ⌜ r ≡ operates kind ⌝ }
+{
+    if kind < kinds::PLUS {
+        return false;
+    }
+    kind <= kinds::BECOMES
+}
+
+// A node that has used its unit. Names, numbers and operators, of which most nodes are, are told first.
 fn start(
     table: &[u32],
     work: &mut [u32],
@@ -129,6 +139,37 @@ fn start(
     if kind == kinds::NAME {
         return look(table, work, node, spot, s);
     }
+    if kind == kinds::NUMBER {
+        let number = leaves::literal(table, node);
+        return state::gives(number, spot, s);
+    }
+    if operates(kind) {
+        let left = rows::link(table, node, rows::FIRST);
+        return wait(work, node, state::LEFT, left, v, spot, s);
+    }
+    if rows::PREFIX <= kind {
+        let operand = rows::link(table, node, rows::FIRST);
+        return wait(work, node, state::UNARY, operand, v, spot, s);
+    }
+    other(table, work, defs, node, kind, v, spot, s)
+}
+
+// A node of any kind but a name's.
+fn other(
+    table: &[u32],
+    work: &mut [u32],
+    defs: usize,
+    node: usize,
+    kind: u32,
+    v: Value,
+    spot: Spot,
+    s: Tally,
+) -> Next
+    requires { ⌜ Some (Of defs λ q o. Starts q (now table) (now work) o node spot s)
+        × (kind ≡ row-word (now table) node KIND) × (kind ≡ NAME → ⊥) ⌝ }
+    ensures { λ r. ⌜ Goes (Of defs λ q o. Starts q (now (table .entry)) (now (work .entry)) o node spot s)
+        (now (table .entry)) (now (work .exit)) (3 * s .units + spot .height + 3) r ⌝ }
+{
     if kind == rows::CALL {
         return calls::call(table, work, defs, node, v, spot, s);
     }

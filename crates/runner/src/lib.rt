@@ -13,7 +13,6 @@ ghost use Prim.Native.Nat.{_+_, _≤_};
 ghost use Rattle.language.specs.Sizes.{ALLOWANCE};
 ghost use Rattle.runner.specs.Standing.{Good, Any, OfAll, Turns, Steps, Ran};
 ghost use Rattle.runner.specs.Contract.{Loaded, RunsTo, reported};
-use crate::state::Ending;
 use crate::state::Mode;
 use crate::state::Next;
 use crate::state::Spot;
@@ -49,6 +48,7 @@ fn begun(table: &[u32], work: &mut [u32], out: &mut [u8], defs: usize, n: Next) 
         Mode::Begin => begin::begin(table, work, defs, n.node, v, n.spot, n.tally),
         Mode::Give => n,
         Mode::Over => n,
+        Mode::Halt(_, _) => n,
     }
 }
 
@@ -64,6 +64,7 @@ fn given(table: &[u32], work: &mut [u32], out: &mut [u8], defs: usize, n: Next) 
         Mode::Begin => n,
         Mode::Give => resume::give(table, work, out, defs, v, n.spot, n.tally),
         Mode::Over => n,
+        Mode::Halt(_, _) => n,
     }
 }
 
@@ -100,10 +101,12 @@ fn report(n: Next) -> Done
         left: t.units as u32,
         printed: t.printed,
     };
-    let ending = n.ending;
-    match ending {
-        Ending::Value => Done::Value(v, spent),
-        Ending::Stop(why, place) => Done::Stop(why, place, spent),
+    let mode = n.mode;
+    match mode {
+        Mode::Begin => Done::Value(v, spent),
+        Mode::Give => Done::Value(v, spent),
+        Mode::Over => Done::Value(v, spent),
+        Mode::Halt(why, place) => Done::Stop(why, place, spent),
     }
 }
 

@@ -1,5 +1,5 @@
 -- What the borrow checker leaves of `begun`.
-use Rattle.runner.proofs.Turning.{begins-of, turns-begun, begun-give, begun-over}
+use Rattle.runner.proofs.Turning.{begins-of, turns-begun, begun-give, begun-over, begun-halt}
 use borrow.Author.Needs.{needs}
 use Rattle.runner.proofs.begun.Statement.{statement}
 use Rattle.runner.proofs.begun.Tie as tie
@@ -19,6 +19,9 @@ enum-told-2 c = search needs
 enum-told-3 : tie.Need-enum-told-3
 enum-told-3 c = search needs
 
+enum-told-4 : tie.Need-enum-told-4
+enum-told-4 c = search needs
+
 same-length : tie.Need-same-length
 same-length c = search needs
 
@@ -34,6 +37,9 @@ returns-2 c = begun-give _ _ _ _ (c .before .before .before .before .before .arg
 returns-3 : tie.Need-returns-3
 returns-3 c = begun-over _ _ _ _ (c .before .before .before .before .before .args .n) (c .enum-told3 .given .1)
 
+returns-4 : tie.Need-returns-4
+returns-4 c = begun-halt _ _ _ _ (c .before .before .before .before .before .args .n) (c .enum-told4 .given .1)
+
 pub begun-spec : {M : Type 1} → statement M
 begun-spec =
     tie.close
@@ -42,7 +48,9 @@ begun-spec =
     begin-requires
     enum-told-2
     enum-told-3
+    enum-told-4
     same-length
     returns
     returns-2
-    returns-3)
+    returns-3
+    returns-4)

@@ -1,5 +1,5 @@
 -- What the borrow checker leaves of `given`.
-use Rattle.runner.proofs.Turning.{gives-of, turns-given, given-begin, given-over}
+use Rattle.runner.proofs.Turning.{gives-of, turns-given, given-begin, given-over, given-halt}
 use borrow.Author.Needs.{needs}
 use Rattle.runner.proofs.given.Statement.{statement}
 use Rattle.runner.proofs.given.Tie as tie
@@ -18,6 +18,9 @@ give-requires c κs =
 
 enum-told-3 : tie.Need-enum-told-3
 enum-told-3 c = search needs
+
+enum-told-4 : tie.Need-enum-told-4
+enum-told-4 c = search needs
 
 returns : tie.Need-returns
 returns c = given-begin _ _ _ _ (c .before .before .before .before .before .args .n) (c .enum-told .given .1)
@@ -38,6 +41,9 @@ returns-2 c =
 returns-3 : tie.Need-returns-3
 returns-3 c = given-over _ _ _ _ (c .before .before .before .before .before .args .n) (c .enum-told3 .given .1)
 
+returns-4 : tie.Need-returns-4
+returns-4 c = given-halt _ _ _ _ (c .before .before .before .before .before .args .n) (c .enum-told4 .given .1)
+
 pub given-spec : {M : Type 1} → statement M
 given-spec =
     tie.close
@@ -46,8 +52,10 @@ given-spec =
     enum-told-2
     give-requires
     enum-told-3
+    enum-told-4
     returns
     same-length
     same-length-2
     returns-2
-    returns-3)
+    returns-3
+    returns-4)
