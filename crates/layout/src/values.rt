@@ -15,7 +15,7 @@ pub enum Value {
 }
 
 // A value in words.
-pub struct Words {
+pub struct InWords {
     pub tag: u32,
     pub low: u32,
     pub high: u32,
@@ -63,14 +63,14 @@ pub fn from_words(tag: u32, low: u32, high: u32) -> Value
 }
 
 // Those of a value that needs one word.
-fn single(tag: u32, low: u32) -> Words
+fn single(tag: u32, low: u32) -> InWords
     ensures { λ r. ⌜ (r .tag ≡ tag) × (r .low ≡ low) × (r .high ≡ 0) ⌝ }
 {
-    Words { tag, low, high: 0 }
+    InWords { tag, low, high: 0 }
 }
 
 // The words of v, all at once, so that its case is told once.
-pub fn words(v: Value) -> Words
+pub fn words(v: Value) -> InWords
     ensures { λ r. ⌜ (r .tag ≡ tag-of v) × (r .low ≡ low-of v) × (r .high ≡ high-of v) × Survives v ⌝ }
 {
     match v {
@@ -81,7 +81,7 @@ pub fn words(v: Value) -> Words
             let n = floats::bits(x);
             let low = floats::low(n);
             let high = floats::high(n);
-            Words { tag: 3, low, high }
+            InWords { tag: 3, low, high }
         }
         Value::Cell(n) => single(4, n),
     }
