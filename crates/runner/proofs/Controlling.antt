@@ -23,6 +23,7 @@ use Rattle.machine.specs.Operands.{is-true}
 use Rattle.machine.specs.Outcomes.{memory}
 use Rattle.machine.specs.declared.state.Tally.{Tally}
 use Rattle.runner.specs.Phases.{LAST, UNARY, LEFT, RIGHT, BEFORE, INSIDE, BOUND, CONDITION, TEST, PASS, ARGUMENT, COUNTED, Controls}
+use Rattle.runner.specs.Trees.{At}
 use Rattle.runner.specs.Waiting.{Run, Then, binds-name, which, tested, WaitsBefore, WaitsBound, WaitsCondition, WaitsTest, WaitsPass, WaitsWhole, Waits}
 use Rattle.runner.specs.Standing.{Begins, Gives, Resumes, Ends}
 use Rattle.runner.specs.declared.state.Spot.{Spot}
@@ -104,7 +105,8 @@ module _ {q : Run} {t w o : List ℕ} {v : Value} {row phase : ℕ} {p : Spot} {
     resume-bound key e1 back1 =
         let named : Named (q .ts) key (bound .x) = subst (λ (n : ℕ). Named (q .ts) n (bound .x)) (sym (e1 ∙ key-is)) (bound .named .named) in
         holds r (bound .room) key LAST 0 (r .κ) {L1 = key ∷ r .L} (record { deep = omega (arith, bound .room); goes = λ x s. refl })
-        (omega arith) (omega arith) (bound .at)
+        (omega arith) (omega arith)
+        (subst (λ (n : ℕ). At (q .ts) t (q .defs) (n ∷ r .L) (row-word t row SECOND) (bound .f)) (sym (e1 ∙ key-is)) (bound .at))
         (binds-name named (holding-key r (bound .room) key LAST) (holding-value r (bound .room) key LAST back1)
         (sees r (holding r (bound .room) key LAST)))
         (sym (bound .goes (meant v) σ) ∙ r .means)

@@ -20,7 +20,8 @@ use Rattle.layout.specs.Decode.{ParamsAt, params-none, params-more}
 use Rattle.layout.specs.Slots.{key-at, value-at}
 use Rattle.layout.proofs.NameLaws.{name-inside, named-at}
 use Rattle.machine.specs.Slots.{values-from}
-use Rattle.runner.specs.Trees.{parameters-in, Function}
+use Rattle.layout.specs.Resolved.{parameters-in}
+use Rattle.runner.specs.Trees.{Function}
 use Rattle.runner.specs.Standing.{Callable}
 use Rattle.runner.specs.Waiting.{Run, Then, Binds, binds-none, binds-name, called}
 use Rattle.language.proofs.Meaning.CellTypes.{none-some, some-one}
@@ -146,7 +147,7 @@ params-read {t = t} stand {r} (params-more e a c y rest) (suc i) l =
     let z : r + 1 + i ≡ r + suc i = omega arith in
     subst (λ (k : ℕ). Read t k) z (params-read stand rest i (omega arith))
 
-pub callable : {ts : List Token} {t : List ℕ} {row : ℕ} {f : Def} → TABLE ≤ length t → Stand t (length ts) ts → Function ts t row f
+pub callable : {ts : List Token} {t : List ℕ} {defs row : ℕ} {f : Def} → TABLE ≤ length t → Stand t (length ts) ts → Function ts t defs row f
     → Callable t row (row-word t row ARITY)
 callable long stand g = record {
   long = long;
@@ -203,11 +204,11 @@ module _ (q : Run) (κ : Then) (d i : ℕ) (x : Name) (s : M.State) where
 -- a function with its arguments
 pub record Called (q : Run) (t : List ℕ) (head d : ℕ) (vs : List M.Value) (s : M.State) (κ : Then) : Type 0 where
   pub f : Def
-  pub function : Function (q .ts) t head f
+  pub function : Function (q .ts) t (q .defs) head f
   pub count : length vs ≡ length (f .params)
   pub means : then (enter (f .params) vs empty λ env. eval (q .fs) d (f .body) env s) κ ≡ q .whole
 
-function-enters : (q : Run) {t : List ℕ} (κ : Then) (d i : ℕ) (x : Name) (s : M.State) {head : ℕ} (f : Def) → Function (q .ts) t head f
+function-enters : (q : Run) {t : List ℕ} (κ : Then) (d i : ℕ) (x : Name) (s : M.State) {head : ℕ} (f : Def) → Function (q .ts) t (q .defs) head f
     → nearest x (q .fs) ≡ some (defined (f .params) (f .body)) → (vs : List M.Value) → then (called (q .fs) d i x vs s) κ ≡ q .whole
     → Called q t head d vs s κ
 function-enters q κ d i x s f g e vs means =
@@ -216,22 +217,22 @@ function-enters q κ d i x s f g e vs means =
 
 module _ (q : Run) {t : List ℕ} (κ : Then) (d i : ℕ) (x : Name) (s : M.State) where
   -- it is `putchar`
-  pub call-prints : {found : Option ℕ} → Calls (q .ts) t found (nearest x (q .fs)) → found ≡ none → (us : List M.Value) (v : M.Value)
+  pub call-prints : {found : Option ℕ} → Calls (q .ts) t (q .defs) found (nearest x (q .fs)) → found ≡ none → (us : List M.Value) (v : M.Value)
       → then (called (q .fs) d i x (us ++ (v ∷ [])) s) κ ≡ q .whole → then (want (as-int v) λ z. put i z s) κ ≡ q .whole
   call-prints (calls-putchar f) e us v means = putchar-whole q κ d i x s f us v means
   call-prints (calls-nobody f) e us v means = nobody-whole q κ d i x s f (us ++ (v ∷ [])) means
   call-prints (calls-function f g h) e us v means = absurd (none-some (sym e))
 
   -- or a function
-  pub call-enters : {found : Option ℕ} {head : ℕ} → Calls (q .ts) t found (nearest x (q .fs)) → found ≡ some head → (vs : List M.Value)
+  pub call-enters : {found : Option ℕ} {head : ℕ} → Calls (q .ts) t (q .defs) found (nearest x (q .fs)) → found ≡ some head → (vs : List M.Value)
       → then (called (q .fs) d i x vs s) κ ≡ q .whole → Called q t head d vs s κ
   call-enters (calls-putchar f) e vs means = absurd (none-some e)
   call-enters (calls-nobody f) e vs means = absurd (none-some e)
   call-enters (calls-function {row = row} f g h) e vs means =
-      function-enters q κ d i x s f (subst (λ (r : ℕ). Function (q .ts) t r f) (some-one e) g) h vs means
+      function-enters q κ d i x s f (subst (λ (r : ℕ). Function (q .ts) t (q .defs) r f) (some-one e) g) h vs means
 
   -- without arguments it is a function
-  pub call-empty : {A : Type 0} {found : Option ℕ} → Calls (q .ts) t found (nearest x (q .fs)) → found ≡ none
+  pub call-empty : {A : Type 0} {found : Option ℕ} → Calls (q .ts) t (q .defs) found (nearest x (q .fs)) → found ≡ none
       → then (called (q .fs) d i x [] s) κ ≡ q .whole → A
   call-empty (calls-putchar f) e means = putchar-none q κ d i x s f means
   call-empty (calls-nobody f) e means = nobody-whole q κ d i x s f [] means

@@ -124,7 +124,7 @@ module _ {q : Run} {t w o : List ℕ} {v : Value} {row phase : ℕ} {p : Spot} {
     pub part-enters : (ph mark1 u1 : ℕ) (κ1 : Then) → FrameAt w1 H row ph B N mark1
         → Waits q t w1 (r .d) row B mark1 (r .n) (r .b) (r .L) (r .env) (r .κ) κ1 u1 ph
         → (base1 size1 : ℕ) {L1 : List ℕ} {env1 : Env} {part : ℕ} {e : Exp} → size1 ≡ length L1 → B + N + u1 ≤ base1 + length L1
-        → At (q .ts) t part e → Binds (q .ts) w1 base1 L1 env1
+        → At (q .ts) t (q .defs) L1 part e → Binds (q .ts) w1 base1 L1 env1
         → base1 + length L1 + WAITING * r .d ≤ WAITING * ACTIVE + slack e
         → then (eval (q .fs) (r .d) e env1 (memory w o s)) κ1 ≡ q .whole
         → Begins q t w1 o part (spot base1 size1 (H + 1)) s
@@ -142,7 +142,7 @@ module _ {q : Run} {t w o : List ℕ} {v : Value} {row phase : ℕ} {p : Spot} {
     turned = stored-phase w H ph (B + N) frame-low (omega arith)
 
     pub turns : (κ1 : Then) {part : ℕ} {e : Exp} → Waits q t (put-phase w H ph) (r .d) row B (r .mark) (r .n) (r .b) (r .L) (r .env) (r .κ) κ1 0 ph
-        → At (q .ts) t part e → then (eval (q .fs) (r .d) e (r .env) (memory w o s)) κ1 ≡ q .whole
+        → At (q .ts) t (q .defs) (r .L) part e → then (eval (q .fs) (r .d) e (r .env) (memory w o s)) κ1 ≡ q .whole
         → Begins q t (put-phase w H ph) o part (spot B (p .size) (H + 1)) s
     turns κ1 {e = e} wait at means =
         part-enters turned ph (r .mark) 0 κ1 (frame-turned w H row phase ph B N (r .mark) frame-room (r .there)) wait B (p .size) (r .sized) (omega arith) at
@@ -177,7 +177,7 @@ module _ {q : Run} {t w o : List ℕ} {v : Value} {row phase : ℕ} {p : Spot} {
 
     pub holds : (u1 : ℕ) (κ1 : Then) {L1 : List ℕ} {env1 : Env} {part : ℕ} {e : Exp}
         → Waits q t W (r .d) row B (r .mark) (r .n) (r .b) (r .L) (r .env) (r .κ) κ1 u1 ph → u1 ≤ 1 → length L1 ≡ N + 1
-        → At (q .ts) t part e → Binds (q .ts) W B L1 env1
+        → At (q .ts) t (q .defs) L1 part e → Binds (q .ts) W B L1 env1
         → then (eval (q .fs) (r .d) e env1 (memory w o s)) κ1 ≡ q .whole
         → Begins q t (put-phase (put-slot w 0 (B + p .size) key v) H ph) o part (spot B (p .size + 1) (H + 1)) s
     holds u1 κ1 {L1} {part = part} wait l long at binds means =

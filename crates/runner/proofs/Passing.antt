@@ -157,21 +157,21 @@ module _ {q : Run} {t w o : List ℕ} {v : Value} {row phase : ℕ} {p : Spot} {
         (sym last-is) ∙ argument-means
 
   -- they are those of a call
-  module _ (end : row-word t (M1 / TAGS) NEXT ≡ 0) (k : counts (row-word t row KIND) ≡ false) {defs : ℕ} (few : q .defs ≡ defs) where
-    call-of : CallDoes q t (r .d) row (r .env) (waiting .done)
+  module _ (end : row-word t (M1 / TAGS) NEXT ≡ 0) (k : counts (row-word t row KIND) ≡ false) where
+    call-of : CallDoes q t (r .d) row (r .L) (r .env) (waiting .done)
     call-of = call-does (waiting .by) k
 
-    pub argument-heads : Heads t defs row
-    argument-heads = heads-at q few (r .scene) (call-of .head) (call-of .named)
+    pub argument-heads : Heads t row
+    argument-heads = heads-at q (r .scene) (call-of .head) (call-of .named)
 
     call-means : then (called (q .fs) (r .d) (call-of .i) (call-of .x) (all end) σ) (r .κ) ≡ q .whole
     call-means = ap (λ (m : M.Outcome). then m (r .κ)) (sym (call-of .is (all end) σ)) ∙ last-means end
 
     -- `putchar` prints it
-    pub argument-prints : none ≡ callee t defs row → {o1 : List ℕ} {z : Next} → Printing (row-word t row OWN) v o o1 p s z → Good q t w o1 z
+    pub argument-prints : none ≡ callee t row → {o1 : List ℕ} {z : Next} → Printing (row-word t row OWN) v o o1 p s z → Good q t w o1 z
     argument-prints n {o1} {z} c =
-        let m = call-prints q (r .κ) (r .d) (call-of .i) (call-of .x) σ (callee-of q few (r .scene) (call-of .head) (call-of .named) none n) refl
-        (waiting .vs) (meant v) call-means in
+        let m = call-prints q (r .κ) (r .d) (call-of .i) (call-of .x) σ
+        (callee-of q (r .scene) (call-of .head) (call-of .named) (call-of .calls) none n) refl (waiting .vs) (meant v) call-means in
         let i = call-of .head .own-is in
         subst (λ (y : Next). Good q t w o1 y) (sym (c .is))
         (onward-good (suc (r .d)) (B + N) p (c .outcome) (row-word t row OWN) v (r .scene) (fair-printed (c .outcome) (r .fair) (c .printed)) (r .deep)
@@ -179,10 +179,11 @@ module _ {q : Run} {t w o : List ℕ} {v : Value} {row phase : ℕ} {p : Spot} {
         (told-whole q (r .κ) (c .printed .right (row-word t row OWN) w)
         (ap (λ (j : ℕ). then (want (as-int (meant v)) λ z. put j z σ) (r .κ)) i ∙ m)))
 
-    module _ {head : ℕ} (who : some head ≡ callee t defs row) where
+    module _ {head : ℕ} (who : some head ≡ callee t row) where
       one : Called q t head (r .d) (all end) σ (r .κ)
-      one = call-enters q (r .κ) (r .d) (call-of .i) (call-of .x) σ (callee-of q few (r .scene) (call-of .head) (call-of .named) (some head) who) refl
-          (all end) call-means
+      one =
+          call-enters q (r .κ) (r .d) (call-of .i) (call-of .x) σ
+          (callee-of q (r .scene) (call-of .head) (call-of .named) (call-of .calls) (some head) who) refl (all end) call-means
 
       pub argument-callable : Callable t head (row-word t head ARITY)
       argument-callable = callable (r .scene .long) (r .scene .stand) (one .function)
@@ -223,9 +224,9 @@ module _ {q : Run} {t w o : List ℕ} {v : Value} {row phase : ℕ} {p : Spot} {
   -- ---- another argument
 
   module _ (next : ℕ) (is : next ≡ row-word t (M1 / TAGS) NEXT) (some-there : next ≡ 0 → ⊥) where
-    argued : Argued q t next (waiting .es)
+    argued : Argued q t (helds (suc K) (r .L)) next (waiting .es)
     argued =
-        some-left q (subst (λ (j : ℕ). Args (q .ts) t j (waiting .es))
+        some-left q (subst (λ (j : ℕ). Args (q .ts) t (q .defs) (helds (suc K) (r .L)) j (waiting .es))
         (sym (is ∙ ap (λ (m : ℕ). row-word t m NEXT) row-is)) (waiting .rest)) some-there
 
     pub next-inside : next < NODES
@@ -258,7 +259,7 @@ module _ {q : Run} {t w o : List ℕ} {v : Value} {row phase : ℕ} {p : Spot} {
 
     next-begins : Survives v → Begins q t (put-frame (put-slot w 0 (B + N + K) HELD v) H row ARGUMENT B N (TAGS * next + (K + 1))) o
         (row-word t next EXPRESSION) (spot B (N + (K + 1)) (H + 1)) s
-    unfolding Waits which
+    unfolding Waits which helds
     next-begins back =
         let mark = TAGS * next + (K + 1) in
         let long = helds-length (suc K) (r .L) in

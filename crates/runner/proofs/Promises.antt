@@ -19,7 +19,7 @@ use Rattle.numbers.specs.declared.Stop.{Stop}
 use Rattle.machine.specs.declared.state.Tally.{Tally}
 use Rattle.runner.specs.Waiting.{Run}
 use Rattle.runner.specs.Standing.{Begins, Starts, Gives, Resumes, Good, charged, given, over}
-use Rattle.runner.specs.Standing.{onward, weight, Some, Goes, Of, Any, Prints, Printing, Creating}
+use Rattle.runner.specs.Standing.{onward, weight, Some, Goes, Any, Prints, Printing, Creating}
 use Rattle.runner.specs.Standing.{Ending}
 use Rattle.runner.specs.declared.state.Spot.{Spot}
 use Rattle.runner.specs.declared.state.Next.{Next}
@@ -82,14 +82,9 @@ charged-less h s s1 n e = omega (arith, ap (λ (x : Tally). x .units) e)
 
 -- ---- what a node's row and its frame ask
 
-module _ {t w : List ℕ} {node : ℕ} {p : Spot} {s : Tally} {defs : ℕ} where
-  pub begins-row : Some (Of defs λ q o. Begins q t w o node p s) → (TABLE ≤ length t) × (node < NODES)
-  begins-row x = (x .holds .1 .scene .long, inside-at (x .holds .1 .at))
-
 module _ {t w : List ℕ} {node : ℕ} {p : Spot} {s : Tally} where
-  -- whatever the functions are
-  pub starts-any : {defs : ℕ} → Some (Of defs λ q o. Starts q t w o node p s) → Some (λ q o. Starts q t w o node p s)
-  starts-any x = record { q = x .q; o = x .o; holds = x .holds .1 }
+  pub begins-row : Some (λ q o. Begins q t w o node p s) → (TABLE ≤ length t) × (node < NODES)
+  begins-row x = (x .holds .scene .long, inside-at (x .holds .at))
 
   pub starts-row : Some (λ q o. Starts q t w o node p s) → (TABLE ≤ length t) × (node < NODES)
   starts-row x = (x .holds .scene .long, inside-at (x .holds .at))

@@ -23,7 +23,7 @@ use Rattle.machine.specs.declared.state.Tally.{Tally}
 use Rattle.machine.specs.declared.state.Outcome.{Outcome}
 use Rattle.runner.specs.Phases.{LAST, UNARY, LEFT, RIGHT, BEFORE, INSIDE, BOUND, CONDITION, TEST, PASS, ARGUMENT, COUNTED, Controls}
 use Rattle.runner.specs.Waiting.{Run}
-use Rattle.runner.specs.Standing.{Gives, Resumes, Good, above, begun, given, over, onward, weight, Some, Goes, Any, OfAll, Creating}
+use Rattle.runner.specs.Standing.{Gives, Resumes, Good, above, begun, given, over, onward, weight, Some, Goes, Any, Creating}
 use Rattle.runner.specs.declared.state.Spot.{Spot}
 use Rattle.runner.specs.Standing.{Ending}
 use Rattle.runner.specs.declared.state.Next.{Next}
@@ -45,26 +45,26 @@ birth-units (Outcome.Halts y) s = omega arith
 
 -- ---- give
 
-abbrev Giving : ℕ → List ℕ → List ℕ → List ℕ → Value → Spot → Tally → Run → Type 0
-Giving defs t w o v p s = OfAll defs λ q. Gives q t w o v p s
+abbrev Giving : List ℕ → List ℕ → List ℕ → Value → Spot → Tally → Run → Type 0
+Giving t w o v p s q = Gives q t w o v p s
 
 abbrev spot : ℕ → ℕ → ℕ → Spot
 spot base size height = record { base = base; size = size; height = height }
 
-module _ {defs : ℕ} {t w o : List ℕ} {v : Value} {p : Spot} {s : Tally} where
-  pub gives-high : Any (Giving defs t w o v p s) → (1 ≤ p .height) × (p .height ≤ FRAMES) × (WORK ≤ length w)
-  gives-high x = (x .holds .1 .high, omega (arith, x .holds .1 .deep), x .holds .1 .fair .room .long)
+module _ {t w o : List ℕ} {v : Value} {p : Spot} {s : Tally} where
+  pub gives-high : Any (Giving t w o v p s) → (1 ≤ p .height) × (p .height ≤ FRAMES) × (WORK ≤ length w)
+  gives-high x = (x .holds .high, omega (arith, x .holds .deep), x .holds .fair .room .long)
 
   -- the last frame is read
   module _ {g row phase base size : ℕ} (high : 1 ≤ p .height) (e : g ≡ p .height - 1) (a : row ≡ frame-word w g NODE) (b : phase ≡ frame-word w g PHASE)
       (c : base ≡ frame-word w g BASE) (d : size ≡ frame-size w g) where
-    pub gives-resumes : (q : Run) → Giving defs t w o v p s q → Resumes q t w o v row phase (spot base size g) s
-    gives-resumes q x = give-resumes (x .1) g (omega arith) row phase base size a b c d
+    pub gives-resumes : (q : Run) → Giving t w o v p s q → Resumes q t w o v row phase (spot base size g) s
+    gives-resumes q x = give-resumes x g (omega arith) row phase base size a b c d
 
-    pub gives-argument : phase ≡ ARGUMENT → (q : Run) → Giving defs t w o v p s q → OfAll defs (λ q. Resumes q t w o v row ARGUMENT (spot base size g) s) q
-    gives-argument f q x = (x .0, subst (λ (k : ℕ). Resumes q t w o v row k (spot base size g) s) f (gives-resumes q x))
+    pub gives-argument : phase ≡ ARGUMENT → (q : Run) → Giving t w o v p s q → Resumes q t w o v row ARGUMENT (spot base size g) s
+    gives-argument f q x = subst (λ (k : ℕ). Resumes q t w o v row k (spot base size g) s) f (gives-resumes q x)
 
-    pub gives-counted : phase ≡ COUNTED → (q : Run) → Giving defs t w o v p s q → Resumes q t w o v row COUNTED (spot base size g) s
+    pub gives-counted : phase ≡ COUNTED → (q : Run) → Giving t w o v p s q → Resumes q t w o v row COUNTED (spot base size g) s
     gives-counted f q x = subst (λ (k : ℕ). Resumes q t w o v row k (spot base size g) s) f (gives-resumes q x)
 
 -- ---- resume and control

@@ -28,6 +28,7 @@ use Rattle.machine.specs.Outcomes.{memory}
 use Rattle.machine.specs.declared.counting.Counter.{Counter}
 use Rattle.machine.specs.declared.state.Tally.{Tally}
 use Rattle.runner.specs.Phases.{COUNTED}
+use Rattle.runner.specs.Trees.{At}
 use Rattle.runner.specs.Waiting.{Run, Then, Binds, binds-name, binds-held, which, passed, WaitsCounted, Waits}
 use Rattle.runner.specs.Standing.{Begins, Gives, Resumes}
 use Rattle.runner.specs.Loops.{Counting, put-bound}
@@ -120,6 +121,10 @@ module _ {q : Run} {t w o : List ℕ} {node : ℕ} {z to by : Value} {p : Spot} 
         (bound-value w (B + N) K z to by H inside low long back-z ∙ c .counter-is)
         (binds-kept (bound-stored w (B + N) K z to by H inside low long .slots) (omega arith) (c .frame .binds))))
 
+    body-at : At (q .ts) t (q .defs) (HELD ∷ HELD ∷ K ∷ c .frame .L) (row-word t node SECOND) (c .loop .e)
+    body-at =
+        subst (λ (n : ℕ). At (q .ts) t (q .defs) (HELD ∷ HELD ∷ n ∷ c .frame .L) (row-word t node SECOND) (c .loop .e)) (sym key-is) (c .loop .at)
+
     abbrev Passing : ℕ → Type 0
     Passing n = Begins q t (put-phase (put-bound w (B + n) K z to by) H COUNTED) o (row-word t node SECOND) (spot B (n + 3) (H + 1)) s
 
@@ -142,7 +147,7 @@ module _ {q : Run} {t w o : List ℕ} {node : ℕ} {z to by : Value} {p : Spot} 
           step = step-value w (B + N) K z to by H inside low long back-by ∙ c .step-is;
           goes = λ v s. refl;
         })
-        B (N + 3) (omega arith) (omega arith) (c .loop .at) sees (omega (arith, c .room))
+        B (N + 3) (omega arith) (omega arith) body-at sees (omega (arith, c .room))
         (sym (then-then (eval (q .fs) (c .frame .d) (c .loop .e) (push (c .loop .x) (number (c .n)) (c .frame .env)) σ) after (c .frame .κ))
         ∙ (rw h at turn-means))
 

@@ -12,6 +12,7 @@ use Rattle.language.specs.State.{value, stop}
 use Rattle.language.specs.Meaning.{run}
 use Rattle.layout.specs.Table.{zeros}
 use Rattle.layout.specs.Decode.{Holds}
+use Rattle.layout.specs.Resolved.{Resolved}
 use Rattle.layout.specs.declared.Held.{Held}
 use Rattle.layout.specs.Values.{meant}
 use Rattle.numbers.specs.Meanings.{stop-meant}
@@ -31,13 +32,14 @@ reported-by (Ending.stopped y i) n = Done.Stop y i (spent (n .tally))
 abbrev pub reported : Next → Done
 reported n = reported-by (ending-of (n .mode)) n
 
--- What is asked: the table holds a program that has a type.
+-- What is asked: the table holds a program that has a type, and its names and calls are resolved.
 pub record Loaded (table w : List ℕ) (P : Held) (allowance : ℕ) : Type 0 where
   pub ts : List Token
   pub program : Program
   pub type : Ty
   pub holds : Holds ts table P program
   pub typed : HasType program type
+  pub resolved : Resolved table program
   pub long : WORK ≤ length w
   pub allowed : allowance ≤ ALLOWANCE
 
@@ -61,5 +63,5 @@ pub record EndsAs (m : M.Outcome) (o o′ : List ℕ) (r : Done) : Type 0 where
 -- What is promised: the answer and the output are those of the meaning, and work memory is cleared.
 pub record RunsTo (table w o w′ o′ : List ℕ) (P : Held) (allowance : ℕ) (r : Done) : Type 0 where
   pub answer : (ts : List Token) (p : Program) (t : Ty) → Holds ts table P p → HasType p t
-      → EndsAs (run p allowance (length o)) o o′ r
+      → Resolved table p → EndsAs (run p allowance (length o)) o o′ r
   pub cleared : w′ ≡ zeros w 0 WORK

@@ -34,7 +34,7 @@ pub record Counting (q : Run) (t w o : List ℕ) (first : Bool) (node : ℕ) (z 
   pub v : Value
   pub phase : ℕ
   pub frame : Resumes q t w o v node phase p s
-  pub loop : ForAt q t node
+  pub loop : ForAt q t node (frame .L)
   pub n : ℤ
   pub end : ℤ
   pub step : ℤ

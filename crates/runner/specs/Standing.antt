@@ -1,9 +1,10 @@
 -- Where a run stands between two steps, and what the functions of the steps ask and promise.
-use mathlib.Core.Bool.{Bool, true, false}
+use mathlib.Core.Bool.{Bool, true, false, cond}
 use mathlib.Core.List.{List}
-use mathlib.Core.Option.{Option}
+use mathlib.Core.Option.{Option, none, some}
 use mathlib.Core.Path.{_≡_}
 use Prim.Native.Nat.{ℕ, suc, _+_, _-_, _*_, _/_, _%_, _≤_, _<_}
+use lib.Dec.{eqb}
 use lib.ListN.{length, getD}
 use Rattle.language.specs.Sizes.{TOKENS, NODES, PARAMETERS, ACTIVE, ALLOWANCE, TABLE, WORK}
 use Rattle.language.specs.Trees.{Exp}
@@ -11,8 +12,8 @@ use Rattle.language.specs.State as M
 use Rattle.language.specs.State.{value, stop, then}
 use Rattle.language.specs.Meaning.{Env, step, eval}
 use Rattle.layout.specs.Table.{OWN, NEXT, ARITY, BODY, token-value, row-word}
-use Rattle.layout.specs.Functions.{Headed, find-function}
 use Rattle.layout.specs.Slots.{TAGS, WAITING, key-at, value-at}
+use Rattle.layout.specs.Notes.{NOBODY, noted}
 use Rattle.layout.specs.Frames.{frame-mark, put-frame}
 use Rattle.layout.specs.Values.{meant}
 use Rattle.layout.specs.declared.values.Value.{Value}
@@ -70,7 +71,7 @@ module _ (q : Run) (t w o : List ℕ) where
     pub κ : Then
     pub deep : d + p .height ≡ ACTIVE + 1
     pub high : 1 ≤ p .height
-    pub at : At (q .ts) t node e
+    pub at : At (q .ts) t (q .defs) L node e
     pub sized : p .size ≡ length L
     pub binds : Binds (q .ts) w (p .base) L env
     pub room : p .base + length L + WAITING * d ≤ WAITING * ACTIVE + slack e
@@ -88,7 +89,7 @@ module _ (q : Run) (t w o : List ℕ) where
     pub κ : Then
     pub deep : suc d + p .height ≡ ACTIVE + 1
     pub high : 1 ≤ p .height
-    pub at : At (q .ts) t node e
+    pub at : At (q .ts) t (q .defs) L node e
     pub sized : p .size ≡ length L
     pub binds : Binds (q .ts) w (p .base) L env
     pub room : p .base + length L + WAITING * suc d ≤ WAITING * ACTIVE + slack e
@@ -193,13 +194,6 @@ pub record Some (Before : Run → List ℕ → Type 0) : Type 0 where
   pub o : List ℕ
   pub holds : Before q o
 
--- the runs of so many functions
-abbrev pub Of : ℕ → (Run → List ℕ → Type 0) → Run → List ℕ → Type 0
-Of defs Before q o = (q .defs ≡ defs) × Before q o
-
-abbrev pub OfAll : ℕ → (Run → Type 0) → Run → Type 0
-OfAll defs Before q = (q .defs ≡ defs) × Before q
-
 -- every run that stood so stands where the answer says, and nearer to its end; the output stays
 pub record Goes (Before : Run → List ℕ → Type 0) (t w′ : List ℕ) (m : ℕ) (r : Next) : Type 0 where
   pub right : (q : Run) (o : List ℕ) → Before q o → Good q t w′ o r
@@ -230,16 +224,18 @@ pub record Creating (i : ℕ) (v : Value) (w w′ : List ℕ) (p : Spot) (s : Ta
   pub created : Created (meant v) w w′ s outcome
   pub is : r ≡ onward outcome i v p (after-birth outcome s)
 
--- the name of the call at a row, and those of the functions, can be read
-pub record Heads (t : List ℕ) (defs node : ℕ) : Type 0 where
+-- what is noted of the call at a row can be read
+pub record Heads (t : List ℕ) (node : ℕ) : Type 0 where
   pub long : TABLE ≤ length t
   pub inside : node < NODES
   pub token : row-word t node OWN < TOKENS
-  pub heads : (k : ℕ) → k < defs → Headed t k
 
--- the row of the function that it calls
-abbrev pub callee : List ℕ → ℕ → ℕ → Option ℕ
-callee t defs node = find-function t (token-value t (row-word t node OWN)) defs
+-- the row of the function that it calls, by what is noted
+abbrev pub row-noted : ℕ → Option ℕ
+row-noted n = cond (eqb n NOBODY) none (some n)
+
+abbrev pub callee : List ℕ → ℕ → Option ℕ
+callee t node = row-noted (noted t (row-word t node OWN))
 
 -- the parameters of the function at a row are the names of the n slots from slot `base` on, which hold what they held
 pub record Keyed (t w w′ : List ℕ) (row base n : ℕ) : Type 0 where
@@ -265,16 +261,16 @@ pub record Enters (t w w′ : List ℕ) (node row : ℕ) (v : Value) (p : Spot) 
   pub is : r ≡ begun (row-word t row BODY) v (above (p .base + p .size) (row-word t row ARITY) p) s
 
 -- a part of a turn of the loop goes on, or leaves alone what it is not for
-pub record Turns (defs : ℕ) (t w o w′ o′ : List ℕ) (n r : Next) (mode : Mode) : Type 0 where
-  pub right : (q : Run) → q .defs ≡ defs → Good q t w o n → Good q t w′ o′ r
+pub record Turns (t w o w′ o′ : List ℕ) (n r : Next) (mode : Mode) : Type 0 where
+  pub right : (q : Run) → Good q t w o n → Good q t w′ o′ r
   pub nearer : n .mode ≡ mode → weight r < weight n
   pub still : (n .mode ≡ mode → ⊥) → r ≡ n
 
-pub record Steps (defs : ℕ) (t w o w′ o′ : List ℕ) (n r : Next) : Type 0 where
-  pub right : (q : Run) → q .defs ≡ defs → Good q t w o n → Good q t w′ o′ r
+pub record Steps (t w o w′ o′ : List ℕ) (n r : Next) : Type 0 where
+  pub right : (q : Run) → Good q t w o n → Good q t w′ o′ r
   pub less : running n ≡ true → weight r < weight n
 
 -- the loop is over, and stands where it should
-pub record Ran (defs : ℕ) (t w o w′ o′ : List ℕ) (n r : Next) : Type 0 where
+pub record Ran (t w o w′ o′ : List ℕ) (n r : Next) : Type 0 where
   pub over : running r ≡ false
-  pub right : (q : Run) → q .defs ≡ defs → Good q t w o n → Good q t w′ o′ r
+  pub right : (q : Run) → Good q t w o n → Good q t w′ o′ r

@@ -10,17 +10,18 @@ ghost use Rattle.layout.specs.Functions.{found};
 ghost use Rattle.layout.specs.Slots.{SLOTS, TAGS};
 ghost use Rattle.layout.specs.Frames.{FRAMES, SIZES, put-frame};
 ghost use Rattle.runner.specs.Phases.{ARGUMENT};
-ghost use Rattle.runner.specs.Standing.{Starts, Resumes, Some, Goes, Of, Any, Prints, OfAll, LastOf};
+ghost use Rattle.runner.specs.Standing.{Starts, Resumes, Some, Goes, Any, Prints, LastOf};
 ghost use Rattle.runner.specs.Standing.{Printing, Keyed, Callable, Enters, Heads, callee, above, begun};
 use crate::loops;
 use crate::state;
 use crate::state::Next;
 use crate::state::Spot;
 use layout::HELD;
+use layout::NOBODY;
 use layout::SLOTS_AT;
 use layout::frames;
-use layout::functions;
 use layout::functions::Found;
+use layout::notes;
 use layout::rows;
 use layout::slots;
 use layout::token;
@@ -32,33 +33,28 @@ use machine::state::Tally;
 // Which argument a frame waits for: its row and its number, in one mark.
 const NUMBERS: usize = 8;
 
-// The function that a call means; `putchar` has no row.
-fn callee(table: &[u32], defs: usize, node: usize) -> Found
-    requires { ⌜ Heads (now table) defs node ⌝ }
-    ensures { λ r. ⌜ found r ≡ callee (now (table .entry)) defs node ⌝ }
+// The function that a call means, as it is noted of its token; `putchar` has no row.
+fn callee(table: &[u32], node: usize) -> Found
+    requires { ⌜ Heads (now table) node ⌝ }
+    ensures { λ r. ⌜ found r ≡ callee (now (table .entry)) node ⌝ }
 {
     let own = rows::link(table, node, rows::OWN);
-    let name = token::value(table, own);
-    functions::find(table, defs, name)
+    let row = notes::note(table, own);
+    if row == NOBODY {
+        return Found::Nowhere;
+    }
+    Found::At(row as usize)
 }
 
-pub fn call(
-    table: &[u32],
-    work: &mut [u32],
-    defs: usize,
-    node: usize,
-    v: Value,
-    spot: Spot,
-    s: Tally,
-) -> Next
-    requires { ⌜ Some (Of defs λ q o. Starts q (now table) (now work) o node spot s)
+pub fn call(table: &[u32], work: &mut [u32], node: usize, v: Value, spot: Spot, s: Tally) -> Next
+    requires { ⌜ Some (λ q o. Starts q (now table) (now work) o node spot s)
         × (row-word (now table) node KIND ≡ CALL) ⌝ }
-    ensures { λ r. ⌜ Goes (Of defs λ q o. Starts q (now (table .entry)) (now (work .entry)) o node spot s)
+    ensures { λ r. ⌜ Goes (λ q o. Starts q (now (table .entry)) (now (work .entry)) o node spot s)
         (now (table .entry)) (now (work .exit)) (3 * s .units + spot .height + 3) r ⌝ }
 {
     let row = rows::link(table, node, rows::FIRST);
     if row == 0 {
-        let who = callee(table, defs, node);
+        let who = callee(table, node);
         return match who {
             Found::At(head) => enter(table, work, head, node, v, spot, s),
             Found::Nowhere => state::gives(v, spot, s),
@@ -148,14 +144,13 @@ pub fn argument(
     table: &[u32],
     work: &mut [u32],
     out: &mut [u8],
-    defs: usize,
     v: Value,
     node: usize,
     spot: Spot,
     s: Tally,
 ) -> Next
-    requires { ⌜ Any (OfAll defs λ q. Resumes q (now table) (now work) (now out) v node ARGUMENT spot s) ⌝ }
-    ensures { λ r. ⌜ Prints (OfAll defs λ q. Resumes q (now (table .entry)) (now (work .entry)) (now (out .entry)) v
+    requires { ⌜ Any (λ q. Resumes q (now table) (now work) (now out) v node ARGUMENT spot s) ⌝ }
+    ensures { λ r. ⌜ Prints (λ q. Resumes q (now (table .entry)) (now (work .entry)) (now (out .entry)) v
         node ARGUMENT spot s) (now (table .entry)) (now (work .exit)) (now (out .exit))
         (3 * s .units + spot .height + 3) r ⌝ }
 {
@@ -165,7 +160,7 @@ pub fn argument(
     let k = mark % NUMBERS;
     let next = rows::link(table, row, rows::NEXT);
     if next == 0 {
-        return last_argument(table, work, out, defs, v, node, k, spot, s);
+        return last_argument(table, work, out, v, node, k, spot, s);
     }
     let at = spot.base + spot.size + k;
     slots::put(work, SLOTS_AT, at, HELD, v);
@@ -178,16 +173,15 @@ fn last_argument(
     table: &[u32],
     work: &mut [u32],
     out: &mut [u8],
-    defs: usize,
     v: Value,
     node: usize,
     k: usize,
     spot: Spot,
     s: Tally,
 ) -> Next
-    requires { ⌜ Any (OfAll defs λ q. Resumes q (now table) (now work) (now out) v node ARGUMENT spot s)
+    requires { ⌜ Any (λ q. Resumes q (now table) (now work) (now out) v node ARGUMENT spot s)
         × LastOf (now table) (now work) (spot .height) k ⌝ }
-    ensures { λ r. ⌜ Prints (OfAll defs λ q. Resumes q (now (table .entry)) (now (work .entry)) (now (out .entry)) v
+    ensures { λ r. ⌜ Prints (λ q. Resumes q (now (table .entry)) (now (work .entry)) (now (out .entry)) v
         node ARGUMENT spot s) (now (table .entry)) (now (work .exit)) (now (out .exit))
         (3 * s .units + spot .height + 3) r ⌝ }
 {
@@ -195,7 +189,7 @@ fn last_argument(
     if loops::counts(kind) {
         return loops::bounded(table, work, v, node, k, spot, s);
     }
-    let who = callee(table, defs, node);
+    let who = callee(table, node);
     match who {
         Found::Nowhere => print(table, out, v, node, spot, s),
         Found::At(head) => {

@@ -8,7 +8,7 @@ ghost use Rattle.layout.specs.Frames.{FRAMES, put-phase};
 ghost use Rattle.layout.specs.Values.{Survives};
 ghost use Rattle.machine.specs.Outcomes.{Room};
 ghost use Rattle.runner.specs.Phases.{UNARY, LEFT, RIGHT, ARGUMENT, COUNTED, Controls};
-ghost use Rattle.runner.specs.Standing.{Gives, Resumes, Some, Goes, Any, Prints, OfAll, Creating, above, begun};
+ghost use Rattle.runner.specs.Standing.{Gives, Resumes, Some, Goes, Any, Prints, Creating, above, begun};
 use crate::calls;
 use crate::loops;
 use crate::state;
@@ -30,18 +30,9 @@ use machine::state::Tally;
 
 const NEW: u32 = rows::PREFIX + kinds::REF;
 
-// `defs` functions can be called.
-pub fn give(
-    table: &[u32],
-    work: &mut [u32],
-    out: &mut [u8],
-    defs: usize,
-    v: Value,
-    spot: Spot,
-    s: Tally,
-) -> Next
-    requires { ⌜ Any (OfAll defs λ q. Gives q (now table) (now work) (now out) v spot s) ⌝ }
-    ensures { λ r. ⌜ Prints (OfAll defs λ q. Gives q (now (table .entry)) (now (work .entry)) (now (out .entry)) v spot
+pub fn give(table: &[u32], work: &mut [u32], out: &mut [u8], v: Value, spot: Spot, s: Tally) -> Next
+    requires { ⌜ Any (λ q. Gives q (now table) (now work) (now out) v spot s) ⌝ }
+    ensures { λ r. ⌜ Prints (λ q. Gives q (now (table .entry)) (now (work .entry)) (now (out .entry)) v spot
         s) (now (table .entry)) (now (work .exit)) (now (out .exit)) (3 * s .units + spot .height + 2) r ⌝ }
 {
     let h = spot.height - 1;
@@ -55,7 +46,7 @@ pub fn give(
         height: h,
     };
     if phase == state::ARGUMENT {
-        return calls::argument(table, work, out, defs, v, node, back, s);
+        return calls::argument(table, work, out, v, node, back, s);
     }
     if phase == state::COUNTED {
         return loops::next(table, work, v, node, back, s);

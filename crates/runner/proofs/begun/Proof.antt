@@ -10,7 +10,7 @@ enum-told c = search needs
 begin-requires : tie.Need-begin-requires
 begin-requires c κs =
     let start = c .before .before .before .before .before .before in
-    begins-of (start .args .defs) (start .args .table .now) (start .args .work .now) (start .args .out .now) (start .args .n)
+    begins-of (start .args .table .now) (start .args .work .now) (start .args .out .now) (start .args .n)
     (c .before .enum-told .given .1) (start .pre)
 
 enum-told-2 : tie.Need-enum-told-2
@@ -29,16 +29,16 @@ returns : tie.Need-returns
 returns c =
     let at-enum-told = c .before .before .before .before in
     let start = at-enum-told .before .before .before .before .before in
-    turns-begun _ _ _ _ (start .args .n) (at-enum-told .enum-told .given .1) (c .before .before .begin .ensures)
+    turns-begun _ _ _ (start .args .n) (at-enum-told .enum-told .given .1) (c .before .before .begin .ensures)
 
 returns-2 : tie.Need-returns-2
-returns-2 c = begun-give _ _ _ _ (c .before .before .before .before .before .args .n) (c .enum-told2 .given .1)
+returns-2 c = begun-give _ _ _ (c .before .before .before .before .before .args .n) (c .enum-told2 .given .1)
 
 returns-3 : tie.Need-returns-3
-returns-3 c = begun-over _ _ _ _ (c .before .before .before .before .before .args .n) (c .enum-told3 .given .1)
+returns-3 c = begun-over _ _ _ (c .before .before .before .before .before .args .n) (c .enum-told3 .given .1)
 
 returns-4 : tie.Need-returns-4
-returns-4 c = begun-halt _ _ _ _ (c .before .before .before .before .before .args .n) (c .enum-told4 .given .1)
+returns-4 c = begun-halt _ _ _ (c .before .before .before .before .before .args .n) (c .enum-told4 .given .1)
 
 pub begun-spec : {M : Type 1} → statement M
 begun-spec =

@@ -1,7 +1,7 @@
 -- What the borrow checker leaves of `begin::other`.
 use mathlib.Core.Path.{sym, _∙_}
 use lib.Dec.{lit<}
-use Rattle.runner.proofs.Promises.{starts-any, starts-row, starts-frame}
+use Rattle.runner.proofs.Promises.{starts-row, starts-frame}
 use Rattle.runner.proofs.Starting.{starts-waits, starts-inside, starts-bound, starts-literal, starts-leaf}
 use borrow.Author.Needs.{needs}
 use Rattle.runner.proofs.begin.other.Statement.{statement}
@@ -25,14 +25,14 @@ counts-requires c κs = search needs
 link-requires : tie.Need-link-requires
 link-requires c κs =
     let start = c .before .before .before .before .before in
-    let x = starts-row (starts-any (start .pre .0)) in (x .0, x .1, lit< tt)
+    let x = starts-row (start .pre .0) in (x .0, x .1, lit< tt)
 
 pass-requires : tie.Need-pass-requires
 pass-requires c κs =
     let at-counts = c .before .before .before in
     let start = at-counts .before .before .before .before in
-    let x = starts-frame (starts-any (start .pre .0)) in (
-      starts-row (starts-any (start .pre .0)) .0,
+    let x = starts-frame (start .pre .0) in (
+      starts-row (start .pre .0) .0,
       x .0,
       x .1,
       x .2,
@@ -63,12 +63,12 @@ phase-of-requires c κs = search needs
 link-requires-2 : tie.Need-link-requires-2
 link-requires-2 c κs =
     let start = c .before .before .before .before .before .before .before .before in
-    let x = starts-row (starts-any (start .pre .0)) in (x .0, x .1, lit< tt)
+    let x = starts-row (start .pre .0) in (x .0, x .1, lit< tt)
 
 wait-requires : tie.Need-wait-requires
 wait-requires c κs =
     let start = c .before .before .before .before .before .before .before .before .before .before in
-    starts-frame (starts-any (start .pre .0))
+    starts-frame (start .pre .0)
 
 same-length-3 : tie.Need-same-length-3
 same-length-3 c = search needs

@@ -1,7 +1,6 @@
 -- What the borrow checker leaves of `begin::start`.
 use lib.Dec.{lit<}
-use native.Mathlib.Nat.{le-refl}
-use Rattle.runner.proofs.Promises.{goes-from, starts-any, starts-row, starts-frame}
+use Rattle.runner.proofs.Promises.{starts-row, starts-frame}
 use Rattle.runner.proofs.Starting.{starts-number, starts-amount, starts-operator, starts-prefix}
 use borrow.Author.Needs.{needs}
 use Rattle.runner.proofs.begin.start.Statement.{statement}
@@ -10,7 +9,7 @@ use Rattle.runner.proofs.begin.start.Tie as tie
 word-requires : tie.Need-word-requires
 word-requires c κs =
     let start = c .before .before in
-    let x = starts-row (starts-any (start .pre)) in (x .0, x .1, lit< tt)
+    let x = starts-row (start .pre) in (x .0, x .1, lit< tt)
 
 look-requires : tie.Need-look-requires
 look-requires c κs = search needs
@@ -19,7 +18,7 @@ same-length : tie.Need-same-length
 same-length c = search needs
 
 returns : tie.Need-returns
-returns c = goes-from (λ q o b. b .1) (le-refl _) (c .look .ensures)
+returns c = search needs
 
 literal-requires : tie.Need-literal-requires
 literal-requires c κs =
@@ -40,12 +39,12 @@ operates-requires c κs = search needs
 link-requires : tie.Need-link-requires
 link-requires c κs =
     let start = c .before .before .before .before .before .before .before in
-    let x = starts-row (starts-any (start .pre)) in (x .0, x .1, lit< tt)
+    let x = starts-row (start .pre) in (x .0, x .1, lit< tt)
 
 wait-requires : tie.Need-wait-requires
 wait-requires c κs =
     let start = c .before .before .before .before .before .before .before .before .before in
-    starts-frame (starts-any (start .pre))
+    starts-frame (start .pre)
 
 same-length-2 : tie.Need-same-length-2
 same-length-2 c = search needs
@@ -63,12 +62,12 @@ returns-3 c =
 link-requires-2 : tie.Need-link-requires-2
 link-requires-2 c κs =
     let start = c .before .before .before .before .before .before .before .before in
-    let x = starts-row (starts-any (start .pre)) in (x .0, x .1, lit< tt)
+    let x = starts-row (start .pre) in (x .0, x .1, lit< tt)
 
 wait-requires-2 : tie.Need-wait-requires-2
 wait-requires-2 c κs =
     let start = c .before .before .before .before .before .before .before .before .before .before in
-    starts-frame (starts-any (start .pre))
+    starts-frame (start .pre)
 
 same-length-3 : tie.Need-same-length-3
 same-length-3 c = search needs
