@@ -9,14 +9,14 @@ use lib.ListN.{length}
 use Rattle.language.specs.Sizes.{NODES, PARAMETERS, TABLE, WORK}
 use Rattle.layout.specs.Table.{KIND, OWN, EXPRESSION, NEXT, ARITY, row-word}
 use Rattle.layout.specs.Decode.{counts}
-use Rattle.layout.specs.Slots.{TAGS, HELD, SLOTS, put-slot}
+use Rattle.layout.specs.Slots.{TAGS, SLOTS, put-slot}
 use Rattle.layout.specs.Frames.{SIZES, FRAMES, frame-mark, put-frame}
 use Rattle.layout.specs.Values.{Survives}
 use Rattle.layout.specs.declared.values.Value.{Value}
 use Rattle.machine.specs.Outcomes.{after-byte}
 use Rattle.machine.specs.declared.state.Tally.{Tally}
 use Rattle.machine.specs.declared.state.Outcome.{Outcome}
-use Rattle.runner.specs.Phases.{ARGUMENT}
+use Rattle.runner.specs.Phases.{LAST, ARGUMENT, NAMELESS}
 use Rattle.runner.specs.Waiting.{Run}
 use Rattle.runner.specs.Standing.{Resumes, above, begun, weight, Any, Prints, Printing, LastOf, Heads, callee, Callable, Enters}
 use Rattle.runner.specs.declared.state.Spot.{Spot}
@@ -87,7 +87,7 @@ module _ {t w o : List ℕ} {v : Value} {row : ℕ} {p : Spot} {s : Tally} where
       next-number x = subst (λ (n : ℕ). n % TAGS + 1 < PARAMETERS) (sym m)
           (next-small (x .holds) refl next (e ∙ ap (λ (n : ℕ). row-word t (n / TAGS) NEXT) m) f)
 
-      pub argues-next : Survives v → {w1 w2 : List ℕ} {r : Next} → w1 ≡ put-slot w 0 (p .base + p .size + mark % TAGS) HELD v
+      pub argues-next : Survives v → {w1 w2 : List ℕ} {r : Next} → w1 ≡ put-slot w 0 (p .base + p .size + mark % TAGS) NAMELESS v
           → w2 ≡ put-frame w1 (p .height) row ARGUMENT (p .base) (p .size) (TAGS * next + (mark % TAGS + 1))
           → r ≡ begun (row-word t next EXPRESSION) v (above (p .base) (p .size + (mark % TAGS + 1)) p) s
           → Prints (Arguing t w o v row p s) t w2 o (3 * s .units + p .height + 3) r
@@ -95,7 +95,7 @@ module _ {t w o : List ℕ} {v : Value} {row : ℕ} {p : Spot} {s : Tally} where
           let k = ap (λ (n : ℕ). n % TAGS) m in
           prints-to
           (y ∙ ap (λ (u : List ℕ). put-frame u (p .height) row ARGUMENT (p .base) (p .size) (TAGS * next + (mark % TAGS + 1))) x
-          ∙ ap (λ (n : ℕ). put-frame (put-slot w 0 (p .base + p .size + n) HELD v) (p .height) row ARGUMENT (p .base) (p .size) (TAGS * next + (n + 1))) k)
+          ∙ ap (λ (n : ℕ). put-frame (put-slot w 0 (p .base + p .size + n) NAMELESS v) (p .height) row ARGUMENT (p .base) (p .size) (TAGS * next + (n + 1))) k)
           (z ∙ ap (λ (n : ℕ). begun (row-word t next EXPRESSION) v (above (p .base) (p .size + (n + 1)) p) s) k)
           (λ q b. argument-passes b refl next (e ∙ ap (λ (n : ℕ). row-word t (n / TAGS) NEXT) m) f back) (omega arith)
 
@@ -118,17 +118,17 @@ module _ {t w o : List ℕ} {v : Value} {row : ℕ} {p : Spot} {s : Tally} where
     last-slot x = omega (arith, l .number, argument-slot (x .holds) refl)
 
     module _ {head : ℕ} (who : some head ≡ callee t row) where
-      pub last-callable : Any (Arguing t w o v row p s) → Callable t head (row-word t head ARITY)
+      pub last-callable : Any (Arguing t w o v row p s) → Callable t head
       last-callable x = argument-callable (x .holds) refl (l .last) (is-call t row j f g) who
 
       pub last-fits : Any (Arguing t w o v row p s) → p .base + p .size + row-word t head ARITY ≤ SLOTS
       last-fits x = argument-fits (x .holds) refl (l .last) (is-call t row j f g) who
 
-      pub last-enters : Survives v → {w1 w2 : List ℕ} {r : Next} → w1 ≡ put-slot w 0 (p .base + p .size + k) HELD v
+      pub last-enters : Survives v → {w1 w2 : List ℕ} {r : Next} → w1 ≡ put-slot w 0 (p .base + p .size + k) NAMELESS v
           → Enters t w1 w2 row head v p s r → Prints (Arguing t w o v row p s) t w2 o (3 * s .units + p .height + 3) r
-      last-enters back {w2 = w2} {r = r} e x =
-          let y = subst (λ (u : List ℕ). Enters t u w2 row head v p s r) (e ∙ ap (λ (n : ℕ). put-slot w 0 (p .base + p .size + n) HELD v) (l .number)) x in
-          record {
-            right = λ q b. argument-enters b refl (l .last) (is-call t row j f g) who back y;
-            less = subst (λ (n : Next). weight n < 3 * s .units + p .height + 3) (sym (x .is)) (omega arith);
-          }
+      last-enters back e x =
+          let k = l .number in
+          prints-to
+          (x .laid ∙ ap (λ (u : List ℕ). put-frame u (p .height) row LAST (p .base) (p .size) 0)
+          (e ∙ ap (λ (n : ℕ). put-slot w 0 (p .base + p .size + n) NAMELESS v) k)) (x .is)
+          (λ q b. argument-enters b refl (l .last) (is-call t row j f g) who back) (omega arith)

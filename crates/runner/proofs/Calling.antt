@@ -10,13 +10,12 @@ use Rattle.language.specs.Trees.{Name, Exp, call, Exps, nearest}
 use Rattle.language.specs.State as M
 use Rattle.language.specs.State.{then}
 use Rattle.language.specs.Meaning.{arguments, step, eval}
-use Rattle.layout.specs.Table.{KIND, FIRST, EXPRESSION, ARITY, row-word, token-value}
+use Rattle.layout.specs.Table.{KIND, FIRST, EXPRESSION, ARITY, BODY, row-word, token-value}
 use Rattle.layout.specs.Notes.{noted}
 use Rattle.layout.specs.Resolved.{callee-row}
 use Rattle.layout.specs.Rows.{CALL}
 use Rattle.layout.specs.Slots.{TAGS, WAITING, SLOTS}
 use Rattle.layout.specs.Frames.{put-frame}
-use Rattle.layout.specs.declared.values.Value.{Value}
 use Rattle.layout.proofs.Shapes.{unary-high, binary-between}
 use Rattle.machine.specs.Slots.{values-from}
 use Rattle.machine.specs.Outcomes.{memory}
@@ -25,12 +24,11 @@ use Rattle.runner.specs.Phases.{LAST, ARGUMENT}
 use Rattle.runner.specs.Trees.{Head, NameAt, count, At, at-name, at-literal, at-unary, at-binary, at-follow, at-group}
 use Rattle.runner.specs.Trees.{at-block, at-call, at-bind, at-branch, at-loop, at-counted, Args, slack, Scene}
 use Rattle.runner.specs.Waiting.{Run, FrameAt, which, called, Does, by-call, Waits}
-use Rattle.runner.specs.Standing.{Begins, Starts, Good, Heads, row-noted, callee, Callable, Enters}
+use Rattle.runner.specs.Standing.{Begins, Starts, Heads, row-noted, callee, Callable}
 use Rattle.runner.specs.declared.state.Spot.{Spot}
-use Rattle.runner.specs.declared.state.Next.{Next}
-use Rattle.runner.proofs.Memory.{Stored, stored-frame, stored-keyed, stored-then, frame-pushed, frame-kept}
+use Rattle.runner.proofs.Memory.{Stored, stored-frame, frame-pushed}
 use Rattle.runner.proofs.Finding.{Calls, noted-calls}
-use Rattle.runner.proofs.Functions.{parameters-length, callable, Called, call-enters, call-empty, Body, body-of}
+use Rattle.runner.proofs.Functions.{parameters-length, Called, call-enters, call-empty, Body, body-of}
 use Rattle.runner.proofs.RowKinds.{literal-range, range-between, clash}
 use Rattle.runner.proofs.Entering.{spot}
 use Rattle.runner.proofs.Waiting.{part-begins-at}
@@ -123,8 +121,8 @@ module _ {q : Run} {t w o : List ℕ} {node : ℕ} {p : Spot} {s : Tally} (b : S
           call-enters q (b .κ) (b .d) (calling .i) (calling .x) σ
           (callee-of q (b .scene) (calling .head) (calling .named) (calling .calls) (some row) who) refl [] empty-means
 
-      pub start-callable : Callable t row (row-word t row ARITY)
-      start-callable = callable (b .scene .long) (b .scene .stand) (one .function)
+      pub start-callable : Callable t row
+      start-callable = record { long = b .scene .long; inside = one .function .inside }
 
       no-params : row-word t row ARITY ≡ 0
       no-params = omega (arith, one .function .arity, one .count)
@@ -132,33 +130,31 @@ module _ {q : Run} {t w o : List ℕ} {node : ℕ} {p : Spot} {s : Tally} (b : S
       pub start-fits : p .base + p .size + row-word t row ARITY ≤ SLOTS
       start-fits = omega (arith, no-params, b .sized, call-room)
 
-      module _ {w1 : List ℕ} {v : Value} {z : Next} (x : Enters t w w1 node row v p s z) where
-        stored-all : Stored w w1 (p .base + length (b .L)) (p .height)
-        stored-all =
-            stored-then
-            (stored-frame w (p .height) node LAST (p .base) (p .size) 0 (p .base + length (b .L)) (omega (arith, b .deep)) (omega (arith, call-room)))
-            (stored-keyed (x .keyed) (p .base + length (b .L)) (p .height) (omega (arith, b .sized)) start-fits)
+      abbrev W1 : List ℕ
+      W1 = put-frame w (p .height) node LAST (p .base) (p .size) 0
 
-        frame-is : FrameAt w1 (p .height) node LAST (p .base) (length (b .L)) 0
-        frame-is =
-            subst (λ (n : ℕ). FrameAt w1 (p .height) node LAST (p .base) n 0) (b .sized)
-            (frame-kept (stored-keyed (x .keyed) 0 (suc (p .height)) (omega arith) start-fits .frames) (omega arith)
-            (frame-pushed w (p .height) node LAST (p .base) (p .size) 0 (omega (arith, b .deep, b .fair .room .long)) (omega (arith, b .sized, call-room))))
+      stored-all : Stored w W1 (p .base + length (b .L)) (p .height)
+      stored-all =
+          stored-frame w (p .height) node LAST (p .base) (p .size) 0 (p .base + length (b .L)) (omega (arith, b .deep)) (omega (arith, call-room))
 
-        body : Body q t w1 row (b .d) (p .base + p .size) (one .f) σ (b .κ)
-        unfolding values-from
-        body = body-of (b .scene .stand) one refl (λ i l. x .keyed .keys i (omega (arith, one .function .arity)))
+      frame-is : FrameAt W1 (p .height) node LAST (p .base) (length (b .L)) 0
+      frame-is =
+          subst (λ (n : ℕ). FrameAt W1 (p .height) node LAST (p .base) n 0) (b .sized)
+          (frame-pushed w (p .height) node LAST (p .base) (p .size) 0 (omega (arith, b .deep, b .fair .room .long)) (omega (arith, b .sized, call-room)))
 
-        -- the body begins
-        pub start-enters : Good q t w1 o z
-        unfolding Waits which
-        start-enters =
-            let m = parameters-length t row (length (one .f .params)) in
-            subst (λ (n : Next). Good q t w1 o n) (sym (x .is))
-            (part-begins-at (b .d) (p .height) node LAST (p .base) 0 (b .L) (b .env) s (b .κ) (b .scene) (b .fair) (b .deep) (b .binds) (b .stack)
-            stored-all frame-is (b .κ) (omega (arith, one .function .arity)) (omega (arith, b .sized)) (one .function .at) (body .binds)
-            (omega (arith, call-room, one .function .block, one .count, b .sized)) (record { deep = omega (arith, call-room); goes = λ x s. refl })
-            (body .means))
+      body : Body q t W1 row (b .d) (p .base + p .size) (one .f) σ (b .κ)
+      unfolding values-from
+      body = body-of (b .scene .stand) one refl
+
+      -- the body begins
+      pub start-enters : Begins q t W1 o (row-word t row BODY) (spot (p .base + p .size) (row-word t row ARITY) (p .height + 1)) s
+      unfolding Waits which
+      start-enters =
+          let m = parameters-length t row (length (one .f .params)) in
+          part-begins-at (b .d) (p .height) node LAST (p .base) 0 (b .L) (b .env) s (b .κ) (b .scene) (b .fair) (b .deep) (b .binds) (b .stack)
+          stored-all frame-is (b .κ) (omega (arith, one .function .arity)) (omega (arith, b .sized)) (one .function .at) (body .binds)
+          (omega (arith, call-room, one .function .block, one .count, b .sized)) (record { deep = omega (arith, call-room); goes = λ x s. refl })
+          (body .means)
 
   -- ---- the first argument
 

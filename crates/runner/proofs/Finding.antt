@@ -34,14 +34,6 @@ not-held few {n} {x} h e = by (same x PUTCHAR) refl
     by true d = omega (arith, number-putchar few h d)
     by false d = omega (arith, number-other few h d .0)
 
--- a name's number is a key
-pub name-small : {ts : List Token} → length ts ≤ TOKENS → {n : ℕ} {x : Name} → Named ts n x → n ≤ TOKENS
-name-small few {n} {x} h = by (same x PUTCHAR) refl
-  where
-    by : (b : Bool) → same x PUTCHAR ≡ b → n ≤ TOKENS
-    by true d = omega (arith, number-putchar few h d)
-    by false d = omega (arith, number-other few h d .0)
-
 -- ---- bindings
 
 -- the slot of the nearest binding lies in the frame and holds its value
@@ -50,7 +42,7 @@ slot-holds : {ts : List Token} → length ts ≤ TOKENS → {key : ℕ} {x : Nam
     → (slot-of key L < length L) × (value-at w 0 (base + slot-of key L) ≡ v)
 unfolding nearest slot-of
 slot-holds few h binds-none v e = absurd (none-some e)
-slot-holds few {key} {x} h {w} {base} (binds-name {n = n} {x = y} {L = L} {env = env} {v = u} m k d b) v e =
+slot-holds few {key} {x} h {w} {base} (binds-name {n = n} {x = y} {L = L} {env = env} {v = u} m d b) v e =
     by (eqb key n) refl (λ q. slot-holds few h b v q)
   where
     by : (t : Bool) → eqb key n ≡ t → (nearest x env ≡ some v → (slot-of key L < length L) × (value-at w 0 (base + slot-of key L) ≡ v))
@@ -64,7 +56,7 @@ slot-holds few {key} {x} h {w} {base} (binds-name {n = n} {x = y} {L = L} {env =
         let f : nearest x env ≡ some v = rw g at e in
         let r = ih f in
         rw z (omega (arith, r .0), r .1)
-slot-holds few {key} h (binds-held {L = L} k b) v e =
+slot-holds few {key} h (binds-held {L = L} b) v e =
     let r = slot-holds few h b v e in
     let z : eqb key HELD ≡ false = ne-eqb key HELD (not-held few h) in
     rw z (omega (arith, r .0), r .1)

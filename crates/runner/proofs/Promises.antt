@@ -9,7 +9,8 @@ use lib.ListN.{length}
 use borrow.Author.Tests.{eqb-true, eqb-false}
 use Rattle.language.specs.Sizes.{NODES, ALLOWANCE, TABLE, WORK}
 use Rattle.layout.specs.Slots.{SLOTS}
-use Rattle.layout.specs.Frames.{SIZES, FRAMES}
+use Rattle.layout.specs.Table.{ARITY, BODY, row-word}
+use Rattle.layout.specs.Frames.{SIZES, FRAMES, put-frame}
 use Rattle.layout.specs.declared.values.Value.{Value}
 use Rattle.language.specs.State as M
 use Rattle.layout.specs.Values.{meant}
@@ -17,8 +18,9 @@ use Rattle.machine.specs.Outcomes.{Room, born, after-birth, Created, byte-more,
 use Rattle.machine.specs.declared.state.Outcome.{Outcome}
 use Rattle.numbers.specs.declared.Stop.{Stop}
 use Rattle.machine.specs.declared.state.Tally.{Tally}
+use Rattle.runner.specs.Phases.{LAST}
 use Rattle.runner.specs.Waiting.{Run}
-use Rattle.runner.specs.Standing.{Begins, Starts, Gives, Resumes, Good, charged, given, over}
+use Rattle.runner.specs.Standing.{Begins, Starts, Gives, Resumes, Good, charged, above, begun, given, over, Enters}
 use Rattle.runner.specs.Standing.{onward, weight, Some, Goes, Any, Prints, Printing, Creating}
 use Rattle.runner.specs.Standing.{Ending}
 use Rattle.runner.specs.declared.state.Spot.{Spot}
@@ -116,6 +118,17 @@ module _ {t w : List ℕ} {v : Value} {row phase : ℕ} {p : Spot} {s : Tally} w
   -- in the phase that it is in
   pub phase-at : (k : ℕ) → phase ≡ k → (q : Run) (o : List ℕ) → Resumes q t w o v row phase p s → Resumes q t w o v row k p s
   phase-at k e q o r = subst (λ (j : ℕ). Resumes q t w o v row j p s) e r
+
+-- ---- a function is entered
+
+pub entered-at : {t w w1 : List ℕ} {node row : ℕ} {v : Value} {p : Spot} {s : Tally} {r : Next} {count body : ℕ}
+    → w1 ≡ put-frame w (p .height) node LAST (p .base) (p .size) 0 → count ≡ row-word t row ARITY → body ≡ row-word t row BODY
+    → r ≡ begun body v (above (p .base + p .size) count p) s → Enters t w w1 node row v p s r
+entered-at {t} {row = row} {v} {p} {s} {count = count} e f g h = record {
+  laid = e;
+  is = h ∙ ap (λ (n : ℕ). begun n v (above (p .base + p .size) count p) s) g
+      ∙ ap (λ (n : ℕ). begun (row-word t row BODY) v (above (p .base + p .size) n p) s) f;
+}
 
 -- ---- a byte is printed or a cell made
 

@@ -126,7 +126,7 @@ module _ {t w : List ℕ} {node : ℕ} {p : Spot} {s : Tally} where
     module _ {row : ℕ} (f : row ≡ row-word t node FIRST) where
       module _ (e : row ≡ 0) where
         module _ {head : ℕ} (who : some head ≡ callee t node) where
-          pub calls-callable : Some (Started t w node p s) → Callable t head (row-word t head ARITY)
+          pub calls-callable : Some (Started t w node p s) → Callable t head
           calls-callable x = start-callable (x .holds) k (sym f ∙ e) who
 
           pub calls-fits : Some (Started t w node p s) → p .base + p .size + row-word t head ARITY ≤ SLOTS
@@ -135,8 +135,7 @@ module _ {t w : List ℕ} {node : ℕ} {p : Spot} {s : Tally} where
           -- the body begins
           pub calls-enters : {w1 : List ℕ} {v : Value} {r : Next} → Enters t w w1 node head v p s r
               → Goes (Started t w node p s) t w1 (3 * s .units + p .height + 3) r
-          calls-enters {w1} x =
-              goes-to refl (x .is) (λ q o b. subst (λ (n : Next). Good q t w1 o n) (x .is) (start-enters b k (sym f ∙ e) who x)) (omega arith)
+          calls-enters x = goes-to (x .laid) (x .is) (λ q o b. start-enters b k (sym f ∙ e) who) (omega arith)
 
         pub calls-nobody : none ≡ callee t node → {v : Value} {r : Next} → r ≡ given v p s
             → Goes (Started t w node p s) t w (3 * s .units + p .height + 3) r

@@ -142,7 +142,7 @@ module _ {q : Run} {t w o : List ℕ} (d h node base : ℕ) (L : List ℕ) (env 
       }) means
   wait-begins (at-bind {i = i} {x = n} {f = f} hd x y z) room means a b g c =
       begins (λ v σ. eval (q .fs) d f (push n v env) σ) (omega arith) y (ap phase-of (hd .kind-is) ∙ let-phase)
-      (record { i = i; x = n; f = f; inside = hd .inside; own = hd .own-is; named = x; room = omega arith; at = z; goes = λ v σ. refl }) means
+      (record { i = i; x = n; f = f; inside = hd .inside; named = x; room = omega arith; at = z; goes = λ v σ. refl }) means
   wait-begins (at-branch {i = i} {e = e} {f = f} hd x y z) room means a b g c =
       begins (λ v σ. want (as-bool v) λ b. choose b (λ _. eval (q .fs) d e env σ) λ _. eval (q .fs) d f env σ) (omega arith) x
       (ap phase-of (hd .kind-is) ∙ if-phase)

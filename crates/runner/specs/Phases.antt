@@ -1,4 +1,4 @@
--- The phases of a frame: for which part of its node it waits.
+-- The phases of a frame: for which part of its node it waits; and the key of its slots.
 use mathlib.Core.Bool.{Bool, true, false, cond}
 use mathlib.Core.Path.{_≡_}
 use Prim.Native.Nat.{ℕ}
@@ -50,6 +50,10 @@ WHOLE = 11
 -- a pass of a `for`
 abbrev pub COUNTED : ℕ
 COUNTED = 12
+
+-- the key of every slot of a frame: none is sought by it
+abbrev pub NAMELESS : ℕ
+NAMELESS = 0
 
 -- a node of this kind waits for its first part, and in which phase
 unfoldable pub waits : ℕ → Bool

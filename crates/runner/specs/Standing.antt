@@ -6,13 +6,13 @@ use mathlib.Core.Path.{_≡_}
 use Prim.Native.Nat.{ℕ, suc, _+_, _-_, _*_, _/_, _%_, _≤_, _<_}
 use lib.Dec.{eqb}
 use lib.ListN.{length, getD}
-use Rattle.language.specs.Sizes.{TOKENS, NODES, PARAMETERS, ACTIVE, ALLOWANCE, TABLE, WORK}
+use Rattle.language.specs.Sizes.{TOKENS, NODES, ACTIVE, ALLOWANCE, TABLE, WORK}
 use Rattle.language.specs.Trees.{Exp}
 use Rattle.language.specs.State as M
 use Rattle.language.specs.State.{value, stop, then}
 use Rattle.language.specs.Meaning.{Env, step, eval}
-use Rattle.layout.specs.Table.{OWN, NEXT, ARITY, BODY, token-value, row-word}
-use Rattle.layout.specs.Slots.{TAGS, WAITING, key-at, value-at}
+use Rattle.layout.specs.Table.{OWN, NEXT, ARITY, BODY, row-word}
+use Rattle.layout.specs.Slots.{TAGS, WAITING}
 use Rattle.layout.specs.Notes.{NOBODY, noted}
 use Rattle.layout.specs.Frames.{frame-mark, put-frame}
 use Rattle.layout.specs.Values.{meant}
@@ -237,27 +237,14 @@ row-noted n = cond (eqb n NOBODY) none (some n)
 abbrev pub callee : List ℕ → ℕ → Option ℕ
 callee t node = row-noted (noted t (row-word t node OWN))
 
--- the parameters of the function at a row are the names of the n slots from slot `base` on, which hold what they held
-pub record Keyed (t w w′ : List ℕ) (row base n : ℕ) : Type 0 where
-  pub long : length w′ ≡ length w
-  pub other : (k : ℕ) → (3 * base ≤ k → k < 3 * (base + n) → ⊥) → getD w′ k 0 ≡ getD w k 0
-  pub keys : (i : ℕ) → i < n → key-at w′ 0 (base + i) ≡ token-value t (row-word t (row + 1 + i) OWN)
-  pub values : (i : ℕ) → i < n → value-at w′ 0 (base + i) ≡ value-at w 0 (base + i)
-
--- a function whose parameters are asked for
-pub record Callable (t : List ℕ) (row n : ℕ) : Type 0 where
+-- a function whose row can be read
+pub record Callable (t : List ℕ) (row : ℕ) : Type 0 where
   pub long : TABLE ≤ length t
   pub inside : row < NODES
-  pub arity : row-word t row ARITY ≡ n
-  pub few : n ≤ PARAMETERS
-  pub last : row + n < NODES
-  pub names : (i : ℕ) → i < n → row-word t (row + 1 + i) OWN < TOKENS
-  pub small : (i : ℕ) → i < n → token-value t (row-word t (row + 1 + i) OWN) ≤ TOKENS
 
 -- the body of the function at a row begins
 pub record Enters (t w w′ : List ℕ) (node row : ℕ) (v : Value) (p : Spot) (s : Tally) (r : Next) : Type 0 where
-  pub keyed : Keyed t (put-frame w (p .height) node LAST (p .base) (p .size) 0) w′ row (p .base + p .size)
-      (row-word t row ARITY)
+  pub laid : w′ ≡ put-frame w (p .height) node LAST (p .base) (p .size) 0
   pub is : r ≡ begun (row-word t row BODY) v (above (p .base + p .size) (row-word t row ARITY) p) s
 
 -- a part of a turn of the loop goes on, or leaves alone what it is not for

@@ -16,7 +16,7 @@ use Rattle.language.specs.Meaning.{Fun, Env, in-range, is-zero, apply-unary, ap
 use Rattle.language.specs.Meaning.{settles, with-bounds, arguments, invoke, eval}
 use Rattle.language.proofs.Meaning.Spending.{while}
 use Rattle.language.proofs.Meaning.Turns.{for-from}
-use Rattle.layout.specs.Table.{OWN, FIRST, SECOND, THIRD, NEXT, token-value, row-word}
+use Rattle.layout.specs.Table.{FIRST, SECOND, THIRD, NEXT, token-value, row-word}
 use Rattle.layout.specs.Names.{Named}
 use Rattle.layout.specs.Rows.{CALL, unary-kind, binary-kind, range-kind}
 use Rattle.layout.specs.Slots.{TAGS, HELD, WAITING, key-at, value-at}
@@ -44,14 +44,13 @@ Then = M.Value → M.State → M.Outcome
 
 -- ---- bindings
 
--- the slots from slot `base` on, whose keys are L, the newest first, are the bindings env
+-- the slots from slot `base` on, which L names, the newest first, are the bindings env
 pub data Binds (ts : List Token) (w : List ℕ) (base : ℕ) : List ℕ → Env → Type 0 where
   binds-none : Binds ts w base [] empty
   binds-name : {n : ℕ} {x : Name} {L : List ℕ} {env : Env} {v : M.Value}
-      → Named ts n x → key-at w 0 (base + length L) ≡ n → value-at w 0 (base + length L) ≡ v → Binds ts w base L env
+      → Named ts n x → value-at w 0 (base + length L) ≡ v → Binds ts w base L env
       → Binds ts w base (n ∷ L) (push x v env)
-  binds-held : {L : List ℕ} {env : Env} → key-at w 0 (base + length L) ≡ HELD → Binds ts w base L env
-      → Binds ts w base (HELD ∷ L) env
+  binds-held : {L : List ℕ} {env : Env} → Binds ts w base L env → Binds ts w base (HELD ∷ L) env
 
 -- ---- frames
 
@@ -183,7 +182,6 @@ module _ (q : Run) (t w : List ℕ) (d row base mark n b : ℕ) (L : List ℕ) (
     pub x : Name
     pub f : Exp
     pub inside : row < NODES
-    pub own : row-word t row OWN ≡ i
     pub named : NameAt (q .ts) t (i + 1) x
     pub room : Roomy
     pub at : Tree (token-value t (i + 1) ∷ L) (row-word t row SECOND) f

@@ -11,12 +11,11 @@ ghost use Rattle.layout.specs.Slots.{SLOTS, TAGS};
 ghost use Rattle.layout.specs.Frames.{FRAMES, SIZES, put-frame};
 ghost use Rattle.runner.specs.Phases.{ARGUMENT};
 ghost use Rattle.runner.specs.Standing.{Starts, Resumes, Some, Goes, Any, Prints, LastOf};
-ghost use Rattle.runner.specs.Standing.{Printing, Keyed, Callable, Enters, Heads, callee, above, begun};
+ghost use Rattle.runner.specs.Standing.{Printing, Callable, Enters, Heads, callee, above, begun};
 use crate::loops;
 use crate::state;
 use crate::state::Next;
 use crate::state::Spot;
-use layout::HELD;
 use layout::NOBODY;
 use layout::SLOTS_AT;
 use layout::frames;
@@ -24,7 +23,6 @@ use layout::functions::Found;
 use layout::notes;
 use layout::rows;
 use layout::slots;
-use layout::token;
 use layout::values::Value;
 use machine::output;
 use machine::state::Outcome;
@@ -95,21 +93,7 @@ pub fn pass(
     state::begins(part, v, inner, s)
 }
 
-// The arguments, which lie in the slots from `base` on, get the names of the function's parameters.
-fn bind(table: &[u32], work: &mut [u32], head: usize, base: usize, n: usize)
-    requires { ⌜ Callable (now table) head n × (base + n ≤ SLOTS) × (WORK ≤ length (now work)) ⌝ }
-    ensures { λ _. ⌜ Keyed (now (table .entry)) (now (work .entry)) (now (work .exit)) head base n ⌝ }
-{
-    let mut i = 0;
-    while i < n {
-        let own = rows::link(table, head + 1 + i, rows::OWN);
-        let key = token::value(table, own);
-        slots::name(work, SLOTS_AT, base + i, key);
-        i += 1;
-    }
-}
-
-// The body begins, and sees the arguments alone.
+// The body begins, and sees the arguments alone, which lie in the first slots of its frame.
 fn enter(
     table: &[u32],
     work: &mut [u32],
@@ -119,8 +103,7 @@ fn enter(
     spot: Spot,
     s: Tally,
 ) -> Next
-    requires { ⌜ Callable (now table) head (row-word (now table) head ARITY) × (WORK ≤ length (now work))
-        × (spot .height < FRAMES) × (node < NODES)
+    requires { ⌜ Callable (now table) head × (WORK ≤ length (now work)) × (spot .height < FRAMES) × (node < NODES)
         × (spot .base + spot .size + row-word (now table) head ARITY ≤ SLOTS) ⌝ }
     ensures { λ r. ⌜ Enters (now (table .entry)) (now (work .entry)) (now (work .exit)) node head v spot s r ⌝ }
 {
@@ -130,7 +113,6 @@ fn enter(
     let count = rows::link(table, head, rows::ARITY);
     let body = rows::link(table, head, rows::BODY);
     frames::put(work, height, node, state::LAST, base, size, 0);
-    bind(table, work, head, base + size, count);
     let inner = Spot {
         base: base + size,
         size: count,
@@ -163,7 +145,7 @@ pub fn argument(
         return last_argument(table, work, out, v, node, k, spot, s);
     }
     let at = spot.base + spot.size + k;
-    slots::put(work, SLOTS_AT, at, HELD, v);
+    slots::put(work, SLOTS_AT, at, state::NAMELESS, v);
     pass(table, work, node, next, k + 1, v, spot, s)
 }
 
@@ -194,7 +176,7 @@ fn last_argument(
         Found::Nowhere => print(table, out, v, node, spot, s),
         Found::At(head) => {
             let at = spot.base + spot.size + k;
-            slots::put(work, SLOTS_AT, at, HELD, v);
+            slots::put(work, SLOTS_AT, at, state::NAMELESS, v);
             enter(table, work, head, node, v, spot, s)
         }
     }

@@ -60,6 +60,9 @@ pub const WHOLE: u32 = 11;
 // A pass of a `for`.
 pub const COUNTED: u32 = 12;
 
+// The key of every slot of a frame: which slot a name means is noted, so none is sought by its key.
+pub const NAMELESS: u32 = 0;
+
 pub fn begins(node: usize, value: Value, spot: Spot, tally: Tally) -> Next
     ensures { λ r. ⌜ r ≡ begun node value spot tally ⌝ }
 {
