@@ -24,6 +24,7 @@ module _ {w w′ : List ℕ} {P : Held} (n : Resolves w w′ P) where
     type = x .type;
     holds = n .holds (x .tokens) (x .program) (x .holds);
     typed = x .proper .typed;
+    resolved = n .resolved (x .tokens) (x .program) (x .holds) (x .proper .reads);
     long = x .long;
     allowed = x .allowed;
   }

@@ -123,7 +123,8 @@ module _ (first second : List ℕ) (f : Form) where
     told = λ edition l y g o m h.
         let p = subst (OfSource (origin-of first second f edition) w) z y in
         let H = n .holds (p .tokens) (p .program) (p .holds) in
-        let b = x .told (p .tokens) (p .program) (p .type) H (p .passes .proper .typed) in
+        let m′ = n .resolved (p .tokens) (p .program) (p .holds) (p .passes .proper .reads) in
+        let b = x .told (p .tokens) (p .program) (p .type) H (p .passes .proper .typed) m′ in
         record {
           printed = b .printed;
           ran =

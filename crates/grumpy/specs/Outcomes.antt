@@ -16,6 +16,7 @@ use Rattle.language.specs.Answers.{Origin, Proper, nowhere, at, ending, Lent, E
 use Rattle.numbers.specs.Meanings.{stop-meant}
 use Rattle.layout.specs.Table.{zeros}
 use Rattle.layout.specs.Values.{meant}
+use Rattle.layout.specs.Resolved.{Resolved}
 use Rattle.layout.specs.Decode.{Holds}
 use Rattle.layout.specs.declared.Held.{Held}
 use Rattle.sheets.specs.Forms.{origin-of, place-of}
@@ -47,7 +48,7 @@ pub record Told (m : Outcome) (allowance : ℕ) (out out′ : List ℕ) (r : End
   pub output : out′ ≡ printed ++ drop (length printed) out
 
 pub record Executed (table work out work′ out′ : List ℕ) (P : Held) (allowance : ℕ) (r : Ending) : Type 0 where
-  pub told : (ts : List Token) (p : Program) (t : Ty) → Holds ts table P p → HasType p t
+  pub told : (ts : List Token) (p : Program) (t : Ty) → Holds ts table P p → HasType p t → Resolved table p
       → Told (run p allowance (length out)) allowance out out′ r
   pub cleared : work′ ≡ zeros work 0 WORK
 
