@@ -1,1 +1,7 @@
+pub mod LinesRead
+pub mod NumbersRead
+pub mod ReadBack
+pub mod Rows
 pub mod Signs
+pub mod Taken
+pub mod Writable

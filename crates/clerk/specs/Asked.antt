@@ -16,140 +16,53 @@ use Rattle.clerk.specs.declared.asked.Word.{Word}
 
 -- ---- one word more, which is the word with the number i
 
-abbrev pub with-task : Asked → Task → Asked
-with-task a t =
+-- the fields in their order
+abbrev pub asks : Task → Turn → Count → (sheet second third report edition strange : ℕ) → Asked
+asks t u n s b c r e x =
     record {
       task = t;
-      turn = a .turn;
-      plain = a .plain;
-      sheet = a .sheet;
-      second = a .second;
-      third = a .third;
-      report = a .report;
-      edition = a .edition;
-      strange = a .strange;
+      turn = u;
+      plain = n;
+      sheet = s;
+      second = b;
+      third = c;
+      report = r;
+      edition = e;
+      strange = x;
     }
+
+abbrev pub with-task : Asked → Task → Asked
+with-task a t =
+    asks t (a .turn) (a .plain) (a .sheet) (a .second) (a .third) (a .report) (a .edition) (a .strange)
 
 abbrev pub with-turn : Asked → Turn → Asked
 with-turn a t =
-    record {
-      task = a .task;
-      turn = t;
-      plain = a .plain;
-      sheet = a .sheet;
-      second = a .second;
-      third = a .third;
-      report = a .report;
-      edition = a .edition;
-      strange = a .strange;
-    }
+    asks (a .task) t (a .plain) (a .sheet) (a .second) (a .third) (a .report) (a .edition) (a .strange)
 
 abbrev pub with-report : Asked → ℕ → Asked
 with-report a i =
-    record {
-      task = a .task;
-      turn = Turn.Meaning;
-      plain = a .plain;
-      sheet = a .sheet;
-      second = a .second;
-      third = a .third;
-      report = i;
-      edition = a .edition;
-      strange = a .strange;
-    }
+    asks (a .task) Turn.Meaning (a .plain) (a .sheet) (a .second) (a .third) i (a .edition) (a .strange)
 
 abbrev pub with-edition : Asked → ℕ → Asked
 with-edition a i =
-    record {
-      task = a .task;
-      turn = Turn.Meaning;
-      plain = a .plain;
-      sheet = a .sheet;
-      second = a .second;
-      third = a .third;
-      report = a .report;
-      edition = i;
-      strange = a .strange;
-    }
+    asks (a .task) Turn.Meaning (a .plain) (a .sheet) (a .second) (a .third) (a .report) i (a .strange)
 
 abbrev pub with-strange : Asked → ℕ → Asked
 with-strange a i =
-    record {
-      task = a .task;
-      turn = a .turn;
-      plain = a .plain;
-      sheet = a .sheet;
-      second = a .second;
-      third = a .third;
-      report = a .report;
-      edition = a .edition;
-      strange = i;
-    }
+    asks (a .task) (a .turn) (a .plain) (a .sheet) (a .second) (a .third) (a .report) (a .edition) i
 
 abbrev pub unasked : Asked
-unasked =
-    record {
-      task = Task.Pay;
-      turn = Turn.Meaning;
-      plain = Count.None;
-      sheet = 0;
-      second = 0;
-      third = 0;
-      report = 0;
-      edition = 0;
-      strange = 0;
-    }
+unasked = asks Task.Pay Turn.Meaning Count.None 0 0 0 0 0 0
+
+abbrev with-words : Asked → Count → (sheet second third : ℕ) → Asked
+with-words a n s b c = asks (a .task) (a .turn) n s b c (a .report) (a .edition) (a .strange)
 
 -- a word that means nothing by itself
 abbrev pub with-plain : Count → Asked → ℕ → Asked
-with-plain Count.None a i =
-    record {
-      task = a .task;
-      turn = a .turn;
-      plain = Count.One;
-      sheet = i;
-      second = a .second;
-      third = a .third;
-      report = a .report;
-      edition = a .edition;
-      strange = a .strange;
-    }
-with-plain Count.One a i =
-    record {
-      task = a .task;
-      turn = a .turn;
-      plain = Count.Two;
-      sheet = a .sheet;
-      second = i;
-      third = a .third;
-      report = a .report;
-      edition = a .edition;
-      strange = a .strange;
-    }
-with-plain Count.Two a i =
-    record {
-      task = a .task;
-      turn = a .turn;
-      plain = Count.Three;
-      sheet = a .sheet;
-      second = a .second;
-      third = i;
-      report = a .report;
-      edition = a .edition;
-      strange = a .strange;
-    }
-with-plain Count.Three a i =
-    record {
-      task = a .task;
-      turn = a .turn;
-      plain = Count.More;
-      sheet = a .sheet;
-      second = a .second;
-      third = a .third;
-      report = a .report;
-      edition = a .edition;
-      strange = a .strange;
-    }
+with-plain Count.None a i = with-words a Count.One i (a .second) (a .third)
+with-plain Count.One a i = with-words a Count.Two (a .sheet) i (a .third)
+with-plain Count.Two a i = with-words a Count.Three (a .sheet) (a .second) i
+with-plain Count.Three a i = with-words a Count.More (a .sheet) (a .second) (a .third)
 with-plain Count.More a i = a
 
 -- a word for a task asks for it where nothing was asked for before it, and is else a plain word
@@ -192,10 +105,27 @@ with-whole Task.Combine a i = with-strange a i
 with-whole Task.Help a i = a
 with-whole Task.Version a i = a
 
+abbrev pub with-combine : Task → Asked → ℕ → Asked
+with-combine Task.Shift a i = with-task a Task.Combine
+with-combine Task.Combine a i = a
+with-combine Task.Pay a i = with-strange a i
+with-combine Task.Check a i = with-strange a i
+with-combine Task.CheckWhole a i = with-strange a i
+with-combine Task.Run a i = with-strange a i
+with-combine Task.Write a i = with-strange a i
+with-combine Task.Store a i = with-strange a i
+with-combine Task.CheckStored a i = with-strange a i
+with-combine Task.RunStored a i = with-strange a i
+with-combine Task.Profile a i = with-strange a i
+with-combine Task.ProfileWhole a i = with-strange a i
+with-combine Task.Help a i = a
+with-combine Task.Version a i = a
+
 abbrev pub with-word : Asked → Word → ℕ → Asked
 with-word a (Word.Command t) i = with-command (a .plain) a t i
 with-word a (Word.Instead t) i = with-task a t
 with-word a Word.Whole i = with-whole (a .task) a i
+with-word a Word.Combine i = with-combine (a .task) a i
 with-word a Word.Report i = with-turn a Turn.Name
 with-word a Word.Edition i = with-turn a Turn.Edition
 with-word a Word.Rest i = with-turn a Turn.Plain
@@ -220,6 +150,8 @@ a-task Task.Store = true
 a-task Task.CheckStored = true
 a-task Task.RunStored = true
 a-task Task.Shift = true
+a-task Task.Profile = true
+a-task Task.ProfileWhole = true
 a-task Task.Combine = true
 a-task Task.Help = false
 a-task Task.Version = false
@@ -236,6 +168,7 @@ abbrev pub plain-if : Bool → Word → Bool
 plain-if begun (Word.Command t) = begun
 plain-if begun (Word.Instead t) = false
 plain-if begun Word.Whole = false
+plain-if begun Word.Combine = false
 plain-if begun Word.Report = false
 plain-if begun Word.Edition = false
 plain-if begun Word.Rest = false

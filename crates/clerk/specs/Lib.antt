@@ -4,6 +4,7 @@ pub mod Counts
 pub mod Ends
 pub mod Meanings
 pub mod Shifts
+pub mod Machines
 pub mod Told
 pub mod Values
 pub mod Readings

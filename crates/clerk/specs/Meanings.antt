@@ -31,7 +31,7 @@ CommandIs t Task.RunStored = t ≡ spell "run-stored"
 CommandIs t Task.Shift = t ≡ spell "shift"
 CommandIs t Task.Profile = t ≡ spell "profile"
 CommandIs t Task.ProfileWhole = ⊥
-CommandIs t Task.Combine = t ≡ spell "--combine"
+CommandIs t Task.Combine = ⊥
 CommandIs t Task.Help = t ≡ spell "--help"
 CommandIs t Task.Version = t ≡ spell "--version"
 
@@ -47,6 +47,7 @@ abbrev pub Means : List ℕ → Word → Type 0
 Means t (Word.Command k) = CommandIs t k
 Means t (Word.Instead k) = CommandIs t k
 Means t Word.Whole = t ≡ spell "--whole"
+Means t Word.Combine = t ≡ spell "--combine"
 Means t Word.Report = t ≡ spell "--report"
 Means t Word.Edition = t ≡ spell "--edition"
 Means t Word.Rest = t ≡ spell "--"

@@ -10,6 +10,7 @@ use Rattle.language.specs.Combining.{paid-lines, possible}
 use Rattle.language.specs.Sizes.{LINES}
 use Rattle.language.specs.Tokens.{spell}
 use Rattle.page.specs.Fields.{count-in, amount-named}
+use Rattle.page.specs.Lines.{feeds, behind}
 use Rattle.page.specs.declared.amounts.Amount.{Amount}
 use Rattle.page.specs.declared.amounts.Number.{Number}
 use Rattle.tally.specs.Stands.{report-in}
@@ -70,7 +71,12 @@ number-told t = count-in 99 (spell "number ") t
 unfoldable pub whole : Sums → Bool
 whole s = possible (report-in s) && eqb (paid-lines (report-in s)) (s .paid)
 
+-- As many lines as such a report has, and each has its end; that of parts together tells of no sheet and no allowance.
+-- Each of sixteen lines has its name, and a report that is cut, or stands behind another, has fewer or more.
+unfoldable pub full : List ℕ → Bool
+full t = eqb (behind t) 0 && (eqb (feeds t) 18 || eqb (feeds t) 20)
+
 pub record Reads (t : List ℕ) (r : Reading) : Type 0 where
-  pub good : r .good ≡ (is-told (number-told t) && whole (sums-told t))
+  pub good : r .good ≡ (full t && (is-told (number-told t) && whole (sums-told t)))
   pub over : r .over ≡ over-told (number-told t)
   pub sums : r .sums ≡ sums-told t

@@ -4,7 +4,7 @@
 ghost use mathlib.Core.Path.{_≡_};
 ghost use Rattle.clerk.specs.Asked.{unasked, with-task, with-turn, with-report};
 ghost use Rattle.clerk.specs.Asked.{with-edition, with-strange, with-plain, first-word, with-command};
-ghost use Rattle.clerk.specs.Asked.{with-whole, with-word, in-turn};
+ghost use Rattle.clerk.specs.Asked.{with-whole, with-combine, with-word, in-turn};
 
 // What is to be done.
 pub enum Task {
@@ -30,6 +30,7 @@ pub enum Word {
     // Asked for wherever it stands.
     Instead(Task),
     Whole,
+    Combine,
     Report,
     Edition,
     // No word behind it means anything by itself.
@@ -230,6 +231,29 @@ fn whole(asked: Asked, i: usize) -> Asked
     }
 }
 
+// `--combine` belongs to `shift`.
+fn combine(asked: Asked, i: usize) -> Asked
+    ensures { λ r. ⌜ r ≡ with-combine (asked .task) asked i ⌝ }
+{
+    let before = asked.task;
+    match before {
+        Task::Shift => tasked(asked, Task::Combine),
+        Task::Combine => asked,
+        Task::Pay => unknown(asked, i),
+        Task::Check => unknown(asked, i),
+        Task::CheckWhole => unknown(asked, i),
+        Task::Run => unknown(asked, i),
+        Task::Write => unknown(asked, i),
+        Task::Store => unknown(asked, i),
+        Task::CheckStored => unknown(asked, i),
+        Task::RunStored => unknown(asked, i),
+        Task::Profile => unknown(asked, i),
+        Task::ProfileWhole => unknown(asked, i),
+        Task::Help => asked,
+        Task::Version => asked,
+    }
+}
+
 fn meant(asked: Asked, word: Word, i: usize) -> Asked
     ensures { λ r. ⌜ r ≡ with-word asked word i ⌝ }
 {
@@ -237,6 +261,7 @@ fn meant(asked: Asked, word: Word, i: usize) -> Asked
         Word::Command(task) => command(asked, task, i),
         Word::Instead(task) => tasked(asked, task),
         Word::Whole => whole(asked, i),
+        Word::Combine => combine(asked, i),
         Word::Report => turned(asked, Turn::Name),
         Word::Edition => turned(asked, Turn::Edition),
         Word::Rest => turned(asked, Turn::Plain),

@@ -2,6 +2,7 @@
 ghost use Rattle.io.specs.Counts.{Counts};
 ghost use Rattle.page.specs.Text.{Adds};
 ghost use Rattle.layout.specs.Values.{meant};
+ghost use Rattle.clerk.specs.Machines.{number-line};
 ghost use Rattle.clerk.specs.Told.{name-words};
 ghost use Rattle.clerk.specs.Values.{value-lines};
 use crate::types;
@@ -23,6 +24,7 @@ pub fn name(out: &mut [u8], at: usize, file: &[u8]) -> usize
 // A name and a number.
 pub fn field(out: &mut [u8], at: usize, name: &[u8], n: u64) -> usize
     ensures { λ r. ⌜ Counts r (now (out .exit)) ⌝ }
+    ensures { λ r. ⌜ Adds (number-line (now (name .entry)) n) (now (out .entry)) (now (out .exit)) at r ⌝ }
 {
     let a = put(out, at, name);
     let b = put(out, a, b" ");

@@ -1,5 +1,13 @@
 // The report for machines: a name and a value on each line.
+ghost use mathlib.Core.Bool.{false};
+ghost use mathlib.Core.Path.{_≡_};
 ghost use Rattle.io.specs.Counts.{Counts};
+ghost use Rattle.numbers.specs.Meanings.{stop-meant};
+ghost use Rattle.page.specs.Text.{Adds};
+ghost use Rattle.tally.specs.Stands.{report-in};
+ghost use Rattle.clerk.specs.Machines.{sheet-line, well-lines, number-line, signed-line, first-lines};
+ghost use Rattle.clerk.specs.Machines.{second-lines, third-lines, stop-lines, count-lines, amount-lines};
+ghost use Rattle.clerk.specs.Machines.{shift-lines, together-lines, combined-lines};
 use crate::causes;
 use crate::causes::Cause;
 use crate::counts::Limits;
@@ -18,6 +26,7 @@ use tally::sums::Sums;
 
 fn sheet(out: &mut [u8], at: usize, file: &[u8]) -> usize
     ensures { λ r. ⌜ Counts r (now (out .exit)) ⌝ }
+    ensures { λ r. ⌜ Adds (sheet-line (now (file .entry))) (now (out .entry)) (now (out .exit)) at r ⌝ }
 {
     let a = put(out, at, b"sheet ");
     let b = fields::name(out, a, file);
@@ -26,6 +35,7 @@ fn sheet(out: &mut [u8], at: usize, file: &[u8]) -> usize
 
 fn well(out: &mut [u8], at: usize) -> usize
     ensures { λ r. ⌜ Counts r (now (out .exit)) ⌝ }
+    ensures { λ r. ⌜ Adds well-lines (now (out .entry)) (now (out .exit)) at r ⌝ }
 {
     put(out, at, b"number 0\nmeaning all is well\n")
 }
@@ -147,6 +157,7 @@ pub fn report(
 // A name and a number that may be below 0.
 fn amount(out: &mut [u8], at: usize, name: &[u8], n: i64) -> usize
     ensures { λ r. ⌜ Counts r (now (out .exit)) ⌝ }
+    ensures { λ r. ⌜ Adds (signed-line (now (name .entry)) n) (now (out .entry)) (now (out .exit)) at r ⌝ }
 {
     let a = put(out, at, name);
     let b = put(out, a, b" ");
@@ -157,6 +168,9 @@ fn amount(out: &mut [u8], at: usize, name: &[u8], n: i64) -> usize
 // How many lines came to a stop; those that came to none are told too.
 fn stop(out: &mut [u8], at: usize, name: &[u8], sums: Sums, why: Stop) -> usize
     ensures { λ r. ⌜ Counts r (now (out .exit)) ⌝ }
+    ensures { λ r.
+        ⌜ Adds (number-line (now (name .entry)) (report-in sums .stops (stop-meant why))) (now (out .entry))
+        (now (out .exit)) at r ⌝ }
 {
     let lines = shifts::stopped(sums, why);
     field(out, at, name, lines as u64)
@@ -165,6 +179,7 @@ fn stop(out: &mut [u8], at: usize, name: &[u8], sums: Sums, why: Stop) -> usize
 // The stops from 50, from 53 and from 56 on.
 fn first_stops(out: &mut [u8], at: usize, sums: Sums) -> usize
     ensures { λ r. ⌜ Counts r (now (out .exit)) ⌝ }
+    ensures { λ r. ⌜ Adds (first-lines (sums .stops)) (now (out .entry)) (now (out .exit)) at r ⌝ }
 {
     let a = stop(out, at, b"stopped-50", sums, Stop::NoUnit);
     let b = stop(out, a, b"stopped-51", sums, Stop::TooDeep);
@@ -173,6 +188,7 @@ fn first_stops(out: &mut [u8], at: usize, sums: Sums) -> usize
 
 fn second_stops(out: &mut [u8], at: usize, sums: Sums) -> usize
     ensures { λ r. ⌜ Counts r (now (out .exit)) ⌝ }
+    ensures { λ r. ⌜ Adds (second-lines (sums .stops)) (now (out .entry)) (now (out .exit)) at r ⌝ }
 {
     let a = stop(out, at, b"stopped-53", sums, Stop::ZeroDivisor);
     let b = stop(out, a, b"stopped-54", sums, Stop::CellFreed);
@@ -181,6 +197,7 @@ fn second_stops(out: &mut [u8], at: usize, sums: Sums) -> usize
 
 fn third_stops(out: &mut [u8], at: usize, sums: Sums) -> usize
     ensures { λ r. ⌜ Counts r (now (out .exit)) ⌝ }
+    ensures { λ r. ⌜ Adds (third-lines (sums .stops)) (now (out .entry)) (now (out .exit)) at r ⌝ }
 {
     let a = stop(out, at, b"stopped-56", sums, Stop::NotAByte);
     let b = stop(out, a, b"stopped-57", sums, Stop::OutputFull);
@@ -189,6 +206,7 @@ fn third_stops(out: &mut [u8], at: usize, sums: Sums) -> usize
 
 fn stops(out: &mut [u8], at: usize, sums: Sums) -> usize
     ensures { λ r. ⌜ Counts r (now (out .exit)) ⌝ }
+    ensures { λ r. ⌜ Adds (stop-lines (sums .stops)) (now (out .entry)) (now (out .exit)) at r ⌝ }
 {
     let a = first_stops(out, at, sums);
     let b = second_stops(out, a, sums);
@@ -197,6 +215,7 @@ fn stops(out: &mut [u8], at: usize, sums: Sums) -> usize
 
 fn counts(out: &mut [u8], at: usize, sums: Sums) -> usize
     ensures { λ r. ⌜ Counts r (now (out .exit)) ⌝ }
+    ensures { λ r. ⌜ Adds (count-lines sums) (now (out .entry)) (now (out .exit)) at r ⌝ }
 {
     let a = field(out, at, b"lines", sums.lines as u64);
     let b = field(out, a, b"bad", sums.bad as u64);
@@ -206,6 +225,7 @@ fn counts(out: &mut [u8], at: usize, sums: Sums) -> usize
 
 fn amounts(out: &mut [u8], at: usize, sums: Sums) -> usize
     ensures { λ r. ⌜ Counts r (now (out .exit)) ⌝ }
+    ensures { λ r. ⌜ Adds (amount-lines sums) (now (out .entry)) (now (out .exit)) at r ⌝ }
 {
     let a = amount(out, at, b"sum", sums.sum);
     let b = amount(out, a, b"least", sums.least);
@@ -215,6 +235,7 @@ fn amounts(out: &mut [u8], at: usize, sums: Sums) -> usize
 // Whether all is well: `over` where there was a line too many.
 fn outcome(out: &mut [u8], at: usize, over: bool) -> usize
     ensures { λ r. ⌜ Counts r (now (out .exit)) ⌝ }
+    ensures { λ r. ⌜ (over ≡ false → Adds well-lines (now (out .entry)) (now (out .exit)) at r) ⌝ }
 {
     if over {
         return meaning(out, at, Cause::ManyLines);
@@ -232,6 +253,9 @@ pub fn shift(
     sums: Sums,
 ) -> usize
     ensures { λ r. ⌜ Counts r (now (out .exit)) ⌝ }
+    ensures { λ r.
+        ⌜ (over ≡ false → Adds (shift-lines status (now (file .entry)) allowance sums) (now (out .entry))
+        (now (out .exit)) 0 r) ⌝ }
 {
     let a = field(out, 0, b"status", status as u64);
     let b = sheet(out, a, file);
@@ -244,6 +268,7 @@ pub fn shift(
 // Whether all is well with parts together.
 fn together(out: &mut [u8], at: usize, over: bool) -> usize
     ensures { λ r. ⌜ Counts r (now (out .exit)) ⌝ }
+    ensures { λ r. ⌜ Adds (together-lines over) (now (out .entry)) (now (out .exit)) at r ⌝ }
 {
     if over {
         return put(
@@ -259,6 +284,7 @@ fn together(out: &mut [u8], at: usize, over: bool) -> usize
 // the parts can.
 pub fn combined(out: &mut [u8], status: u32, over: bool, sums: Sums) -> usize
     ensures { λ r. ⌜ Counts r (now (out .exit)) ⌝ }
+    ensures { λ r. ⌜ Adds (combined-lines status over sums) (now (out .entry)) (now (out .exit)) 0 r ⌝ }
 {
     let a = field(out, 0, b"status", status as u64);
     let b = together(out, a, over);

@@ -26,14 +26,14 @@ fn option(text: &[u8]) -> Word
     if same(text, b"--whole") {
         return Word::Whole;
     }
+    if same(text, b"--combine") {
+        return Word::Combine;
+    }
     if same(text, b"--report") {
         return Word::Report;
     }
     if same(text, b"--edition") {
         return Word::Edition;
-    }
-    if same(text, b"--combine") {
-        return Word::Instead(Task::Combine);
     }
     if same(text, b"--help") {
         return Word::Instead(Task::Help);

@@ -1,12 +1,15 @@
 // The report of a shift for machines, read again.
-ghost use mathlib.Core.Bool.{_||_};
+ghost use mathlib.Core.Bool.{_&&_, _||_};
 ghost use mathlib.Core.Path.{_≡_};
 ghost use lib.Dec.{eqb};
-ghost use Rattle.clerk.specs.Readings.{count-told, amount-told, nine-told, sums-told, is-told, over-told, whole, Reads};
+ghost use Rattle.clerk.specs.Readings.{count-told, amount-told, nine-told, sums-told, is-told, over-told};
+ghost use Rattle.clerk.specs.Readings.{whole, full, Reads};
 use page::Amount;
 use page::Number;
 use page::amount;
 use page::count;
+use page::lines::feeds_before;
+use page::lines::line_start;
 use tally::LINES;
 use tally::combining;
 use tally::sums::Sums;
@@ -113,22 +116,52 @@ fn is_whole(sums: Sums) -> bool
     false
 }
 
+// As many lines as such a report has: that of parts together tells of no sheet and no allowance.
+fn is_length(lines: usize) -> bool
+    ensures { λ r. ⌜ r ≡ (eqb lines 18 || eqb lines 20) ⌝ }
+{
+    if lines == 18 {
+        return true;
+    }
+    lines == 20
+}
+
+// No line is missing, none is there twice, and the last has its end: a report that was cut, or one behind another, is
+// none.
+fn is_full(text: &[u8]) -> bool
+    ensures { λ r. ⌜ r ≡ full (now (text .entry)) ⌝ }
+{
+    let n = text.len();
+    let last = line_start(text, n);
+    let lines = feeds_before(text, n);
+    if last == n {
+        return is_length(lines);
+    }
+    false
+}
+
+fn all(full: bool, told: bool, whole: bool) -> bool
+    ensures { λ r. ⌜ r ≡ (full && (told && whole)) ⌝ }
+{
+    if full {
+        if told {
+            return whole;
+        }
+    }
+    false
+}
+
 pub fn read(text: &[u8]) -> Reading
     ensures { λ r. ⌜ Reads (now (text .entry)) r ⌝ }
 {
     let number = count(text, b"number ", NUMBERS);
-    let over = over_told(number);
     let sums = sums_of(text);
-    if is_told(number) {
-        return Reading {
-            good: is_whole(sums),
-            over,
-            sums,
-        };
-    }
+    let full = is_full(text);
+    let told = is_told(number);
+    let whole = is_whole(sums);
     Reading {
-        good: false,
-        over,
+        good: all(full, told, whole),
+        over: over_told(number),
         sums,
     }
 }

@@ -1,8 +1,10 @@
 // The words that the program is started with.
+use crate::input;
 use clerk::asked;
 use clerk::asked::Asked;
 use clerk::asked::Word;
 use clerk::meanings;
+use clerk::tasks;
 
 // What a word means by itself.
 pub fn meaning(i: usize) -> Word {
@@ -30,4 +32,28 @@ pub fn read() -> Asked {
         i += 1;
     }
     asked
+}
+
+fn is_same(plain: bool, word: usize, other: usize) -> bool {
+    if plain {
+        return input::same(word, other);
+    }
+    false
+}
+
+// Is this word there as a plain one, too? Of those there may be more than were kept.
+pub fn is_plain(other: usize) -> bool {
+    let count = os::arg_count();
+    let mut asked = asked::nothing();
+    let mut i = 1;
+    while i < count {
+        let word = meaning(i);
+        let plain = tasks::is_plain(asked, word);
+        if is_same(plain, i, other) {
+            return true;
+        }
+        asked = asked::take(asked, word, i);
+        i += 1;
+    }
+    false
 }

@@ -2,7 +2,6 @@
 use crate::arguments;
 use crate::input;
 use crate::input::Sheet;
-use crate::output;
 use crate::reports;
 use clerk::asked;
 use clerk::asked::Asked;
@@ -13,19 +12,16 @@ use shift::Ending;
 use shift::Finished;
 use tally::sums;
 
-// What the reports so far come to, whether all could be read, and whether none of them is the file to be written.
+// What the reports so far come to, and whether all could be read; where one could not, that was told.
 struct Total {
     read: bool,
-    apart: bool,
     all: Finished,
 }
 
-fn unread(all: Finished) -> Total {
-    Total {
-        read: false,
-        apart: true,
-        all,
-    }
+// The file that a word names is no report of a shift.
+fn strange(word: usize, all: Finished) -> Total {
+    input::no_report(word);
+    Total { read: false, all }
 }
 
 // What was read of the file that a word names, told with those before it.
@@ -39,42 +35,33 @@ fn added(word: usize, reading: Reading, all: Finished) -> Total {
         let both = shift::combine(all, part);
         return Total {
             read: true,
-            apart: true,
             all: both,
         };
     }
-    input::no_report(word);
-    unread(all)
+    strange(word, all)
 }
 
-// Reads the report that this word names.
+// Reads the report that this word names. No report has as many bytes as there is room for, and a part of a file is not
+// read as one.
 fn add(word: usize, all: Finished) -> Total {
     let mut bytes = io::large_buffer();
     let Sheet::Bytes(length) = input::load(word, &mut bytes) else {
-        return unread(all);
+        return Total { read: false, all };
     };
     let n = input::within(length, &bytes);
-    let reading = readings::read(&bytes[..n]);
-    added(word, reading, all)
-}
-
-// A report that is the file to be written is not read.
-fn next(word: usize, report: usize, all: Finished) -> Total {
-    if input::same(word, report) {
-        return Total {
-            read: false,
-            apart: false,
-            all,
-        };
+    if n < bytes.len() {
+        let reading = readings::read(&bytes[..n]);
+        return added(word, reading, all);
     }
-    add(word, all)
+    strange(word, all)
 }
 
 // Takes a word that is a plain one, if all before it could be read.
-fn step(total: Total, plain: bool, word: usize, report: usize) -> Total {
+fn step(total: Total, plain: bool, word: usize) -> Total {
     if plain {
         if total.read {
-            return next(word, report, total.all);
+            let all = total.all;
+            return add(word, all);
         }
     }
     total
@@ -87,22 +74,18 @@ fn none() -> Total {
         told: Ending::Report { over: false },
         sums,
     };
-    Total {
-        read: true,
-        apart: true,
-        all,
-    }
+    Total { read: true, all }
 }
 
 // Goes through the words again: there may be more reports than were kept of them.
-fn total(report: usize) -> Total {
+fn total() -> Total {
     let count = os::arg_count();
     let mut asked = asked::nothing();
     let mut total = none();
     let mut i = 1;
     while i < count {
         let word = arguments::meaning(i);
-        total = step(total, tasks::is_plain(asked, word), i, report);
+        total = step(total, tasks::is_plain(asked, word), i);
         asked = asked::take(asked, word, i);
         i += 1;
     }
@@ -112,20 +95,18 @@ fn total(report: usize) -> Total {
 // That a part is refused otherwise than for its lines does not come: such a report has no sums, and is not read.
 fn tell(asked: Asked, all: Finished) -> u32 {
     let told = all.told;
+    let sums = all.sums;
     match told {
-        Ending::Report { over } => reports::combined(asked, over, all.sums),
+        Ending::Report { over } => reports::combined(asked, over, sums),
         Ending::Refused(_) => reports::failed(asked),
     }
 }
 
 pub fn combine(asked: Asked) -> u32 {
-    let total = total(asked.report);
+    let total = total();
+    let all = total.all;
     if total.read {
-        return tell(asked, total.all);
+        return tell(asked, all);
     }
-    if total.apart {
-        return reports::failed(asked);
-    }
-    output::tell(b"slip: --report names one of the reports\n");
-    2
+    reports::failed(asked)
 }

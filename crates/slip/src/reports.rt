@@ -1,4 +1,5 @@
 // The two reports, written.
+use crate::arguments;
 use crate::output;
 use clerk::asked::Asked;
 use clerk::causes::Cause;
@@ -41,9 +42,11 @@ fn keep(asked: Asked, text: &[u8]) -> bool {
     write(&file[..length], text)
 }
 
-// Something was wrong before any sheet was looked at; it was told.
+// Something was wrong before any sheet was looked at; it was told. What was to be read is not written over.
 pub fn failed(asked: Asked) -> u32 {
-    keep(asked, b"status 2\n");
+    if !arguments::is_plain(asked.report) {
+        keep(asked, b"status 2\n");
+    }
     2
 }
 

@@ -1,4 +1,5 @@
 // What is done for each task: one function each, which answers the status, and one row in `serve`.
+use crate::arguments;
 use crate::combining;
 use crate::help;
 use crate::input;
@@ -223,13 +224,36 @@ fn unclear(asked: Asked, text: &[u8]) -> u32 {
     reports::failed(asked)
 }
 
+// Says a text where it is so.
+fn told_if(so: bool, text: &[u8]) -> bool {
+    if so {
+        output::tell(text);
+    }
+    so
+}
+
+// Is the file that is to be written one that is to be read? Then that is told.
+fn is_read(asked: Asked) -> bool {
+    let task = asked.task;
+    let report = asked.report;
+    match task {
+        Task::Combine => told_if(
+            arguments::is_plain(report),
+            b"slip: --report names one of the reports\n",
+        ),
+        _ => told_if(
+            input::same(asked.sheet, report),
+            b"slip: --report names the sheet itself\n",
+        ),
+    }
+}
+
 pub fn serve(asked: Asked) -> u32 {
     if asked.strange != 0 {
         input::strange(asked.strange);
         return reports::failed(asked);
     }
-    if input::same(asked.sheet, asked.report) {
-        output::tell(b"slip: --report names the sheet itself\n");
+    if is_read(asked) {
         return 2;
     }
     let Number::Of(edition) = input::edition(asked) else {

@@ -75,8 +75,14 @@ plain-requires-10 c κs = search needs
 enum-told-12 : tie.Need-enum-told-12
 enum-told-12 c = search needs
 
+plain-requires-11 : tie.Need-plain-requires-11
+plain-requires-11 c κs = search needs
+
 enum-told-13 : tie.Need-enum-told-13
 enum-told-13 c = search needs
+
+enum-told-14 : tie.Need-enum-told-14
+enum-told-14 c = search needs
 
 returns : tie.Need-returns
 returns c = rw (c .before .enum-told .given .1) (c .tasked .ensures)
@@ -133,13 +139,18 @@ returns-11 c =
 
 returns-12 : tie.Need-returns-12
 returns-12 c =
-    let a = c .before .before .args in
-    ap (λ (x : Task). first-word x (a .asked) (a .task) (a .i)) (sym (c .enum-told12 .given .1))
+    let a = c .before .before .before .args in
+    c .plain11 .ensures ∙ ap (λ (x : Task). first-word x (a .asked) (a .task) (a .i)) (sym (c .before .enum-told12 .given .1))
 
 returns-13 : tie.Need-returns-13
 returns-13 c =
     let a = c .before .before .args in
     ap (λ (x : Task). first-word x (a .asked) (a .task) (a .i)) (sym (c .enum-told13 .given .1))
+
+returns-14 : tie.Need-returns-14
+returns-14 c =
+    let a = c .before .before .args in
+    ap (λ (x : Task). first-word x (a .asked) (a .task) (a .i)) (sym (c .enum-told14 .given .1))
 
 pub first-spec : {M : Type 1} → statement M
 first-spec =
@@ -168,7 +179,9 @@ first-spec =
     enum-told-11
     plain-requires-10
     enum-told-12
+    plain-requires-11
     enum-told-13
+    enum-told-14
     returns
     returns-2
     returns-3
@@ -181,4 +194,5 @@ first-spec =
     returns-10
     returns-11
     returns-12
-    returns-13)
+    returns-13
+    returns-14)

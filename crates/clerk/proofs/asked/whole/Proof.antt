@@ -69,8 +69,14 @@ enum-told-11 c = search needs
 enum-told-12 : tie.Need-enum-told-12
 enum-told-12 c = search needs
 
+unknown-requires-8 : tie.Need-unknown-requires-8
+unknown-requires-8 c κs = search needs
+
 enum-told-13 : tie.Need-enum-told-13
 enum-told-13 c = search needs
+
+enum-told-14 : tie.Need-enum-told-14
+enum-told-14 c = search needs
 
 returns : tie.Need-returns
 returns c = rw (c .before .enum-told .given .1) (c .tasked .ensures)
@@ -120,10 +126,15 @@ returns-11 : tie.Need-returns-11
 returns-11 c = search needs
 
 returns-12 : tie.Need-returns-12
-returns-12 c = search needs
+returns-12 c =
+    let a = c .before .before .before .args in
+    c .unknown8 .ensures ∙ ap (λ (x : Task). with-whole x (a .asked) (a .i)) (sym (c .before .enum-told12 .given .1))
 
 returns-13 : tie.Need-returns-13
 returns-13 c = search needs
+
+returns-14 : tie.Need-returns-14
+returns-14 c = search needs
 
 pub whole-spec : {M : Type 1} → statement M
 whole-spec =
@@ -150,7 +161,9 @@ whole-spec =
     tasked-requires-2
     enum-told-11
     enum-told-12
+    unknown-requires-8
     enum-told-13
+    enum-told-14
     returns
     returns-2
     returns-3
@@ -163,4 +176,5 @@ whole-spec =
     returns-10
     returns-11
     returns-12
-    returns-13)
+    returns-13
+    returns-14)

@@ -58,21 +58,31 @@ same-requires-6 c κs = search needs
 returns-6 : tie.Need-returns-6
 returns-6 c = c .before .same6 .ensures .0 (c .if6 .taken)
 
+slice-aggregate-same-7 : tie.Need-slice-aggregate-same-7
+slice-aggregate-same-7 c = search needs
+
+same-requires-7 : tie.Need-same-requires-7
+same-requires-7 c κs = search needs
+
+returns-7 : tie.Need-returns-7
+returns-7 c = c .before .same7 .ensures .0 (c .if7 .taken)
+
 is-option-requires : tie.Need-is-option-requires
 is-option-requires c κs = search needs
 
-returns-7 : tie.Need-returns-7
-returns-7 c = sym (c .before .is-option .ensures) ∙ (c .if7 .taken)
-
 returns-8 : tie.Need-returns-8
-returns-8 c =
+returns-8 c = sym (c .before .is-option .ensures) ∙ (c .if8 .taken)
+
+returns-9 : tie.Need-returns-9
+returns-9 c =
     let at-rest = c .before .before in
     let at-version = at-rest .before .before .before in
     let at-help = at-version .before .before .before in
     let at-edition = at-help .before .before .before in
     let at-report = at-edition .before .before .before in
-    let at-whole = at-report .before .before .before in
-    (at-whole .before .before .before .before .pre, sym (c .before .is-option .ensures) ∙ (c .if7 .left))
+    let at-combine = at-report .before .before .before in
+    let at-whole = at-combine .before .before .before in
+    (at-whole .before .before .before .before .pre, sym (c .before .is-option .ensures) ∙ (c .if8 .left))
 
 pub option-spec : {M : Type 1} → statement M
 option-spec =
@@ -96,6 +106,9 @@ option-spec =
     slice-aggregate-same-6
     same-requires-6
     returns-6
-    is-option-requires
+    slice-aggregate-same-7
+    same-requires-7
     returns-7
-    returns-8)
+    is-option-requires
+    returns-8
+    returns-9)

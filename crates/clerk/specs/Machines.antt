@@ -1,0 +1,87 @@
+-- The report of a shift for machines: a name and a value on each line.
+use lib.IntN.{ℤ}
+use lib.ListN.{getD}
+use mathlib.Core.Bool.{Bool, true, false}
+use mathlib.Core.List.{List, [], _∷_, _++_}
+use Prim.Native.Nat.{ℕ}
+use Rattle.language.specs.Tokens.{spell}
+use Rattle.page.specs.Text.{decimal-of}
+use Rattle.tally.specs.declared.sums.Sums.{Sums}
+use Rattle.clerk.specs.Told.{name-words}
+use Rattle.clerk.specs.Values.{signed-words}
+
+-- a name, a blank, and the value
+abbrev pub value-line : (name value : List ℕ) → List ℕ
+value-line name value = name ++ spell " " ++ value ++ spell "\n"
+
+unfoldable pub number-line : (name : List ℕ) → ℕ → List ℕ
+number-line name n = value-line name (decimal-of n)
+
+unfoldable pub signed-line : (name : List ℕ) → ℤ → List ℕ
+signed-line name z = value-line name (signed-words z)
+
+unfoldable pub sheet-line : (file : List ℕ) → List ℕ
+sheet-line file = spell "sheet " ++ name-words file ++ spell "\n"
+
+unfoldable pub well-lines : List ℕ
+well-lines = spell "number 0\nmeaning all is well\n"
+
+-- ---- the sums
+
+unfoldable pub first-lines : List ℕ → List ℕ
+first-lines n =
+    number-line (spell "stopped-50") (getD n 0 0)
+    ++ number-line (spell "stopped-51") (getD n 1 0)
+    ++ number-line (spell "stopped-52") (getD n 2 0)
+
+unfoldable pub second-lines : List ℕ → List ℕ
+second-lines n =
+    number-line (spell "stopped-53") (getD n 3 0)
+    ++ number-line (spell "stopped-54") (getD n 4 0)
+    ++ number-line (spell "stopped-55") (getD n 5 0)
+
+unfoldable pub third-lines : List ℕ → List ℕ
+third-lines n =
+    number-line (spell "stopped-56") (getD n 6 0)
+    ++ number-line (spell "stopped-57") (getD n 7 0)
+    ++ number-line (spell "stopped-58") (getD n 8 0)
+
+unfoldable pub stop-lines : List ℕ → List ℕ
+stop-lines n = first-lines n ++ second-lines n ++ third-lines n
+
+unfoldable pub count-lines : Sums → List ℕ
+count-lines s =
+    number-line (spell "lines") (s .lines)
+    ++ number-line (spell "bad") (s .bad)
+    ++ stop-lines (s .stops)
+    ++ number-line (spell "paid") (s .paid)
+
+unfoldable pub amount-lines : Sums → List ℕ
+amount-lines s =
+    signed-line (spell "sum") (s .sum)
+    ++ signed-line (spell "least") (s .least)
+    ++ signed-line (spell "largest") (s .largest)
+
+-- ---- the whole
+
+-- of a shift with no line too many
+unfoldable pub shift-lines : (status : ℕ) (file : List ℕ) (allowance : ℕ) → Sums → List ℕ
+shift-lines status file allowance s =
+    number-line (spell "status") status
+    ++ sheet-line file
+    ++ well-lines
+    ++ number-line (spell "allowance") allowance
+    ++ count-lines s
+    ++ amount-lines s
+
+-- whether there are too many lines together
+unfoldable pub together-lines : Bool → List ℕ
+together-lines true = spell "number 46\nmeaning more than 65536 lines together, and so no sums\n"
+together-lines false = well-lines
+
+unfoldable pub combined-lines : (status : ℕ) (over : Bool) → Sums → List ℕ
+combined-lines status over s =
+    number-line (spell "status") status
+    ++ together-lines over
+    ++ count-lines s
+    ++ amount-lines s
