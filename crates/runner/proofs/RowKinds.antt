@@ -155,10 +155,11 @@ clash-still p t f = clash-bool (ap waits (sym p) ∙ t) f
 
 -- ---- operators, told by their kinds alone
 
--- a node of this kind waits in this phase for its first part, and is no name, call or `for`
+-- a node of this kind waits in this phase for its first part, and is no name, call, Block or `for`
 pub record Plain (k p : ℕ) : Type 0 where
   pub no-name : k ≡ NAME → ⊥
   pub no-call : k ≡ CALL → ⊥
+  pub no-block : k ≡ LBRACE → ⊥
   pub no-for : counts k ≡ false
   pub waits-for : waits k ≡ true
   pub phase-is : p ≡ phase-of k
@@ -219,6 +220,7 @@ operator-plain k e =
     record {
       no-name = λ z. omega arith;
       no-call = λ z. omega arith;
+      no-block = λ z. omega arith;
       no-for = no-range k (λ z. omega arith) (λ z. omega arith);
       waits-for = mark-waits k l (λ z. omega arith);
       phase-is = between-phase k l h;
@@ -228,6 +230,7 @@ pub prefix-plain : (k : ℕ) → PREFIX ≤ k → Plain k UNARY
 prefix-plain k l = record {
   no-name = λ z. omega arith;
   no-call = λ z. omega arith;
+  no-block = λ z. omega arith;
   no-for = no-range k (λ z. omega arith) (λ z. omega arith);
   waits-for = mark-waits k (omega arith) (λ z. omega arith);
   phase-is = before-phase k l;

@@ -6,7 +6,7 @@ use mathlib.Core.Option.{none, some}
 use Prim.Native.Nat.{ℕ, _+_, _*_, _≤_, _<_}
 use native.Mathlib.Omega.{arith}
 use Rattle.language.specs.Sizes.{TOKENS, NODES, ACTIVE}
-use Rattle.language.specs.Tokens.{NAME, NUMBER}
+use Rattle.language.specs.Tokens.{NAME, NUMBER, LBRACE}
 use Rattle.language.specs.Meaning.{literal-value}
 use Rattle.layout.specs.Table.{KIND, OWN, FIRST, EXPRESSION, ARITY, row-word}
 use Rattle.layout.specs.Rows.{PREFIX, CALL}
@@ -63,29 +63,29 @@ module _ {t w : List ℕ} {node : ℕ} {p : Spot} {s : Tally} where
   module _ {kind : ℕ} (k : kind ≡ row-word t node KIND) where
     -- it waits for its first part
     pub starts-waits : (kind ≡ NAME → ⊥) → (kind ≡ CALL → ⊥) → {a : Bool} → a ≡ counts kind → a ≡ false → {b : Bool} → b ≡ waits kind
-        → b ≡ true → {phase first : ℕ} → phase ≡ phase-of kind → first ≡ row-word t node FIRST → (v : Value) {w1 : List ℕ} {r : Next}
-        → w1 ≡ put-frame w (p .height) node phase (p .base) (p .size) (s .cells)
+        → b ≡ true → {phase first mark : ℕ} → phase ≡ phase-of kind → first ≡ row-word t node FIRST → (kind ≡ LBRACE → mark ≡ s .cells)
+        → (v : Value) {w1 : List ℕ} {r : Next} → w1 ≡ put-frame w (p .height) node phase (p .base) (p .size) mark
         → r ≡ begun first v (above (p .base) (p .size) p) s → Goes (Started t w node p s) t w1 (3 * s .units + p .height + 3) r
-    starts-waits n c i j e f g h v x y =
-        goes-to (x ∙ ap (λ (z : ℕ). put-frame w (p .height) node z (p .base) (p .size) (s .cells)) (g ∙ ap phase-of k))
+    starts-waits n c i j e f {mark = mark} g h live v x y =
+        goes-to (x ∙ ap (λ (z : ℕ). put-frame w (p .height) node z (p .base) (p .size) mark) (g ∙ ap phase-of k))
         (y ∙ ap (λ (z : ℕ). begun z v (above (p .base) (p .size) p) s) h)
-        (λ q o b. start-waits b (λ z. n (k ∙ z)) (λ z. c (k ∙ z)) (ap counts (sym k) ∙ sym i ∙ j) (ap waits (sym k) ∙ sym e ∙ f))
+        (λ q o b. start-waits b (λ z. n (k ∙ z)) (λ z. c (k ∙ z)) (ap counts (sym k) ∙ sym i ∙ j) (ap waits (sym k) ∙ sym e ∙ f) mark (λ z. live (k ∙ z)))
         (omega arith)
 
     -- it is an operator, which waits for its first operand
     starts-operand : {phase : ℕ} → Plain kind phase → {first : ℕ} → first ≡ row-word t node FIRST → (v : Value) {w1 : List ℕ} {r : Next}
-        → w1 ≡ put-frame w (p .height) node phase (p .base) (p .size) (s .cells)
+        → w1 ≡ put-frame w (p .height) node phase (p .base) (p .size) 0
         → r ≡ begun first v (above (p .base) (p .size) p) s → Goes (Started t w node p s) t w1 (3 * s .units + p .height + 3) r
     starts-operand x h v y z =
-        starts-waits (x .no-name) (x .no-call) (sym (x .no-for)) refl (sym (x .waits-for)) refl (x .phase-is) h v y z
+        starts-waits (x .no-name) (x .no-call) (sym (x .no-for)) refl (sym (x .waits-for)) refl (x .phase-is) h (λ w. absurd (x .no-block w)) v y z
 
     pub starts-operator : {b : Bool} → b ≡ operates kind → b ≡ true → {first : ℕ} → first ≡ row-word t node FIRST → (v : Value) {w1 : List ℕ}
-        {r : Next} → w1 ≡ put-frame w (p .height) node LEFT (p .base) (p .size) (s .cells)
+        {r : Next} → w1 ≡ put-frame w (p .height) node LEFT (p .base) (p .size) 0
         → r ≡ begun first v (above (p .base) (p .size) p) s → Goes (Started t w node p s) t w1 (3 * s .units + p .height + 3) r
     starts-operator e f h v y z = starts-operand (operator-plain kind (sym e ∙ f)) h v y z
 
     pub starts-prefix : PREFIX ≤ kind → {first : ℕ} → first ≡ row-word t node FIRST → (v : Value) {w1 : List ℕ} {r : Next}
-        → w1 ≡ put-frame w (p .height) node UNARY (p .base) (p .size) (s .cells)
+        → w1 ≡ put-frame w (p .height) node UNARY (p .base) (p .size) 0
         → r ≡ begun first v (above (p .base) (p .size) p) s → Goes (Started t w node p s) t w1 (3 * s .units + p .height + 3) r
     starts-prefix l h v y z = starts-operand (prefix-plain kind l) h v y z
 

@@ -129,11 +129,11 @@ fn start(table: &[u32], work: &mut [u32], node: usize, v: Value, spot: Spot, s: 
     }
     if operates(kind) {
         let left = rows::link(table, node, rows::FIRST);
-        return wait(work, node, state::LEFT, left, v, spot, s);
+        return wait(work, node, state::LEFT, 0, left, v, spot, s);
     }
     if rows::PREFIX <= kind {
         let operand = rows::link(table, node, rows::FIRST);
-        return wait(work, node, state::UNARY, operand, v, spot, s);
+        return wait(work, node, state::UNARY, 0, operand, v, spot, s);
     }
     other(table, work, node, kind, v, spot, s)
 }
@@ -163,7 +163,7 @@ fn other(
     if waits(kind) {
         let phase = phase_of(kind);
         let first = rows::link(table, node, rows::FIRST);
-        return wait(work, node, phase, first, v, spot, s);
+        return wait(work, node, phase, s.cells, first, v, spot, s);
     }
     let found = leaves::literal(table, node);
     state::gives(found, spot, s)
@@ -182,27 +182,28 @@ fn look(table: &[u32], work: &[u32], node: usize, spot: Spot, s: Tally) -> Next
     state::gives(v, spot, s)
 }
 
-// A frame for the node, and its part begins. The mark is how many cells are live, for a Block to free those that come.
+// A frame for the node, and its part begins. The mark is for a Block: how many cells are live, so that it frees those
+// that come.
 fn wait(
     work: &mut [u32],
     node: usize,
     phase: u32,
+    mark: usize,
     part: usize,
     v: Value,
     spot: Spot,
     s: Tally,
 ) -> Next
     requires { ⌜ (WORK ≤ length (now work)) × (spot .height < FRAMES) × (node < NODES) × (spot .base ≤ WORK)
-        × (spot .size < SIZES) × (s .cells ≤ WORK) ⌝ }
+        × (spot .size < SIZES) × (mark ≤ WORK) ⌝ }
     ensures { λ r. ⌜ (now (work .exit)
-        ≡ put-frame (now (work .entry)) (spot .height) node phase (spot .base) (spot .size) (s .cells))
+        ≡ put-frame (now (work .entry)) (spot .height) node phase (spot .base) (spot .size) mark)
         × (r ≡ begun part v (above (spot .base) (spot .size) spot) s) ⌝ }
 {
     let base = spot.base;
     let size = spot.size;
     let height = spot.height;
-    let cells = s.cells;
-    frames::put(work, height, node, phase, base, size, cells);
+    frames::put(work, height, node, phase, base, size, mark);
     let inner = Spot {
         base,
         size,

@@ -1,5 +1,5 @@
 -- What the borrow checker leaves of `begin::other`.
-use mathlib.Core.Path.{sym, _∙_}
+use mathlib.Core.Path.{refl, sym, _∙_}
 use lib.Dec.{lit<}
 use Rattle.runner.proofs.Promises.{starts-row, starts-frame}
 use Rattle.runner.proofs.Starting.{starts-waits, starts-inside, starts-bound, starts-literal, starts-leaf}
@@ -85,7 +85,7 @@ returns-3 c =
     let start = at-if1 .before .before .before in
     starts-waits (start .pre .1) (start .pre .2) (at-if1 .if1 .left) (at-counts .counts .ensures) (at-if2 .if2 .left)
     (at-waits .waits .ensures) (at-if3 .if3 .taken)
-    (at-phase-of .phase-of .ensures) (at-link2 .link2 .ensures) (start .args .v) (c .before .before .wait .ensures .0)
+    (at-phase-of .phase-of .ensures) (at-link2 .link2 .ensures) (λ z. refl) (start .args .v) (c .before .before .wait .ensures .0)
     (c .before .before .wait .ensures .1)
 
 literal-requires : tie.Need-literal-requires

@@ -1,5 +1,5 @@
 -- What the borrow checker leaves of `begin::start`.
-use lib.Dec.{lit<}
+use lib.Dec.{lit<, lit≤}
 use Rattle.runner.proofs.Promises.{starts-row, starts-frame}
 use Rattle.runner.proofs.Starting.{starts-number, starts-amount, starts-operator, starts-prefix}
 use borrow.Author.Needs.{needs}
@@ -44,7 +44,7 @@ link-requires c κs =
 wait-requires : tie.Need-wait-requires
 wait-requires c κs =
     let start = c .before .before .before .before .before .before .before .before .before in
-    starts-frame (start .pre)
+    let x = starts-frame (start .pre) in (x .0, x .1, x .2, x .3, x .4, lit≤ tt)
 
 same-length-2 : tie.Need-same-length-2
 same-length-2 c = search needs
@@ -67,7 +67,7 @@ link-requires-2 c κs =
 wait-requires-2 : tie.Need-wait-requires-2
 wait-requires-2 c κs =
     let start = c .before .before .before .before .before .before .before .before .before .before in
-    starts-frame (start .pre)
+    let x = starts-frame (start .pre) in (x .0, x .1, x .2, x .3, x .4, lit≤ tt)
 
 same-length-3 : tie.Need-same-length-3
 same-length-3 c = search needs
