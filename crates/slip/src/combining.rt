@@ -78,7 +78,7 @@ fn none() -> Total {
 }
 
 // Goes through the words again: there may be more reports than were kept of them.
-fn total() -> Total {
+fn summed() -> Total {
     let count = os::arg_count();
     let mut asked = asked::nothing();
     let mut total = none();
@@ -103,7 +103,7 @@ fn tell(asked: Asked, all: Finished) -> u32 {
 }
 
 pub fn combine(asked: Asked) -> u32 {
-    let total = total();
+    let total = summed();
     let all = total.all;
     if total.read {
         return tell(asked, all);

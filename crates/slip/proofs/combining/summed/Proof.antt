@@ -1,8 +1,8 @@
--- `total` goes from word to word.
+-- `summed` goes from word to word.
 use Prim.Native.Nat.{_-_}
 use borrow.Author.Needs.{needs}
-use Rattle.slip.proofs.combining.total.Statement.{statement}
-use Rattle.slip.proofs.combining.total.Tie as tie
+use Rattle.slip.proofs.combining.summed.Statement.{statement}
+use Rattle.slip.proofs.combining.summed.Tie as tie
 
 abbrev Inv-loop : tie.InvT-loop
 Inv-loop count asked₀ total₀ i₀ asked total i = Unit {0}
@@ -46,8 +46,8 @@ loop-again c = tt
 returns : tie.Need-returns Inv-loop μ-loop
 returns c = tt
 
-pub total-spec : {M : Type 1} → statement M
-total-spec =
+pub summed-spec : {M : Type 1} → statement M
+summed-spec =
     tie.close
     (tie.spec
     Inv-loop
