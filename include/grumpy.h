@@ -1,7 +1,7 @@
 /* The box: reads, checks, runs, rewrites and stores a rate sheet written in Grumpy, tells how much it can use, and
  * pays a shift by one.
  *
- * Twelve functions. They keep nothing between calls, ask for no memory of their own but the stack, of which
+ * Thirteen functions. They keep nothing between calls, ask for no memory of their own but the stack, of which
  * GRUMPY_STACK bytes are enough, and call nothing from outside but memset. They may be called from several
  * threads at once, each with memory of its own.
  *
@@ -12,14 +12,14 @@
  *
  * Lent memory. The caller lends `table` and, to those that run, `work`, of at least the words named below;
  * what they hold before the call does not matter. After the call the required words are zero and all
- * further words are as they were. If a memory is too short the answer is GRUMPY_SHORT_MEMORY and nothing
- * is changed at all. `out` may have any length, 0 too: the bytes printed, or those written, are its first
- * ones and the rest is as it was; for a sheet that is refused nothing is printed or written.
+ * further words are as they were. If a memory is too short the answer is GRUMPY_SHORT_MEMORY, and nothing
+ * but the report is changed. `out` may have any length, 0 too: the bytes printed, or those written, are its
+ * first ones and the rest is as it was; for a sheet that is refused nothing is printed or written.
  *
  * Memories must not overlap one another, nor the source or the report. A memory of length 0 may have any
  * pointer that is not null and is aligned for its words.
  *
- * All functions return the number, and write the report:
+ * All functions return the number, and write the report; those of a shift have reports of their own (see below):
  *
  *     report[0]  the number, one of the constants below
  *     report[1]  the place: a byte of the source, counted from 0; of a stored sheet a line, counted from 1;
@@ -68,8 +68,8 @@
  *     begin      where the line around the place begins in that sheet,
  *     end        and where it ends, its line feed not among its bytes
  *
- * A place at the end of a sheet shows the empty part there. Where the number has no place, sheet is 1 and
- * all else 0. To print the line of a run, with both sheets at hand:
+ * A place at the end of a sheet shows the empty part there. Where the number has no place, sheet is 1, and
+ * place, begin and end are 0. To print the line of a run, with both sheets at hand:
  *
  *     const uint8_t *sheet = report[6] == 1 ? first : second;
  *     fwrite(sheet + report[7], 1, report[8] - report[7], stdout);
@@ -88,18 +88,21 @@
  * 2147483647 are bad: they are counted, and nothing is run for them. Pieces may be cut anywhere, and have any
  * length, 0 too.
  *
- *     grumpy_shift_begin     report[0] the number, report[1] the place, a byte of the book
+ *     grumpy_shift_begin     report[0] the number, report[1] the place, a byte of the book; what is wrong only with
+ *                            something set under it is told at its end
  *     grumpy_shift_feed      report[0] the number
  *     grumpy_shift_finish    report[0] the number, [1] lines, [2] bad lines, [3] to [11] lines that stopped with
  *                            50 to 58, and of all other lines [12] the sum, [13] the least and [14] the largest
  *                            pay, each an (int64_t); 0 where there is none
  *
- * The book is functions only, `pay` from two ints to int among them; otherwise the answer is GRUMPY_NO_BOOK. Feed
- * asks the book anew, so book, edition and memories have to be those of begin. After a refusal of feed the state
- * is as it was; after one of begin it is that of a shift without lines, but for GRUMPY_SHORT_MEMORY, which changes
- * nothing. With more than GRUMPY_SHIFT_LINES lines the number of feed and finish is GRUMPY_MANY_LINES; the
+ * The book is functions only, `pay` from two ints to int among them. With `0` set under it it has to pass, or the
+ * answer is its own number; one that passes and is no such book is GRUMPY_NO_BOOK; and one with no room for the
+ * longest call under it, with both numbers 2147483647, GRUMPY_LONG_SOURCE or GRUMPY_MANY_TOKENS. Feed asks the book
+ * anew, so book, edition and the lengths of memories have to be those of begin. After such a refusal of feed the
+ * state is as it was; after one of begin it is that of a shift without lines, but for GRUMPY_SHORT_MEMORY, which
+ * leaves it alone. With more than GRUMPY_SHIFT_LINES lines the number of feed and finish is GRUMPY_MANY_LINES; the
  * report is then that of the lines up to there, and no byte more changes anything. `out` is what each line
- * prints to, from its front on, over what the line before it left.
+ * prints to, from its front on, over what the line before it left: lend the same to each piece, as it was left.
  *
  * Parts. The lines of a shift may be paid in parts, by several states or on several machines, and their reports
  * combined two by two, in any order: grumpy_shift_combine takes two reports as grumpy_shift_finish writes them, of

@@ -198,7 +198,7 @@ static uint64_t call(const uint64_t *asked, struct memory *m) {
       return grumpy_profile(edition, LENT(source, SOURCE), LENT(table, TABLE), LENT(report, REPORT));
 #ifdef COMBINES
     case COMBINE:
-      return grumpy_shift_combine(edition, (const uint64_t *)source, length[SOURCE] / 8, (const uint64_t *)second,
+      return grumpy_shift_combine((const uint64_t *)source, length[SOURCE] / 8, (const uint64_t *)second,
                                   length[SECOND] / 8, LENT(report, REPORT));
     case HAS_COMBINE: return 1;
 #else

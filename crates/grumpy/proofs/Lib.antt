@@ -1,5 +1,6 @@
 pub mod Leaving
 pub mod Runs
+pub mod Resolving
 pub mod Services
 pub mod Determined
 pub mod Demands

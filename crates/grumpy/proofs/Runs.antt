@@ -39,7 +39,7 @@ module _ {table work out work′ out′ : List ℕ} {P : Held} {allowance : ℕ}
     (x : Runner.RunsTo table work out work′ out′ P allowance r) where
   left-few : Runner.Loaded table work P allowance → Runner.spent-of r .left ≤ allowance
   left-few s =
-      let a = x .answer (s .ts) (s .program) (s .type) (s .holds) (s .typed) in
+      let a = x .answer (s .ts) (s .program) (s .type) (s .holds) (s .typed) (s .resolved) in
       let e = a .left ∙ sym (units-told r (a .state)) ∙ ap units-of (sym (a .outcome)) in
       let f = few (births-few (s .program) allowance (length out)) in
       omega arith
@@ -78,13 +78,13 @@ module _ {table work out work′ out′ : List ℕ} {P : Held} {allowance : ℕ}
   pub executed-value : (v : Value) (e : spent.Spent) (u : ℕ) → r ≡ Done.Value v e → u ≡ allowance - e .left
       → Executed table work out work′ out′ P allowance (Ending.Value v u (e .printed))
   executed-value v e u q b = record {
-    told = λ ts p t h y. rw b (value-told allowance v e (subst (Runner.EndsAs (run p allowance (length out)) out out′) q (x .answer ts p t h y)));
+    told = λ ts p t h y n. rw b (value-told allowance v e (subst (Runner.EndsAs (run p allowance (length out)) out out′) q (x .answer ts p t h y n)));
     cleared = x .cleared;
   }
 
   pub executed-stop : (y : Stop) (i : ℕ) (e : spent.Spent) (u : ℕ) → r ≡ Done.Stop y i e → u ≡ allowance - e .left
       → Executed table work out work′ out′ P allowance (Ending.Stopped y i u (e .printed))
   executed-stop y i e u q b = record {
-    told = λ ts p t h z. rw b (stop-told allowance y i e (subst (Runner.EndsAs (run p allowance (length out)) out out′) q (x .answer ts p t h z)));
+    told = λ ts p t h z n. rw b (stop-told allowance y i e (subst (Runner.EndsAs (run p allowance (length out)) out out′) q (x .answer ts p t h z n)));
     cleared = x .cleared;
   }

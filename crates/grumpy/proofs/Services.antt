@@ -23,18 +23,19 @@ use Rattle.layout.specs.Values.{meant}
 use Rattle.layout.specs.Table.{zeros}
 use Rattle.layout.specs.Names.{Stand}
 use Rattle.layout.proofs.Wiped.{zeros-cleared}
-use Rattle.runner.specs.Contract as Runner
+use Rattle.resolver.specs.Resolves.{Resolves}
 use Rattle.sheets.specs.Forms.{origin-of, place-of}
 use Rattle.sheets.specs.Sheets.{OfSource, Examined}
 use Rattle.sheets.specs.declared.Form.{Form}
 use Rattle.sheets.specs.declared.Seen.{Seen}
 use Rattle.sheets.proofs.FormLaws.{form-lawful, form-nowhere, form-place}
 use Rattle.grumpy.specs.Reports.{checked-report, ran-report}
-use Rattle.grumpy.specs.Outcomes.{ending-meant, printed-in, Executed, ran-of, Runnable, Reported, Answered}
+use Rattle.grumpy.specs.Outcomes.{ending-meant, printed-in, Executed, ran-of, Ready, Runnable, Reported, Answered}
 use Rattle.grumpy.specs.declared.answers.Checked as checked
 use Rattle.grumpy.specs.declared.answers.Ran.{Ran}
 use Rattle.grumpy.specs.declared.outcomes.Ending.{Ending}
 use Rattle.grumpy.proofs.Leaving.{checked-left, ran-left}
+use Rattle.grumpy.proofs.Resolving.{resolved-rest}
 
 -- ---- check
 
@@ -72,19 +73,12 @@ module _ (first second : List ℕ) (f : Form) (edition : ℕ) where
 -- ---- what comes of a sheet that was examined
 
 pub runnable-sheet : (w work : List ℕ) (allowance : ℕ) (P : Held) (t : ℕ) (s : Seen) → Runnable w work allowance s → s ≡ Seen.Passes P t
-    → Runner.Loaded w work P allowance
+    → Ready w work P allowance
 runnable-sheet w work allowance P t s x z = subst (Runnable w work allowance) z x
 
 pub runnable-refused : (w work : List ℕ) (allowance : ℕ) (y : Refusal) (i : ℕ) (s : Seen) → Runnable w work allowance s → s ≡ Seen.Refused y i
     → WORK ≤ length work
 runnable-refused w work allowance y i s x z = subst (Runnable w work allowance) z x
-
--- its place can be looked up
-pub runnable-long : (w work : List ℕ) (allowance : ℕ) (P : Held) (t : ℕ) (s : Seen) → Runnable w work allowance s → s ≡ Seen.Passes P t
-    → (TABLE ≤ length w) × (P .count ≤ TOKENS)
-runnable-long w work allowance P t s x z =
-    let y = runnable-sheet w work allowance P t s x z in
-    (y .holds .long, y .holds .stand .few)
 
 -- an examined sheet can be run
 pub examined-runnable : (first second : List ℕ) (f : Form) (edition : ℕ) (w w₁ work : List ℕ) (allowance : ℕ) (s : Seen)
@@ -92,11 +86,11 @@ pub examined-runnable : (first second : List ℕ) (f : Form) (edition : ℕ) (w 
 examined-runnable first second f edition w w₁ work allowance (Seen.Passes P t) x h k =
     let p = x .told in
     record {
-      ts = p .tokens;
+      tokens = p .tokens;
       program = p .program;
       type = p .type;
       holds = p .holds;
-      typed = p .passes .proper .typed;
+      proper = p .passes .proper;
       long = h;
       allowed = k;
     }
@@ -122,31 +116,35 @@ module _ (first second : List ℕ) (f : Form) where
   ended-ran edition w l count n bs (Ending.Stopped y i u k) g h p x s a b =
       rw (a, b, form-place first second f edition s i) (run-ended g h p x)
 
-  pub answered-sheet : (w work out work′ out′ : List ℕ) (P : Held) (t allowance : ℕ) (s : Seen) (e : Ending) (r : Ran)
-      → Executed w work out work′ out′ P allowance e → s ≡ Seen.Passes P t → r ≡ ran-of first second f w (P .count) t e
-      → Answered first second f w work out work′ out′ allowance s r
-  answered-sheet w work out work′ out′ P t allowance s e r x z k = record {
+  pub answered-sheet : (w w′ work out work′ out′ : List ℕ) (P : Held) (t allowance : ℕ) (s : Seen) (e : Ending) (r : Ran)
+      → Resolves w w′ P → Executed w′ work out work′ out′ P allowance e → s ≡ Seen.Passes P t → r ≡ ran-of first second f w′ (P .count) t e
+      → Answered first second f w w′ work out work′ out′ allowance s r
+  answered-sheet w w′ work out work′ out′ P t allowance s e r n x z k = record {
     told = λ edition l y g o m h.
         let p = subst (OfSource (origin-of first second f edition) w) z y in
-        let b = x .told (p .tokens) (p .program) (p .type) (p .holds) (p .passes .proper .typed) in
+        let H = n .holds (p .tokens) (p .program) (p .holds) in
+        let m′ = n .resolved (p .tokens) (p .program) (p .holds) (p .passes .proper .reads) in
+        let b = x .told (p .tokens) (p .program) (p .type) H (p .passes .proper .typed) m′ in
         record {
           printed = b .printed;
           ran =
               rw k
-              (ended-ran edition w l (P .count) t (b .printed) e g (rw m h) (p .passes) (rw (m, o) (b .ends)) (p .holds .stand) (p .numbered)
+              (ended-ran edition w′ l (P .count) t (b .printed) e g (rw m h) (p .passes) (rw (m, o) (b .ends)) (H .stand) (p .numbered)
               (b .counted));
           output = b .output;
         };
+    rest = resolved-rest n;
     cleared = x .cleared;
   }
 
   pub answered-refused : (w work out work′ out′ : List ℕ) (allowance : ℕ) (s : Seen) (y : Refusal) (i : ℕ) (r : Ran)
       → r ≡ Ran.Refused y i → work′ ≡ zeros work 0 WORK → out′ ≡ out → s ≡ Seen.Refused y i
-      → Answered first second f w work out work′ out′ allowance s r
+      → Answered first second f w w work out work′ out′ allowance s r
   answered-refused w work out work′ out′ allowance s y i r q x k z = record {
     told = λ edition l a e o m h.
         let p = subst (OfSource (origin-of first second f edition) w) z a in
         subst (Reported (origin-of first second f edition) l out out′) (sym q) record { printed = []; ran = run-refused e (rw m h) p; output = k };
+    rest = refl;
     cleared = x;
   }
 
@@ -187,11 +185,11 @@ module _ (first second : List ℕ) (f : Form) (edition : ℕ) where
     output-left = refl;
   }
 
-  pub run-is-answered : (w work out w₁ w₂ work′ out′ : List ℕ) (allowance : ℕ) (s : Seen) (r : Ran)
+  pub run-is-answered : (w work out w₁ w₂ w₃ work′ out′ : List ℕ) (allowance : ℕ) (s : Seen) (r : Ran)
       → TABLE ≤ length w → WORK ≤ length work → allowance ≤ ALLOWANCE → Examined (origin-of first second f edition) w w₁ s
-      → Answered first second f w₁ work out work′ out′ allowance s r → w₂ ≡ zeros w₁ 0 TABLE
-      → Run (origin-of first second f edition) w work out allowance (ran-report r) w₂ work′ out′
-  run-is-answered w work out w₁ w₂ work′ out′ allowance s r a b h x y e =
+      → Answered first second f w₁ w₂ work out work′ out′ allowance s r → w₃ ≡ zeros w₂ 0 TABLE
+      → Run (origin-of first second f edition) w work out allowance (ran-report r) w₃ work′ out′
+  run-is-answered w work out w₁ w₂ w₃ work′ out′ allowance s r a b h x y e =
       let l = lent w work out allowance in
       let n : Enough l = record { table = a; work = b } in
       let z = y .told edition l (x .told) n refl refl h in
@@ -199,7 +197,7 @@ module _ (first second : List ℕ) (f : Form) (edition : ℕ) where
       record {
         printed = z .printed;
         answer = z .ran;
-        table-left = cleared-table first second f edition w w₁ w₂ s x a e ∙ sym (k TABLE w);
+        table-left = cleared-table first second f edition w w₁ w₃ s x a (e ∙ y .rest) ∙ sym (k TABLE w);
         work-left = y .cleared ∙ zeros-cleared WORK work b ∙ sym (k WORK work);
         output-left = z .output;
       }

@@ -4,7 +4,7 @@ use mathlib.Core.Option.{some}
 use mathlib.Core.Path.{_≡_}
 use Prim.Native.Nat.{ℕ, _≤_}
 use lib.ListN.{length, drop}
-use Rattle.language.specs.Sizes.{WORK, ALLOWANCE}
+use Rattle.language.specs.Sizes.{TABLE, WORK, ALLOWANCE}
 use Rattle.language.specs.Tokens.{Token}
 use Rattle.language.specs.Trees.{Ty, Program}
 use Rattle.language.specs.Types.{HasType}
@@ -12,13 +12,13 @@ use Rattle.language.specs.State.{Outcome, nothing}
 use Rattle.language.specs.Meaning.{run}
 use Rattle.language.specs.Numbers.{passed, stopped}
 use Rattle.language.specs.Answers as Answers
-use Rattle.language.specs.Answers.{Origin, nowhere, at, ending, Lent, Enough}
+use Rattle.language.specs.Answers.{Origin, Proper, nowhere, at, ending, Lent, Enough}
 use Rattle.numbers.specs.Meanings.{stop-meant}
 use Rattle.layout.specs.Table.{zeros}
 use Rattle.layout.specs.Values.{meant}
+use Rattle.layout.specs.Resolved.{Resolved}
 use Rattle.layout.specs.Decode.{Holds}
 use Rattle.layout.specs.declared.Held.{Held}
-use Rattle.runner.specs.Contract as Runner
 use Rattle.sheets.specs.Forms.{origin-of, place-of}
 use Rattle.sheets.specs.Sheets.{OfSource}
 use Rattle.sheets.specs.declared.Form.{Form}
@@ -48,7 +48,7 @@ pub record Told (m : Outcome) (allowance : ℕ) (out out′ : List ℕ) (r : End
   pub output : out′ ≡ printed ++ drop (length printed) out
 
 pub record Executed (table work out work′ out′ : List ℕ) (P : Held) (allowance : ℕ) (r : Ending) : Type 0 where
-  pub told : (ts : List Token) (p : Program) (t : Ty) → Holds ts table P p → HasType p t
+  pub told : (ts : List Token) (p : Program) (t : Ty) → Holds ts table P p → HasType p t → Resolved table p
       → Told (run p allowance (length out)) allowance out out′ r
   pub cleared : work′ ≡ zeros work 0 WORK
 
@@ -60,8 +60,18 @@ ran-of first second f w count t (Ending.Stopped y i u n) = Ran.Stopped y (place-
 
 -- ---- a sheet that was examined
 
+-- the table holds a program that is a reading and has a type: it can be resolved, and run then
+pub record Ready (table work : List ℕ) (P : Held) (allowance : ℕ) : Type 0 where
+  pub tokens : List Token
+  pub program : Program
+  pub type : Ty
+  pub holds : Holds tokens table P program
+  pub proper : Proper tokens program type
+  pub long : WORK ≤ length work
+  pub allowed : allowance ≤ ALLOWANCE
+
 abbrev pub Runnable : List ℕ → List ℕ → ℕ → Seen → Type 0
-Runnable table work allowance (Seen.Passes P t) = Runner.Loaded table work P allowance
+Runnable table work allowance (Seen.Passes P t) = Ready table work P allowance
 Runnable table work allowance (Seen.Refused y i) = WORK ≤ length work
 
 -- the report and the output are those of the written run of an origin
@@ -70,10 +80,12 @@ pub record Reported (o : Origin ℕ) (l : Lent) (out out′ : List ℕ) (r : Ran
   pub ran : Answers.Ran o l (ran-report r) printed
   pub output : out′ ≡ printed ++ drop (length printed) out
 
--- with memory and allowance in order, in whatever edition the source was examined
-pub record Answered (first second : List ℕ) (f : Form) (table work out work′ out′ : List ℕ) (allowance : ℕ) (s : Seen)
-    (r : Ran) : Type 0 where
+-- with memory and allowance in order, in whatever edition the source was examined; of the table only required words
+-- may have changed
+pub record Answered (first second : List ℕ) (f : Form) (table table′ work out work′ out′ : List ℕ) (allowance : ℕ)
+    (s : Seen) (r : Ran) : Type 0 where
   pub told : (edition : ℕ) (l : Lent) → OfSource (origin-of first second f edition) table s → Enough l
       → l .output ≡ length out → l .allowance ≡ allowance → allowance ≤ ALLOWANCE
       → Reported (origin-of first second f edition) l out out′ r
+  pub rest : zeros table′ 0 TABLE ≡ zeros table 0 TABLE
   pub cleared : work′ ≡ zeros work 0 WORK

@@ -118,26 +118,27 @@ fn refuse(work: &mut [u32], out: &mut [u8], why: Refusal, place: usize) -> Ran
     Ran::Refused(why, place)
 }
 
-// What comes of a sheet that was examined: it runs, or it is refused.
+// What comes of a sheet that was examined: its names and calls are resolved and it runs, or it is refused.
 pub fn run_or_refuse(
     first: &[u8],
     second: &[u8],
     form: Form,
-    table: &[u32],
+    table: &mut [u32],
     work: &mut [u32],
     out: &mut [u8],
     seen: Seen,
     allowance: u32,
 ) -> Ran
     requires { ⌜ Runnable (now table) (now work) allowance seen ⌝ }
-    ensures { λ r. ⌜ Answered (now (first .entry)) (now (second .entry)) form (now (table .entry)) (now (work .entry))
-        (now (out .entry)) (now (work .exit)) (now (out .exit)) allowance seen r ⌝ }
+    ensures { λ r. ⌜ Answered (now (first .entry)) (now (second .entry)) form (now (table .entry)) (now (table .exit))
+        (now (work .entry)) (now (out .entry)) (now (work .exit)) (now (out .exit)) allowance seen r ⌝ }
 {
     match seen {
         Seen::Passes {
             program,
             type_number,
         } => {
+            resolver::resolve(table, program);
             let ending = execute(table, work, out, program, allowance);
             answer(
                 first,

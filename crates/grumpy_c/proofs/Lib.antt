@@ -1,6 +1,5 @@
 pub mod TwosComplement
 pub mod Told
-pub mod ToldStored
 pub mod ToldProfile
 pub mod ToldPairs
 pub mod Fronts

@@ -31,6 +31,7 @@ use Rattle.shift.specs.declared.State.{State}
 use Rattle.grumpy_c.specs.Words.{with-front, nine}
 use Rattle.grumpy_c.specs.States.{STATE, state-words, state-in}
 use Rattle.grumpy_c.specs.Shifts.{BEGIN, FEED, FINISH, told-number, fed-number, report-words, Left, as-before, held, refuses, BeganC}
+use Rattle.grumpy_c.specs.Shifts.{book-place}
 use Rattle.grumpy_c.specs.Shifts.{begin-no-room, begin-told, FedC, feed-no-room, feed-told, FinishedC, finish-no-room, finish-told}
 use Rattle.grumpy_c.proofs.StateWords.{nine-same}
 
@@ -91,14 +92,14 @@ pub begin-determined : {edition : ℕ} {book table work : List ℕ} {allowance :
 begin-determined (begin-no-room h a b c d e) (begin-no-room k f g i j l) = (a ∙ sym f, b ∙ sym g, c ∙ sym i, d ∙ sym j, e ∙ sym l)
 begin-determined {state = state} {report} (begin-no-room h a b c d e) (begin-told k l f g i j) = short-long (length state) (length report) STATE BEGIN h k l
 begin-determined {state = state} {report} (begin-told h i a b c d) (begin-no-room k f g j l e) = short-long (length state) (length report) STATE BEGIN k h i
-begin-determined {table = table} {work} {report = report} (begin-told h i a b c d) (begin-told k l e f g j) =
+begin-determined {book = book} {table} {work} {report = report} (begin-told h i a b c d) (begin-told k l e f g j) =
     let x = one-admission (a .admits 0) (e .admits 0) in
     let y = b ∙ ap (λ (z : Shift.Admission). told-number (z .told)) x ∙ sym f in (
       y,
       a .table-left ∙ ap (λ (z : Shift.Admission). left-by (z .told) TABLE table) x ∙ sym (e .table-left),
       a .work-left ∙ ap (λ (z : Shift.Admission). left-by (z .told) WORK work) x ∙ sym (e .work-left),
       left-one c g (a .state ∙ sym (e .state)) (ap (λ (z : Shift.Admission). keeps-all (z .told)) x),
-      d ∙ ap₂ (λ (n : ℕ) (z : Shift.Admission). with-front report (n ∷ z .place .at ∷ [])) y x ∙ sym j,
+      d ∙ ap₂ (λ (n : ℕ) (z : Shift.Admission). with-front report (n ∷ book-place (length book) (z .place) ∷ [])) y x ∙ sym j,
     )
 
 -- ---- feed

@@ -80,8 +80,8 @@ pub pair-checked-c : (edition : ℕ) (first second table report table′ report�
     → PairCheckedC edition first second table report table′ report′ n
 pair-checked-c edition first second table report table′ report′ a n h c t = check-reported h c (t .0) (t .1)
 
-pub pair-ran-c : (edition : ℕ) (first second table work out report table′ work′ out′ report′ : List ℕ) (allowance : ℕ) (a : PairRan) (n : ℕ) → 9 ≤ length report
-    → Run (pair-in edition first second) table work out allowance (pair-ran-report a) table′ work′ out′ → ToldPairRan a report report′ n
+pub pair-ran-c : (edition : ℕ) (first second table work out report table′ work′ out′ report′ : List ℕ) (allowance : ℕ) (a : PairRan) (n : ℕ)
+    → 9 ≤ length report → Run (pair-in edition first second) table work out allowance (pair-ran-report a) table′ work′ out′ → ToldPairRan a report report′ n
     → PairRanC edition first second table work out allowance report table′ work′ out′ report′ n
 pair-ran-c edition first second table work out report table′ work′ out′ report′ allowance a n h c t = run-reported h c (t .0) (t .1)
 

@@ -3,8 +3,10 @@ use mathlib.Core.Bool.{Bool}
 use mathlib.Core.List.{List, [], _∷_}
 use mathlib.Core.Path.{_≡_, refl, sym, ap, subst, _∙_}
 use Prim.Native.Nat.{ℕ, _≤_}
+use borrow.Author.Tests.{ne-eqb}
 use lib.ListN.{length, getD}
 use Rattle.language.specs.Shift.{shift-number}
+use Rattle.pairs.specs.Spots.{meant}
 use Rattle.pairs.specs.declared.Spot.{Spot}
 use Rattle.tally.specs.Stands.{report-in}
 use Rattle.tally.specs.declared.sums.Sums.{Sums}
@@ -18,20 +20,31 @@ use Rattle.shift.specs.declared.Why.{Why}
 use Rattle.grumpy_c.specs.Words.{with-front, nine}
 use Rattle.grumpy_c.specs.States.{STATE, state-in}
 use Rattle.grumpy_c.specs.Shifts.{BEGIN, FEED, FINISH, admission-number, fed-number, ending-number, report-words, Left, refuses, BeganC}
-use Rattle.grumpy_c.specs.Shifts.{begin-told, FedC, feed-told, FinishedC, finish-told}
+use Rattle.grumpy_c.specs.Shifts.{book-place, begin-told, FedC, feed-told, FinishedC, finish-told}
 use Rattle.grumpy_c.proofs.TwosComplement.{Signed, signed}
 
 -- ---- before any line
 
-abbrev Told : Admission → List ℕ → List ℕ → ℕ → Type 0
-Told a w w′ n = (n ≡ admission-number a) × (w′ ≡ with-front w (n ∷ admission-meant a .place .at ∷ []))
+abbrev Told : ℕ → Admission → List ℕ → List ℕ → ℕ → Type 0
+Told long a w w′ n = (n ≡ admission-number a) × (w′ ≡ with-front w (n ∷ book-place long (admission-meant a .place) ∷ []))
 
-pub granted-told : (a : Admission) (w w′ : List ℕ) → a ≡ Admission.Granted → w′ ≡ with-front w (0 ∷ 0 ∷ []) → Told a w w′ 0
-granted-told a w w′ e h = subst (λ (a : Admission). Told a w w′ 0) (sym e) (refl, h)
+-- in the book, and behind it
+pub in-book : (long : ℕ) (x : Spot) → (x .sheet ≡ 2 → ⊥) → x .at ≡ book-place long (meant x)
+unfolding book-place
+in-book long x e = rw (ne-eqb (x .sheet) 2 e) refl
 
-pub refused-told : (a : Admission) (w w′ : List ℕ) (y : Why) (x : Spot) (n : ℕ) → a ≡ Admission.Refused y x → n ≡ shift-number (why-meant y)
-    → w′ ≡ with-front w (n ∷ x .at ∷ []) → Told a w w′ n
-refused-told a w w′ y x n e m h = subst (λ (a : Admission). Told a w w′ n) (sym e) (m, h)
+pub behind-book : (long : ℕ) (x : Spot) → x .sheet ≡ 2 → long ≡ book-place long (meant x)
+unfolding book-place
+behind-book long x e = rw e refl
+
+pub granted-told : (long : ℕ) (a : Admission) (w w′ : List ℕ) → a ≡ Admission.Granted → w′ ≡ with-front w (0 ∷ 0 ∷ []) → Told long a w w′ 0
+unfolding book-place
+granted-told long a w w′ e h = subst (λ (a : Admission). Told long a w w′ 0) (sym e) (refl, h)
+
+pub refused-told : (long : ℕ) (a : Admission) (w w′ : List ℕ) (y : Why) (x : Spot) (n p : ℕ) → a ≡ Admission.Refused y x → n ≡ shift-number (why-meant y)
+    → p ≡ book-place long (meant x) → w′ ≡ with-front w (n ∷ p ∷ []) → Told long a w w′ n
+refused-told long a w w′ y x n p e m q h =
+    subst (λ (a : Admission). Told long a w w′ n) (sym e) (m, h ∙ ap (λ (p : ℕ). with-front w (n ∷ p ∷ [])) q)
 
 -- ---- in the end
 
@@ -66,7 +79,7 @@ kept-as {w} {w′} {s} e h = subst (Left w s w′) e h
 module _ (edition : ℕ) (book table work : List ℕ) (allowance : ℕ) (state report table′ work′ state′ report′ : List ℕ) where
   pub began-c : (a : Answer) (kept : Bool) (n : ℕ) → STATE ≤ length state → BEGIN ≤ length report
       → Begin edition book table work allowance a table′ work′ → kept ≡ keeps-all (admission-meant (a .told) .told)
-      → Left state (a .state) state′ kept → Told (a .told) report report′ n
+      → Left state (a .state) state′ kept → Told (length book) (a .told) report report′ n
       → BeganC edition book table work allowance state report table′ work′ state′ report′ n
   began-c a kept n h k b e l t = begin-told h k b (t .0) (kept-as e l) (t .1)
 

@@ -1,5 +1,4 @@
 pub mod Reports
-pub mod Stored
 pub mod Profilings
 pub mod Pairs
 pub mod Words

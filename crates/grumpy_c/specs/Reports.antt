@@ -7,9 +7,8 @@ use mir.Syntax.{w64}
 use mir.Val.{ofZ}
 use Rattle.language.specs.Meaning.{value-number}
 use Rattle.language.specs.Numbers.{short-memory, refusal-number, number}
-use Rattle.language.specs.Answers.{CheckReport, Check, RunReport, Run}
-use Rattle.language.specs.Edition.{text-in}
-use Rattle.language.specs.Writing.{WriteReport, Write}
+use Rattle.language.specs.Answers.{Origin, CheckReport, Check, RunReport, Run}
+use Rattle.language.specs.Writing.{WriteReport}
 use Rattle.grumpy.specs.Reports.{checked-report, ran-report, wrote-report}
 use Rattle.grumpy.specs.declared.answers.Checked.{Checked}
 use Rattle.grumpy.specs.declared.answers.Ran.{Ran}
@@ -43,28 +42,31 @@ ToldRan a w w′ n = (n ≡ number (ran-report a .told)) × (w′ ≡ run-words 
 abbrev pub ToldWrote : Wrote → List ℕ → List ℕ → ℕ → Type 0
 ToldWrote a w w′ n = (n ≡ number (wrote-report a .told)) × (w′ ≡ write-words w (wrote-report a))
 
--- The contract of `grumpy_check`: where the report is long enough, the contract of check, told in words.
-pub data CheckedC (edition : ℕ) (source table report table′ report′ : List ℕ) (n : ℕ) : Type 0 where
+-- The contract of `grumpy_check` and `grumpy_check_stored`, for what the tokens come from: where the report is long
+-- enough, the contract of check, told in words. The places of a stored sheet are lines.
+pub data CheckedC (o : Origin ℕ) (table report table′ report′ : List ℕ) (n : ℕ) : Type 0 where
   check-no-report : length report < 3 → n ≡ refusal-number short-memory → table′ ≡ table → report′ ≡ report
-      → CheckedC edition source table report table′ report′ n
-  check-reported : {r : CheckReport ℕ} → 3 ≤ length report → Check (text-in edition source) table r table′
-      → n ≡ number (r .told) → report′ ≡ check-words report r
-      → CheckedC edition source table report table′ report′ n
+      → CheckedC o table report table′ report′ n
+  check-reported : {r : CheckReport ℕ} → 3 ≤ length report → Check o table r table′ → n ≡ number (r .told)
+      → report′ ≡ check-words report r → CheckedC o table report table′ report′ n
 
--- The contract of `grumpy_run`.
-pub data RanC (edition : ℕ) (source table work out : List ℕ) (allowance : ℕ)
+-- The contract of `grumpy_run` and `grumpy_run_stored`.
+pub data RanC (o : Origin ℕ) (table work out : List ℕ) (allowance : ℕ)
     (report table′ work′ out′ report′ : List ℕ) (n : ℕ) : Type 0 where
   run-no-report : length report < 6 → n ≡ refusal-number short-memory → table′ ≡ table → work′ ≡ work → out′ ≡ out
       → report′ ≡ report
-      → RanC edition source table work out allowance report table′ work′ out′ report′ n
-  run-reported : {r : RunReport ℕ} → 6 ≤ length report
-      → Run (text-in edition source) table work out allowance r table′ work′ out′ → n ≡ number (r .told)
-      → report′ ≡ run-words report r → RanC edition source table work out allowance report table′ work′ out′ report′ n
-
--- The contract of `grumpy_write`.
-pub data WroteC (edition : ℕ) (source table out report table′ out′ report′ : List ℕ) (n : ℕ) : Type 0 where
-  write-no-report : length report < 3 → n ≡ refusal-number short-memory → table′ ≡ table → out′ ≡ out → report′ ≡ report
-      → WroteC edition source table out report table′ out′ report′ n
-  write-reported : {r : WriteReport ℕ} → 3 ≤ length report → Write (text-in edition source) table out r table′ out′
+      → RanC o table work out allowance report table′ work′ out′ report′ n
+  run-reported : {r : RunReport ℕ} → 6 ≤ length report → Run o table work out allowance r table′ work′ out′
       → n ≡ number (r .told)
-      → report′ ≡ write-words report r → WroteC edition source table out report table′ out′ report′ n
+      → report′ ≡ run-words report r → RanC o table work out allowance report table′ work′ out′ report′ n
+
+-- what write and store promise: a report, the table and the output as they are left
+abbrev pub Writing : Type 1
+Writing = List ℕ → List ℕ → WriteReport ℕ → List ℕ → List ℕ → Type 0
+
+-- The contract of `grumpy_write` and `grumpy_store`, for what each promises.
+pub data WroteC (Writes : Writing) (table out report table′ out′ report′ : List ℕ) (n : ℕ) : Type 0 where
+  write-no-report : length report < 3 → n ≡ refusal-number short-memory → table′ ≡ table → out′ ≡ out → report′ ≡ report
+      → WroteC Writes table out report table′ out′ report′ n
+  write-reported : {r : WriteReport ℕ} → 3 ≤ length report → Writes table out r table′ out′ → n ≡ number (r .told)
+      → report′ ≡ write-words report r → WroteC Writes table out report table′ out′ report′ n

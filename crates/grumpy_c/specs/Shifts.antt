@@ -1,14 +1,16 @@
 -- What the C interface tells of a shift, and the contracts of its three functions over those of the services (R14).
-use mathlib.Core.Bool.{Bool, true, false}
+use mathlib.Core.Bool.{Bool, true, false, cond}
 use mathlib.Core.List.{List, [], _∷_}
 use mathlib.Core.Logic.{_⊎_}
 use mathlib.Core.Option.{Option, none, some}
 use mathlib.Core.Path.{_≡_}
 use Prim.Native.Nat.{ℕ, _≤_, _<_}
+use lib.Dec.{eqb}
 use lib.ListN.{length}
 use mir.Syntax.{w64}
 use mir.Val.{ofZ}
 use Rattle.language.specs.Numbers.{short-memory, refusal-number}
+use Rattle.language.specs.Pairs.{Place}
 use Rattle.language.specs.Shift.{ShiftRefusal, shift-number, Report}
 use Rattle.language.specs.State.{no-unit, too-deep, out-of-range, zero-divisor, cell-freed, cells-full, not-a-byte}
 use Rattle.language.specs.State.{output-full, zero-step}
@@ -87,6 +89,10 @@ report-words n r =
 
 -- ---- the contracts
 
+-- A place is one of the book: what is wrong in what is set under it is told at its end.
+unfoldable pub book-place : ℕ → Place → ℕ
+book-place long p = cond (eqb (p .sheet) 2) long (p .at)
+
 -- `grumpy_shift_begin`: after 40 the state is as before, else it is a new one
 pub data BeganC (edition : ℕ) (book table work : List ℕ) (allowance : ℕ)
     (state report table′ work′ state′ report′ : List ℕ) (n : ℕ) : Type 0 where
@@ -96,7 +102,7 @@ pub data BeganC (edition : ℕ) (book table work : List ℕ) (allowance : ℕ)
   begin-told : {a : Answer} → STATE ≤ length state → BEGIN ≤ length report
       → Begin edition book table work allowance a table′ work′ → n ≡ admission-number (a .told)
       → Left state (a .state) state′ (keeps-all (admission-meant (a .told) .told))
-      → report′ ≡ with-front report (n ∷ admission-meant (a .told) .place .at ∷ [])
+      → report′ ≡ with-front report (n ∷ book-place (length book) (admission-meant (a .told) .place) ∷ [])
       → BeganC edition book table work allowance state report table′ work′ state′ report′ n
 
 -- `grumpy_shift_feed`: after a refusal the state is as before

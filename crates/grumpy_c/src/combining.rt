@@ -78,7 +78,8 @@ fn read_finished(words: &[u64]) -> Finished
 
 #[no_mangle]
 pub extern "C" fn grumpy_shift_combine(first: &[u64], second: &[u64], report: &mut [u64]) -> u32
-    ensures { λ r. ⌜ CombinedC (now (first .entry)) (now (second .entry)) (now (report .entry)) (now (report .exit)) r ⌝ }
+    ensures { λ r. ⌜ CombinedC (now (first .entry)) (now (second .entry)) (now (report .entry))
+        (now (report .exit)) r ⌝ }
 {
     if first.len() < FINISH {
         return 40;

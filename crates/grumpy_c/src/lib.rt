@@ -5,8 +5,9 @@
 // report that is too short is answered like memory that is too short, and nothing is changed.
 ghost use Prim.Native.Nat.{_≤_};
 ghost use lib.ListN.{length};
+ghost use Rattle.language.specs.Edition.{text-in, stored-in};
+ghost use Rattle.language.specs.Writing.{Write, Store};
 ghost use Rattle.grumpy_c.specs.Reports.{ToldChecked, ToldRan, ToldWrote, CheckedC, RanC, WroteC};
-ghost use Rattle.grumpy_c.specs.Stored.{StoredC, StoredCheckedC, StoredRanC};
 ghost use Rattle.grumpy_c.specs.Pairs.{ToldPairChecked, ToldPairRan, PairCheckedC, PairRanC};
 
 mod combining;
@@ -101,7 +102,7 @@ pub extern "C" fn grumpy_check(
     table: &mut [u32],
     report: &mut [u64],
 ) -> u32
-    ensures { λ r. ⌜ CheckedC edition (now (source .entry)) (now (table .entry)) (now (report .entry))
+    ensures { λ r. ⌜ CheckedC (text-in edition (now (source .entry))) (now (table .entry)) (now (report .entry))
         (now (table .exit)) (now (report .exit)) r ⌝ }
 {
     if report.len() < 3 {
@@ -121,8 +122,8 @@ pub extern "C" fn grumpy_run(
     allowance: u64,
     report: &mut [u64],
 ) -> u32
-    ensures { λ r. ⌜ RanC edition (now (source .entry)) (now (table .entry)) (now (work .entry)) (now (out .entry))
-        allowance (now (report .entry)) (now (table .exit)) (now (work .exit)) (now (out .exit))
+    ensures { λ r. ⌜ RanC (text-in edition (now (source .entry))) (now (table .entry)) (now (work .entry))
+        (now (out .entry)) allowance (now (report .entry)) (now (table .exit)) (now (work .exit)) (now (out .exit))
         (now (report .exit)) r ⌝ }
 {
     if report.len() < 6 {
@@ -141,8 +142,8 @@ pub extern "C" fn grumpy_write(
     report: &mut [u64],
 ) -> u32
     ensures { λ r.
-        ⌜ WroteC edition (now (source .entry)) (now (table .entry)) (now (out .entry)) (now (report .entry))
-        (now (table .exit)) (now (out .exit)) (now (report .exit)) r ⌝ }
+        ⌜ WroteC (Write (text-in edition (now (source .entry)))) (now (table .entry)) (now (out .entry))
+        (now (report .entry)) (now (table .exit)) (now (out .exit)) (now (report .exit)) r ⌝ }
 {
     if report.len() < 3 {
         return 40;
@@ -160,8 +161,8 @@ pub extern "C" fn grumpy_store(
     report: &mut [u64],
 ) -> u32
     ensures { λ r.
-        ⌜ StoredC edition (now (source .entry)) (now (table .entry)) (now (out .entry)) (now (report .entry))
-        (now (table .exit)) (now (out .exit)) (now (report .exit)) r ⌝ }
+        ⌜ WroteC (Store (text-in edition (now (source .entry)))) (now (table .entry)) (now (out .entry))
+        (now (report .entry)) (now (table .exit)) (now (out .exit)) (now (report .exit)) r ⌝ }
 {
     if report.len() < 3 {
         return 40;
@@ -177,7 +178,7 @@ pub extern "C" fn grumpy_check_stored(
     table: &mut [u32],
     report: &mut [u64],
 ) -> u32
-    ensures { λ r. ⌜ StoredCheckedC edition (now (stored .entry)) (now (table .entry)) (now (report .entry))
+    ensures { λ r. ⌜ CheckedC (stored-in edition (now (stored .entry))) (now (table .entry)) (now (report .entry))
         (now (table .exit)) (now (report .exit)) r ⌝ }
 {
     if report.len() < 3 {
@@ -197,7 +198,7 @@ pub extern "C" fn grumpy_run_stored(
     allowance: u64,
     report: &mut [u64],
 ) -> u32
-    ensures { λ r. ⌜ StoredRanC edition (now (stored .entry)) (now (table .entry)) (now (work .entry))
+    ensures { λ r. ⌜ RanC (stored-in edition (now (stored .entry))) (now (table .entry)) (now (work .entry))
         (now (out .entry)) allowance (now (report .entry)) (now (table .exit)) (now (work .exit)) (now (out .exit))
         (now (report .exit)) r ⌝ }
 {

@@ -7,16 +7,19 @@ ghost use lib.ListN.{length};
 ghost use Rattle.language.specs.Shift.{shift-number};
 ghost use Rattle.shift.specs.Meanings.{why-meant, admission-meant, over-told, keeps-all};
 ghost use Rattle.numbers.specs.Meanings.{refusal-meant};
+ghost use Rattle.pairs.specs.Spots.{meant};
 ghost use Rattle.language.specs.Answers.{keeps};
 ghost use Rattle.tally.specs.Stands.{report-in};
 ghost use Rattle.grumpy_c.specs.Words.{with-front};
 ghost use Rattle.grumpy_c.specs.States.{STATE};
 ghost use Rattle.grumpy_c.specs.Shifts.{BEGIN, FEED, FINISH, told-number, admission-number, fed-number};
-ghost use Rattle.grumpy_c.specs.Shifts.{ending-number, report-words, Left, refuses, BeganC, FedC, FinishedC};
+ghost use Rattle.grumpy_c.specs.Shifts.{ending-number, report-words, Left, refuses, book-place, BeganC, FedC};
+ghost use Rattle.grumpy_c.specs.Shifts.{FinishedC};
 use crate::states;
 use crate::states::STATE;
 use crate::words;
 use numbers::Refusal;
+use pairs::Spot;
 use shift::Admission;
 use shift::Ending;
 use shift::State;
@@ -91,10 +94,20 @@ fn leave(words: &mut [u64], state: State, kept: bool)
     states::write_state(words, state);
 }
 
-fn tell_begun(report: &mut [u64], told: Admission) -> u32
+// The place in a book of so many bytes.
+fn book_place(long: usize, spot: Spot) -> usize
+    ensures { λ r. ⌜ r ≡ book-place long (meant spot) ⌝ }
+{
+    if spot.sheet == 2 {
+        return long;
+    }
+    spot.at
+}
+
+fn tell_begun(report: &mut [u64], long: usize, told: Admission) -> u32
     requires { ⌜ BEGIN ≤ length (now report) ⌝ }
     ensures { λ r. ⌜ (r ≡ admission-number told) × (now (report .exit) ≡
-        with-front (now (report .entry)) (r ∷ admission-meant told .place .at ∷ [])) ⌝ }
+        with-front (now (report .entry)) (r ∷ book-place long (admission-meant told .place) ∷ [])) ⌝ }
 {
     match told {
         Admission::Granted => {
@@ -104,7 +117,8 @@ fn tell_begun(report: &mut [u64], told: Admission) -> u32
         }
         Admission::Refused(why, spot) => {
             let number = number_of(why);
-            let front = [number as u64, spot.at as u64];
+            let place = book_place(long, spot);
+            let front = [number as u64, place as u64];
             words::put(report, &front);
             number
         }
@@ -134,7 +148,7 @@ pub extern "C" fn grumpy_shift_begin(
     let answer = shift::begin(edition, book, table, work, allowance);
     let told = answer.told;
     leave(state, answer.state, keeps_all(told));
-    tell_begun(report, told)
+    tell_begun(report, book.len(), told)
 }
 
 fn fed_number(told: Admission, over: bool) -> u32

@@ -23,7 +23,7 @@ use Rattle.language.specs.Meaning.{run, type-number}
 use Rattle.language.specs.Numbers.{Refusal, short-memory, large-allowance, no-edition, long-source}
 use Rattle.language.specs.Numbers.{text, no-reading, types, Told, passed, refused, stopped}
 use Rattle.language.specs.Numbers.{long-text, not-hexadecimal, wrong-count, not-one-token}
-use Rattle.language.specs.Numbers.{long-text, endless-node, many-units}
+use Rattle.language.specs.Numbers.{endless-node, many-units}
 
 -- ---- where tokens come from
 

@@ -1,4 +1,4 @@
--- Which fault is told of a reading that has no type, and at which token (S092 to S094; rows 30 to 34). It is the first
+-- Which fault is told of a reading that has no type, and at which token (S092 to S094; rows 30 to 37). It is the first
 -- in the paper's order: functions in order, then the last expression; in a tree, children from left to right before
 -- their node.
 use mathlib.Core.Bool.{Bool}

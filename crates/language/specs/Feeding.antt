@@ -1,5 +1,5 @@
--- An input that comes in pieces (R14.8): what is known of it so far, and what one byte more makes of that. The report of
--- the whole input is in Shift; proofs/Shift shows that it is this one, wherever the input is cut.
+-- An input that comes in pieces (R14.8): what is known of it so far, and what one byte more makes of that. The report
+-- of the whole input is in Shift; proofs/Shift shows that it is this one, wherever the input is cut.
 use lib.ListN.{length, drop}
 use mathlib.Core.Bool.{Bool, true, false, cond}
 use mathlib.Core.List.{List, [], _∷_, _++_}
@@ -55,7 +55,8 @@ pub data Steps (ed : ℕ) (book : List ℕ) (l : Lent) (s : Sofar) (b : ℕ) : S
 -- one after the other
 pub data Fed (ed : ℕ) (book : List ℕ) (l : Lent) : Sofar → List ℕ → Sofar → Type 0 where
   fed-none : {s : Sofar} → Fed ed book l s [] s
-  fed-more : {s m e : Sofar} {b : ℕ} {bs : List ℕ} → Steps ed book l s b m → Fed ed book l m bs e → Fed ed book l s (b ∷ bs) e
+  fed-more : {s m e : Sofar} {b : ℕ} {bs : List ℕ} → Steps ed book l s b m → Fed ed book l m bs e
+      → Fed ed book l s (b ∷ bs) e
 
 -- ---- what is told at the end
 

@@ -15,7 +15,7 @@ use Rattle.language.specs.Meaning.{type-number}
 use Rattle.language.specs.Numbers.{Refusal, short-memory, endless-node, many-units, Told, passed, refused}
 use Rattle.language.specs.Answers.{Origin, PassesUnder, RefusedUnder, left}
 
--- ---- what may go on without end
+-- ---- what a pay sheet may not have
 
 -- the first of two, if there is one
 unfoldable pub or-else : Option ℕ → Option ℕ → Option ℕ

@@ -245,8 +245,8 @@ unfoldable pub told-of : List Line → Option ShiftRefusal
 told-of ls = cond (ltb LINES (length ls)) (some many-lines) none
 
 -- R14.8: what is told of the whole input of a book that was admitted, and what is left in the lent output
-pub record Shift (n : ℕ) (book : List ℕ) (l : Lent) (input output : List ℕ) (told : Option ShiftRefusal) (report : Report)
-    (output′ : List ℕ) : Type 0 where
+pub record Shift (n : ℕ) (book : List ℕ) (l : Lent) (input output : List ℕ) (told : Option ShiftRefusal)
+    (report : Report) (output′ : List ℕ) : Type 0 where
   pub outcomes : List Outcome
   pub come : AllCome n book l (take LINES (lines input)) outcomes output output′
   pub reports : report ≡ report-of outcomes

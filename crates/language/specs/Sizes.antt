@@ -1,7 +1,7 @@
 -- The sizes (S006, S007, S015). What a sheet may have, and the table memory for it, is a record: all that is said of
 -- sheets is said under any such sizes, of which the box's are one value (R13.5). What a run may use, and what a number,
--- a byte and a shift may be, is the same under all of them. Each number is named once, and every other file takes it
--- from here.
+-- a byte and a shift may be, is the same under all of them. A limit is named once, and every other file takes it from
+-- here; how many digits a line has is said where lines are (Stored, Shift).
 use Prim.Native.Nat.{ℕ}
 
 -- ---- what a sheet may have

@@ -1,4 +1,4 @@
--- What a run works on: values, cells, the state of a run, and how a node ends (S060 to S063; rows 50 to 57).
+-- What a run works on: values, cells, the state of a run, and how a node ends (S060 to S063; rows 50 to 58).
 use mathlib.Core.Bool.{Bool, true, false, cond}
 use mathlib.Core.List.{List, [], _∷_}
 use mathlib.Core.Option.{Option, none, some}

@@ -55,8 +55,8 @@ pub record Bytes (s : List ℕ) : Type 0 where
   pub some : 0 < length s
   pub each : (i : ℕ) → byte s i ≤ BYTE
 
--- The first line is one of hexadecimal and holds the bytes s. What does not begin with such a line begins with one that
--- has other bytes, or no digits, or no LF.
+-- The first line is one of hexadecimal and holds the bytes s. What does not begin with such a line is empty, or begins
+-- with one that has another byte, or no digit, or an odd number of them, or no LF.
 pub record FirstLine (input s rest : List ℕ) : Type 0 where
   pub begins : input ≡ line s ++ rest
   pub bytes : Bytes s

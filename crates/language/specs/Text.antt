@@ -15,7 +15,7 @@ use Rattle.language.specs.Tokens.{Spelling, spell, Vocabulary, Token, NA
 
 -- ---- bytes
 
--- the byte at p; past the end 0, which is of no class below and in no mark
+-- the byte at p; past the end 0, which begins no token, no comment and no blank, and is in no mark
 abbrev pub byte : List ℕ → ℕ → ℕ
 byte t p = getD t p 0
 

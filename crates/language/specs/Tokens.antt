@@ -152,7 +152,7 @@ RBRACE = 38
 abbrev pub FLOAT-NUMBER : ℕ
 FLOAT-NUMBER = 39
 
--- the words and marks of counted loops (R12.3)
+-- the words and marks of counted loops (R12.3); 40 to 42 are the code's, for rows that are no node's
 abbrev pub FOR : ℕ
 FOR = 43
 

@@ -58,7 +58,7 @@ mutual
     -- for: its name, whether its end is a pass too, start and end and maybe step, its body
     counted : ℕ → Name → Bool → Exps → Exp → Exp
 
-  -- the arguments of a call
+  -- the arguments of a call; start and end, and maybe the step, of a `for`
   pub data Exps : Type 0 where
     last : Exps
     more : Exp → Exps → Exps

@@ -7,3 +7,5 @@ pub mod Decode
 pub mod Values
 pub mod Slots
 pub mod Frames
+pub mod Notes
+pub mod Resolved

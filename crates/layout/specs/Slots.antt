@@ -1,5 +1,5 @@
 -- Slots of work memory, for bindings, operands and arguments that wait, and cells: three words each, a key and a tag in
--- one, and two for the value. A binding's key is the number of its name, a cell's its birth number.
+-- one, and two for the value. A cell's key is its birth number; by the others' nothing is sought.
 use mathlib.Core.List.{List}
 use Prim.Native.Nat.{ℕ, _+_, _-_, _*_, _/_, _%_}
 use lib.ListN.{getD, set}
@@ -15,7 +15,7 @@ TAGS = 8
 abbrev pub KEYS : ℕ
 KEYS = 268435456
 
--- the key of an operand or an argument that waits: no name has this number
+-- in the place of a name's number, where an operand or an argument waits: no name has this number
 abbrev pub HELD : ℕ
 HELD = TOKENS + 1
 
@@ -39,7 +39,3 @@ unfoldable pub put-slot : List ℕ → ℕ → ℕ → ℕ → Value → List �
 put-slot w base i key v =
     set (set (set w (base + 3 * i) (TAGS * key + tag-of v)) (base + 3 * i + 1) (low-of v)) (base + 3 * i + 2)
     (high-of v)
-
--- a slot gets a key, and holds what it held
-unfoldable pub name-slot : List ℕ → ℕ → ℕ → ℕ → List ℕ
-name-slot w base i key = set w (base + 3 * i) (TAGS * key + getD w (base + 3 * i) 0 % TAGS)

@@ -4,6 +4,7 @@
 // Table memory: a token has four words (kind, place and end in one, and two for what it is worth: the low
 // one a number's value or a name's number, both together a float number's bits), a row of the reading five (kind, own
 // token, three more), a function one (its row), a variable of the checker two (its name's number, its type's number).
+// Once the checker is done its variables' words hold what is noted of tokens (`notes`).
 // Work memory: a slot has three words (a key and a tag in one, and two for the value, of which a float alone needs the
 // high one), a frame four (a node's row, its phase, the first slot that it sees, and how many with a mark in one word);
 // cells are slots, too.
@@ -12,6 +13,7 @@ pub mod floats;
 pub mod frames;
 pub mod functions;
 pub mod memory;
+pub mod notes;
 pub mod rows;
 pub mod slots;
 pub mod token;
@@ -20,6 +22,7 @@ pub mod values;
 pub mod variables;
 
 use language::ACTIVE;
+use language::NODES;
 use language::PARAMETERS;
 use language::TOKENS;
 
@@ -37,6 +40,9 @@ pub const ROWS_AT: usize = 4 * TOKENS;
 pub const FUNCTIONS_AT: usize = 9 * TOKENS;
 
 pub const VARIABLES_AT: usize = 10 * TOKENS;
+
+// What is noted of tokens, behind the names of the slots in sight, where the checker's variables lay.
+pub const NOTES_AT: usize = 11 * TOKENS;
 
 pub const TABLE_END: usize = 12 * TOKENS;
 
@@ -59,3 +65,6 @@ pub const PUTCHAR: u32 = TOKENS as u32;
 
 // In the place of a name's number: a slot in which no name is bound, but an operand or an argument waits.
 pub const HELD: u32 = TOKENS as u32 + 1;
+
+// In the place of a function's row: no function, but `putchar`.
+pub const NOBODY: u32 = NODES as u32;

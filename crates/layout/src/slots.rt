@@ -1,9 +1,9 @@
-// Slots of work memory: a key and a value. A binding has its name's number for a key, a cell its birth number.
+// Slots of work memory: a key and a value. A cell has its birth number for a key.
 ghost use mathlib.Core.Path.{_≡_};
 ghost use Prim.Native.Nat.{ℕ, _+_, _*_, _≤_, _<_};
 ghost use lib.ListN.{length};
 ghost use Rattle.language.specs.Sizes.{WORK};
-ghost use Rattle.layout.specs.Slots.{TAGS, KEYS, key-at, value-at, put-slot, name-slot};
+ghost use Rattle.layout.specs.Slots.{TAGS, KEYS, key-at, value-at, put-slot};
 ghost use Rattle.layout.specs.Values.{meant, Survives};
 use crate::values;
 use crate::values::Value;
@@ -43,22 +43,12 @@ pub fn put(work: &mut [u32], base: usize, i: usize, key: u32, v: Value)
     ensures { λ _. ⌜ (now (work .exit) ≡ put-slot (now (work .entry)) base i key v) × Survives v ⌝ }
 {
     let at = base + 3 * i;
-    let tag = values::tag(v);
-    let low = values::low(v);
-    let high = values::high(v);
+    let words = values::words(v);
+    let tag = words.tag;
+    let low = words.low;
+    let high = words.high;
     let head = pack(key, tag);
     work[at] = head;
     work[at + 1] = low;
     work[at + 2] = high;
-}
-
-// A slot gets a key, and holds what it held.
-pub fn name(work: &mut [u32], base: usize, i: usize, key: u32)
-    requires { ⌜ (base ≤ WORK) × (i ≤ WORK) × (base + 3 * i + 3 ≤ length (now work)) × (key ≤ KEYS) ⌝ }
-    ensures { λ _. ⌜ now (work .exit) ≡ name-slot (now (work .entry)) base i key ⌝ }
-{
-    let at = base + 3 * i;
-    let tag = work[at] % TAGS;
-    let head = pack(key, tag);
-    work[at] = head;
 }

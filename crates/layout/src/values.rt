@@ -5,12 +5,20 @@ ghost use mir.Val.{toZ, ofZ};
 ghost use Rattle.layout.specs.Values.{meant, value-in, tag-of, low-of, high-of, Survives};
 use crate::floats;
 
+// In the order of their tags, so that a value's tag is the number of its case.
 pub enum Value {
     Int(i32),
-    Float(f64),
     Flag(bool),
     Nothing,
+    Float(f64),
     Cell(u32),
+}
+
+// A value in words.
+pub struct InWords {
+    pub tag: u32,
+    pub low: u32,
+    pub high: u32,
 }
 
 // The signed number whose bits are those of x.
@@ -54,38 +62,27 @@ pub fn from_words(tag: u32, low: u32, high: u32) -> Value
     Value::Cell(low)
 }
 
-pub fn tag(v: Value) -> u32
-    ensures { λ r. ⌜ r ≡ tag-of v ⌝ }
+// Those of a value that needs one word.
+fn single(tag: u32, low: u32) -> InWords
+    ensures { λ r. ⌜ (r .tag ≡ tag) × (r .low ≡ low) × (r .high ≡ 0) ⌝ }
 {
-    match v {
-        Value::Int(_) => 0,
-        Value::Flag(_) => 1,
-        Value::Nothing => 2,
-        Value::Float(_) => 3,
-        Value::Cell(_) => 4,
-    }
+    InWords { tag, low, high: 0 }
 }
 
-pub fn low(v: Value) -> u32
-    ensures { λ r. ⌜ (r ≡ low-of v) × Survives v ⌝ }
+// The words of v, all at once, so that its case is told once.
+pub fn words(v: Value) -> InWords
+    ensures { λ r. ⌜ (r .tag ≡ tag-of v) × (r .low ≡ low-of v) × (r .high ≡ high-of v) × Survives v ⌝ }
 {
     match v {
-        Value::Int(z) => bits(z),
-        Value::Float(x) => floats::low(floats::bits(x)),
-        Value::Flag(b) => { if b { 1 } else { 0 } }
-        Value::Nothing => 0,
-        Value::Cell(n) => n,
-    }
-}
-
-pub fn high(v: Value) -> u32
-    ensures { λ r. ⌜ r ≡ high-of v ⌝ }
-{
-    match v {
-        Value::Int(_) => 0,
-        Value::Float(x) => floats::high(floats::bits(x)),
-        Value::Flag(_) => 0,
-        Value::Nothing => 0,
-        Value::Cell(_) => 0,
+        Value::Int(z) => single(0, bits(z)),
+        Value::Flag(b) => { if b { single(1, 1) } else { single(1, 0) } }
+        Value::Nothing => single(2, 0),
+        Value::Float(x) => {
+            let n = floats::bits(x);
+            let low = floats::low(n);
+            let high = floats::high(n);
+            InWords { tag: 3, low, high }
+        }
+        Value::Cell(n) => single(4, n),
     }
 }

@@ -5,35 +5,18 @@ use mathlib.Core.List.{List, [], _∷_}
 use mathlib.Core.Option.{Option, none, some}
 use Prim.Native.Nat.{ℕ, zero, suc, _+_, _-_, _*_, _/_, _%_, _<_, _≤_}
 use native.Mathlib.Omega.{arith}
-use native.Mathlib.Nat.{mod-lt}
 use lib.ListN.{length, getD, set, length-set}
 use lib.Seq.{getD-set-same, getD-set-other}
 use lib.Dec.{eqb}
 use borrow.Author.Tests.{eq-eqb, ne-eqb, le-leb, lt-leb}
 use Rattle.language.specs.State.{Value, live, count, held, keep}
-use Rattle.layout.specs.Slots.{TAGS, key-at, value-at, put-slot, name-slot}
+use Rattle.layout.specs.Slots.{TAGS, key-at, value-at, put-slot}
 use Rattle.layout.specs.Values.{meant, tag-of, low-of, high-of, Survives}
 use Rattle.layout.specs.declared.values.Value as Code
 use Rattle.layout.proofs.Packed.{tag-small, packed-key, packed-tag}
-use Rattle.machine.specs.Slots.{Slot, slots, values-from, bound-in, find, cells-of, Same}
+use Rattle.machine.specs.Slots.{Slot, slots, values-from, find, cells-of, Same}
 
 -- ---- looked through, from the newest on
-
-module _ (w : List ℕ) (base i j key : ℕ) (e : i ≡ suc j) where
-  -- the newest has the key
-  pub bound-here : key-at w 0 (base + j) ≡ key → bound-in w base i key ≡ some (value-at w 0 (base + j))
-  unfolding bound-in
-  bound-here h = rw e (rw (eq-eqb key (key-at w 0 (base + j)) (sym h)) refl)
-
-  -- it has another
-  pub bound-past : (key-at w 0 (base + j) ≡ key → ⊥) → bound-in w base i key ≡ bound-in w base j key
-  unfolding bound-in
-  bound-past h = rw e (rw (ne-eqb key (key-at w 0 (base + j)) (λ q. h (sym q))) refl)
-
--- there is none
-pub bound-none : (w : List ℕ) (base i key : ℕ) → i ≡ 0 → bound-in w base i key ≡ none
-unfolding bound-in
-bound-none w base i key e = rw e refl
 
 module _ (w : List ℕ) (at i j key : ℕ) (e : i ≡ suc j) where
   -- the newest has the key
@@ -134,38 +117,6 @@ module _ (w : List ℕ) (at i key : ℕ) (v : Code.Value) (room : at + 3 * i + 3
   -- what it holds
   pub put-value : Survives v → value-at (put-slot w at i key v) at i ≡ meant v
   put-value h = rw (put-tag, put-low, put-high) h
-
--- ---- a slot that gets a key
-
-pub name-length : (w : List ℕ) (at i key : ℕ) → length (name-slot w at i key) ≡ length w
-unfolding name-slot
-name-length w at i key = simp length-set refl
-
--- all words but one stay
-pub name-other : (w : List ℕ) (at i key k : ℕ) → (k ≡ at + 3 * i → ⊥) → getD (name-slot w at i key) k 0 ≡ getD w k 0
-unfolding name-slot
-name-other w at i key k h = getD-set-other w (at + 3 * i) k (TAGS * key + getD w (at + 3 * i) 0 % TAGS) 0 h
-
-module _ (w : List ℕ) (at i key : ℕ) (room : at + 3 * i + 3 ≤ length w) where
-  name-head : getD (name-slot w at i key) (at + 3 * i) 0 ≡ TAGS * key + getD w (at + 3 * i) 0 % TAGS
-  unfolding name-slot
-  name-head = getD-set-same w (at + 3 * i) (TAGS * key + getD w (at + 3 * i) 0 % TAGS) 0 (omega arith)
-
-  tag-less : getD w (at + 3 * i) 0 % TAGS < TAGS
-  tag-less = mod-lt (getD w (at + 3 * i) 0) (omega arith)
-
-  pub name-key : key-at (name-slot w at i key) at i ≡ key
-  name-key = ap (λ (n : ℕ). n / TAGS) name-head ∙ packed-key key (getD w (at + 3 * i) 0 % TAGS) tag-less
-
-  pub name-value : value-at (name-slot w at i key) at i ≡ value-at w at i
-  name-value =
-      let a : getD (name-slot w at i key) (at + 3 * i) 0 % TAGS ≡ getD w (at + 3 * i) 0 % TAGS =
-      ap (λ (n : ℕ). n % TAGS) name-head ∙ packed-tag key (getD w (at + 3 * i) 0 % TAGS) tag-less in
-      let b : getD (name-slot w at i key) (at + 3 * i + 1) 0 ≡ getD w (at + 3 * i + 1) 0 =
-      name-other w at i key (at + 3 * i + 1) (λ e. omega arith) in
-      let d : getD (name-slot w at i key) (at + 3 * i + 2) 0 ≡ getD w (at + 3 * i + 2) 0 =
-      name-other w at i key (at + 3 * i + 2) (λ e. omega arith) in
-      rw (a, b, d) refl
 
 -- one slot more
 pub slots-put : (w : List ℕ) (at n key : ℕ) (v : Code.Value) → at + 3 * n + 3 ≤ length w → Survives v

@@ -28,16 +28,6 @@ unfoldable pub values-from : List ℕ → ℕ → ℕ → ℕ → List State.Val
 values-from w at k zero = []
 values-from w at k (suc n) = value-at w at k ∷ values-from w at (k + 1) n
 
--- what the newest of n slots that has the key holds, the first of them slot `base`
-unfoldable pub bound-in : List ℕ → ℕ → ℕ → ℕ → Option State.Value
-bound-in w base zero key = none
-bound-in w base (suc n) key = cond (eqb key (key-at w 0 (base + n))) (some (value-at w 0 (base + n)))
-    (bound-in w base n key)
-
--- v is that, if any has it
-abbrev pub Bound : List ℕ → ℕ → ℕ → ℕ → State.Value → Type 0
-Bound w base n key v = (u : State.Value) → bound-in w base n key ≡ some u → v ≡ u
-
 unfoldable pub find : ℕ → List Slot → Option State.Value
 find k [] = none
 find k (s ∷ ss) = cond (eqb k (s .key)) (some (s .holds)) (find k ss)

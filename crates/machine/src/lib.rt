@@ -1,8 +1,7 @@
-// What a run works on, and all that is done with values: numbers, operands, operators, bindings, cells,
-// and the bytes that are printed.
+// What a run works on, and all that is done with values: numbers, operands, operators, cells, and
+// the bytes that are printed.
 
 pub mod arithmetic;
-pub mod bindings;
 pub mod cells;
 pub mod counting;
 pub mod leaves;

@@ -12,7 +12,7 @@ use Rattle.language.specs.State.{value, stop, stuck, then}
 use Rattle.language.specs.Meaning.{Env, arguments, eval}
 use Rattle.layout.specs.Table.{KIND, FIRST, EXPRESSION, NEXT, row-word}
 use Rattle.layout.specs.Decode.{counts}
-use Rattle.layout.specs.Slots.{TAGS, WAITING}
+use Rattle.layout.specs.Slots.{TAGS, HELD, WAITING}
 use Rattle.layout.specs.Frames.{put-frame}
 use Rattle.layout.proofs.Shapes.{range-counts}
 use Rattle.machine.specs.Slots.{values-from}
@@ -30,16 +30,16 @@ use Rattle.runner.proofs.Entering.{spot}
 use Rattle.runner.proofs.Waiting.{first-begins}
 
 -- whose values they are, by the kind of its row
-module _ {q : Run} {t : List ℕ} {d row : ℕ} {env : Env} {done : List M.Value → M.State → M.Outcome} where
-  pub does-inside : Does q t d row env done → row < NODES
+module _ {q : Run} {t : List ℕ} {d row : ℕ} {L : List ℕ} {env : Env} {done : List M.Value → M.State → M.Outcome} where
+  pub does-inside : Does q t d row L env done → row < NODES
   does-inside (by-call c) = c .head .inside
   does-inside (by-for f) = f .loop .head .inside
 
-  pub call-does : Does q t d row env done → counts (row-word t row KIND) ≡ false → CallDoes q t d row env done
+  pub call-does : Does q t d row L env done → counts (row-word t row KIND) ≡ false → CallDoes q t d row L env done
   call-does (by-call c) k = c
   call-does (by-for f) k = clash-bool (ap counts (f .loop .head .kind-is) ∙ range-counts (f .loop .through)) k
 
-  pub for-does : Does q t d row env done → counts (row-word t row KIND) ≡ true → ForDoes q t d row env done
+  pub for-does : Does q t d row L env done → counts (row-word t row KIND) ≡ true → ForDoes q t d row L env done
   for-does (by-for f) k = f
   for-does (by-call c) k = clash-bool k (ap counts (c .head .kind-is) ∙ call-counts)
 
@@ -64,35 +64,36 @@ module _ (q : Run) (d : ℕ) (env : Env) where
 
 -- no argument
 module _ (q : Run) {t : List ℕ} where
-  pub none-left : {r : ℕ} {es : Exps} → Args (q .ts) t r es → r ≡ 0 → es ≡ last
+  pub none-left : {L : List ℕ} {r : ℕ} {es : Exps} → Args (q .ts) t (q .defs) L r es → r ≡ 0 → es ≡ last
   none-left (args-last e) z = refl
   none-left (args-more n l a m) z = absurd (n z)
 
 -- an argument, and those behind it
-pub record Argued (q : Run) (t : List ℕ) (r : ℕ) (es : Exps) : Type 0 where
+pub record Argued (q : Run) (t L : List ℕ) (r : ℕ) (es : Exps) : Type 0 where
   pub e : Exp
   pub rest : Exps
   pub is : es ≡ more e rest
   pub inside : r < NODES
-  pub at : At (q .ts) t (row-word t r EXPRESSION) e
-  pub args : Args (q .ts) t (row-word t r NEXT) rest
+  pub at : At (q .ts) t (q .defs) L (row-word t r EXPRESSION) e
+  pub args : Args (q .ts) t (q .defs) (HELD ∷ L) (row-word t r NEXT) rest
 
-pub some-left : (q : Run) {t : List ℕ} {r : ℕ} {es : Exps} → Args (q .ts) t r es → (r ≡ 0 → ⊥) → Argued q t r es
+pub some-left : (q : Run) {t L : List ℕ} {r : ℕ} {es : Exps} → Args (q .ts) t (q .defs) L r es → (r ≡ 0 → ⊥) → Argued q t L r es
 some-left q (args-last e) n = absurd (n e)
 some-left q (args-more {e = e} {es = es} n l a m) z = record { e = e; rest = es; is = refl; inside = l; at = a; args = m }
 
 -- ---- the first one
 
 module _ {q : Run} {t w o : List ℕ} {node : ℕ} {p : Spot} {s : Tally} (b : Starts q t w o node p s) (done : List M.Value → M.State → M.Outcome)
-    (does : Does q t (b .d) node (b .env) done) {es : Exps} (args : Args (q .ts) t (row-word t node FIRST) es) (few : count es ≤ PARAMETERS)
+    (does : Does q t (b .d) node (b .L) (b .env) done) {es : Exps} (args : Args (q .ts) t (q .defs) (b .L) (row-word t node FIRST) es)
+    (few : count es ≤ PARAMETERS)
     (room : p .base + length (b .L) + WAITING * suc (b .d) ≤ WAITING * ACTIVE)
     (means : then (arguments (q .fs) (eval (q .fs) (b .d)) es (b .env) (memory w o s) done) (b .κ) ≡ q .whole)
     (row : ℕ) (is : row ≡ row-word t node FIRST) (some-there : row ≡ 0 → ⊥) where
   abbrev σ : M.State
   σ = memory w o s
 
-  argued : Argued q t row es
-  argued = some-left q (subst (λ (r : ℕ). Args (q .ts) t r es) (sym is) args) some-there
+  argued : Argued q t (b .L) row es
+  argued = some-left q (subst (λ (r : ℕ). Args (q .ts) t (q .defs) (b .L) r es) (sym is) args) some-there
 
   pub first-inside : row < NODES
   first-inside = argued .inside

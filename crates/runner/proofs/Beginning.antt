@@ -13,10 +13,11 @@ use Rattle.language.specs.State as M
 use Rattle.language.specs.State.{value, stop, stuck, no-unit, too-deep, then, when-some, with-units}
 use Rattle.language.specs.Meaning.{Fun, Env, charge, begin, literal-value, step, eval}
 use Rattle.layout.specs.Table.{KIND, OWN, row-word, token-value}
-use Rattle.layout.specs.Slots.{WAITING, SLOTS}
+use Rattle.layout.specs.Slots.{WAITING, SLOTS, value-at}
+use Rattle.layout.specs.Notes.{noted}
+use Rattle.layout.specs.Resolved.{slot-of}
 use Rattle.layout.specs.Values.{meant}
 use Rattle.layout.specs.declared.values.Value.{Value}
-use Rattle.machine.specs.Slots.{bound-in, Bound}
 use Rattle.machine.specs.Rows.{literal-of, LiteralRow}
 use Rattle.machine.specs.Outcomes.{memory}
 use Rattle.numbers.specs.declared.Stop.{Stop}
@@ -27,40 +28,40 @@ use Rattle.runner.specs.Trees.{at-block, at-call, at-bind, at-branch, at
 use Rattle.runner.specs.Waiting.{Run, Then, Binds, Stack}
 use Rattle.runner.specs.Standing.{Fair, Begins, Starts, Gives, Good, charged, over}
 use Rattle.runner.specs.declared.state.Spot.{Spot}
-use Rattle.runner.specs.declared.state.Ending.{Ending}
+use Rattle.runner.specs.Standing.{Ending}
 use Rattle.layout.proofs.Shapes.{unary-high, binary-between}
 use Rattle.runner.proofs.RowKinds.{literal-range, range-between, range-waits, unary-waits, binary-waits, semi-waits}
 use Rattle.runner.proofs.RowKinds.{group-waits, block-waits, call-waits, let-waits, if-waits, while-waits, clash, clash-waits}
-use Rattle.runner.proofs.Finding.{bound-holds}
+use Rattle.runner.proofs.Finding.{noted-holds}
 use Rattle.runner.proofs.Entering.{fair-low}
 
 -- ---- rows
 
-module _ {ts : List Token} {t : List ℕ} {row : ℕ} where
-  pub own-at : {e : Exp} → At ts t row e → own e ≡ row-word t row OWN
+module _ {ts : List Token} {t : List ℕ} {defs : ℕ} {L : List ℕ} {row : ℕ} where
+  pub own-at : {e : Exp} → At ts t defs L row e → own e ≡ row-word t row OWN
   unfolding own
-  own-at (at-name h x) = sym (h .own-is)
+  own-at (at-name h x m) = sym (h .own-is)
   own-at (at-literal h x y) = sym (h .own-is)
   own-at (at-unary h x) = sym (h .own-is)
   own-at (at-binary h x y) = sym (h .own-is)
   own-at (at-follow h x y) = sym (h .own-is)
   own-at (at-group h x) = sym (h .own-is)
   own-at (at-block h x) = sym (h .own-is)
-  own-at (at-call h x y z) = sym (h .own-is)
+  own-at (at-call h x y z m) = sym (h .own-is)
   own-at (at-bind h x y z) = sym (h .own-is)
   own-at (at-branch h x y z) = sym (h .own-is)
   own-at (at-loop h x y) = sym (h .own-is)
   own-at (at-counted h x y z u) = sym (h .own-is)
 
-  pub inside-at : {e : Exp} → At ts t row e → row < NODES
-  inside-at (at-name h x) = h .inside
+  pub inside-at : {e : Exp} → At ts t defs L row e → row < NODES
+  inside-at (at-name h x m) = h .inside
   inside-at (at-literal h x y) = h .inside
   inside-at (at-unary h x) = h .inside
   inside-at (at-binary h x y) = h .inside
   inside-at (at-follow h x y) = h .inside
   inside-at (at-group h x) = h .inside
   inside-at (at-block h x) = h .inside
-  inside-at (at-call h x y z) = h .inside
+  inside-at (at-call h x y z m) = h .inside
   inside-at (at-bind h x y z) = h .inside
   inside-at (at-branch h x y z) = h .inside
   inside-at (at-loop h x y) = h .inside
@@ -121,7 +122,7 @@ fair-charged n f = record {
 
 starts : {q : Run} {t w o : List ℕ} {node : ℕ} {p : Spot} {s : Tally} (d : ℕ) (e : Exp) (L : List ℕ) (env : Env) (κ : Then)
     → Scene (q .ts) t (q .defs) (q .fs) → Fair q w o s (p .height) → d + p .height ≡ ACTIVE + 1 → 1 ≤ p .height
-    → At (q .ts) t node e → p .size ≡ length L → Binds (q .ts) w (p .base) L env → p .base + length L + WAITING * d ≤ WAITING * ACTIVE + slack e
+    → At (q .ts) t (q .defs) L node e → p .size ≡ length L → Binds (q .ts) w (p .base) L env → p .base + length L + WAITING * d ≤ WAITING * ACTIVE + slack e
     → Stack q t w d (p .height) (p .base + length L) (s .cells) (s .births) κ → then (eval (q .fs) d e env (memory w o s)) κ ≡ q .whole
     → (s .units ≡ 0 → ⊥) → (p .height ≡ ACTIVE + 1 → ⊥) → Starts q t w o node p (charged s)
 starts zero e L env κ scene fair deep high at sized binds room stack means n l = absurd (l (omega arith))
@@ -145,7 +146,7 @@ starts {q} {w = w} {o = o} {s = s} (suc d) e L env κ scene fair deep high at si
 
 module _ {q : Run} {t w o : List ℕ} {node : ℕ} {p : Spot} {s : Tally} (b : Begins q t w o node p s) where
   pub begin-none : s .units ≡ 0 → (place : ℕ) → place ≡ row-word t node OWN → (v : Value)
-      → Good q t w o (over (Ending.Stop Stop.NoUnit place) v p s)
+      → Good q t w o (over (Ending.stopped Stop.NoUnit place) v p s)
   unfolding then
   begin-none z place e v = record {
     fair = fair-low 0 (omega arith) (b .fair);
@@ -154,7 +155,7 @@ module _ {q : Run} {t w o : List ℕ} {node : ℕ} {p : Spot} {s : Tally} (b : B
   }
 
   pub begin-deep : (s .units ≡ 0 → ⊥) → p .height ≡ ACTIVE + 1 → (place : ℕ) → place ≡ row-word t node OWN → (v : Value)
-      → Good q t w o (over (Ending.Stop Stop.TooDeep place) v p (charged s))
+      → Good q t w o (over (Ending.stopped Stop.TooDeep place) v p (charged s))
   unfolding then
   begin-deep n l place e v = record {
     fair = fair-low 0 (omega arith) (fair-charged n (b .fair));
@@ -201,24 +202,28 @@ record Looked (q : Run) (t w : List ℕ) (node base : ℕ) (L : List ℕ) (m : M
   x : Name
   named : NameAt (q .ts) t (row-word t node OWN) x
   v : M.Value
-  bound : bound-in w base (length L) (token-value t (row-word t node OWN)) ≡ some v
+  inside : noted t (row-word t node OWN) < length L
+  held : value-at w 0 (base + noted t (row-word t node OWN)) ≡ v
   is : m ≡ value v s
 
 module _ (q : Run) {t w : List ℕ} {node base : ℕ} {L : List ℕ} {env : Env} (s : M.State) (κ : Then) (go : Exp → Env → M.State → M.Outcome)
     (few : length (q .ts) ≤ TOKENS) (binds : Binds (q .ts) w base L env) where
-  looked : {e : Exp} → At (q .ts) t node e → then (step (q .fs) go e env s) κ ≡ q .whole → row-word t node KIND ≡ NAME
+  looked : {e : Exp} → At (q .ts) t (q .defs) L node e → then (step (q .fs) go e env s) κ ≡ q .whole → row-word t node KIND ≡ NAME
       → Looked q t w node base L (step (q .fs) go e env s) s
   unfolding step when-some
-  looked (at-name {i = i} {x = x} h n) means k =
+  looked (at-name {i = i} {x = x} h n y) means k =
       let u = bound q s κ (nearest x env) means in
       let m : NameAt (q .ts) t (row-word t node OWN) x = subst (λ (j : ℕ). NameAt (q .ts) t j x) (sym (h .own-is)) n in
+      let z : noted t (row-word t node OWN) ≡ slot-of (token-value t (row-word t node OWN)) L =
+      subst (λ (j : ℕ). noted t j ≡ slot-of (token-value t j) L) (sym (h .own-is)) y in
+      let r = noted-holds few m binds z (u .0) (u .1) in
       record {
         x = x;
         named = m;
         v = u .0;
-        bound = bound-holds few (m .named) binds (u .0) (u .1);
-        is = ap
-            (λ (m : Option M.Value). when-some m (λ y. value y s) λ _. stuck) (u .1);
+        inside = r .0;
+        held = r .1;
+        is = ap (λ (m : Option M.Value). when-some m (λ y. value y s) λ _. stuck) (u .1);
       }
   looked (at-literal {l = l} h x y) means k = clash (h .kind-is) k (λ z. omega (arith, literal-range l))
   looked (at-unary {o = o} h x) means k = clash (h .kind-is) k (λ z. omega (arith, unary-high o))
@@ -226,7 +231,7 @@ module _ (q : Run) {t w : List ℕ} {node base : ℕ} {L : List ℕ} {env : Env}
   looked (at-follow h x y) means k = clash (h .kind-is) k (λ z. omega arith)
   looked (at-group h x) means k = clash (h .kind-is) k (λ z. omega arith)
   looked (at-block h x) means k = clash (h .kind-is) k (λ z. omega arith)
-  looked (at-call h x y z) means k = clash (h .kind-is) k (λ z. omega arith)
+  looked (at-call h x y z m) means k = clash (h .kind-is) k (λ z. omega arith)
   looked (at-bind h x y z) means k = clash (h .kind-is) k (λ z. omega arith)
   looked (at-branch h x y z) means k = clash (h .kind-is) k (λ z. omega arith)
   looked (at-loop h x y) means k = clash (h .kind-is) k (λ z. omega arith)
@@ -235,17 +240,17 @@ module _ (q : Run) {t w : List ℕ} {node base : ℕ} {L : List ℕ} {env : Env}
 -- ---- literals
 
 module _ (q : Run) {t : List ℕ} {node : ℕ} (go : Exp → Env → M.State → M.Outcome) (env : Env) (s : M.State) where
-  literal-row : {e : Exp} → At (q .ts) t node e → (row-word t node KIND ≡ NAME → ⊥) → waits (row-word t node KIND) ≡ false
+  literal-row : {L : List ℕ} {e : Exp} → At (q .ts) t (q .defs) L node e → (row-word t node KIND ≡ NAME → ⊥) → waits (row-word t node KIND) ≡ false
       → LiteralRow t node × (step (q .fs) go e env s ≡ value (literal-value (literal-of t node)) s)
   unfolding step
   literal-row (at-literal h x y) n f = (y, rw x refl)
-  literal-row (at-name h x) n f = absurd (n (h .kind-is))
+  literal-row (at-name h x m) n f = absurd (n (h .kind-is))
   literal-row (at-unary {o = o} h x) n f = clash-waits (h .kind-is) f (unary-waits o)
   literal-row (at-binary {o = o} h x y) n f = clash-waits (h .kind-is) f (binary-waits o)
   literal-row (at-follow h x y) n f = clash-waits (h .kind-is) f semi-waits
   literal-row (at-group h x) n f = clash-waits (h .kind-is) f group-waits
   literal-row (at-block h x) n f = clash-waits (h .kind-is) f block-waits
-  literal-row (at-call h x y z) n f = clash-waits (h .kind-is) f call-waits
+  literal-row (at-call h x y z m) n f = clash-waits (h .kind-is) f call-waits
   literal-row (at-bind h x y z) n f = clash-waits (h .kind-is) f let-waits
   literal-row (at-branch h x y z) n f = clash-waits (h .kind-is) f if-waits
   literal-row (at-loop h x y) n f = clash-waits (h .kind-is) f while-waits
@@ -260,16 +265,14 @@ module _ {q : Run} {t w o : List ℕ} {node : ℕ} {p : Spot} {s : Tally} (b : S
   pub name-token : row-word t node KIND ≡ NAME → row-word t node OWN < TOKENS
   name-token k = found k .named .inside
 
-  pub start-room : p .base + p .size ≤ SLOTS
-  start-room = omega (arith, b .room, b .sized, slack-one (b .e))
+  -- the slot that is noted of it is in use
+  pub name-slot : row-word t node KIND ≡ NAME → p .base + noted t (row-word t node OWN) < SLOTS
+  name-slot k = omega (arith, found k .inside, b .room, slack-one (b .e))
 
-  pub start-name : row-word t node KIND ≡ NAME → (v : Value) → Bound w (p .base) (p .size) (token-value t (row-word t node OWN)) (meant v)
-      → Gives q t w o v p s
+  pub start-name : row-word t node KIND ≡ NAME → (v : Value) → meant v ≡ value-at w 0 (p .base + noted t (row-word t node OWN)) → Gives q t w o v p s
   start-name k v h =
       let f = found k in
-      let e : meant v ≡ f .v =
-      h (f .v) (ap (λ (n : ℕ). bound-in w (p .base) n (token-value t (row-word t node OWN))) (b .sized) ∙ f .bound) in
-      leaf b v (f .is ∙ ap (λ (x : M.Value). value x (memory w o s)) (sym e))
+      leaf b v (f .is ∙ ap (λ (x : M.Value). value x (memory w o s)) (sym (h ∙ f .held)))
 
   pub literal-is : (row-word t node KIND ≡ NAME → ⊥) → waits (row-word t node KIND) ≡ false → LiteralRow t node
   literal-is n f = literal-row q (eval (q .fs) (b .d)) (b .env) (memory w o s) (b .at) n f .0

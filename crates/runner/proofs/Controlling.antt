@@ -7,14 +7,13 @@ use Prim.Native.Nat.{ℕ, _+_, _≤_, _<_}
 use native.Mathlib.Omega.{arith}
 use lib.Dec.{T}
 use borrow.Author.Tests.{ne-eqb}
-use Rattle.language.specs.Sizes.{TOKENS, NODES}
+use Rattle.language.specs.Sizes.{NODES}
 use Rattle.language.specs.State as M
 use Rattle.language.specs.State.{nothing, value, then, as-bool, as-unit, has, when-some, want, choose}
 use Rattle.language.specs.Meaning.{eval}
 use Rattle.language.proofs.Meaning.Spending.{while, while-is}
-use Rattle.layout.specs.Table.{OWN, FIRST, SECOND, THIRD, row-word, token-value}
-use Rattle.layout.specs.Names.{Named}
-use Rattle.layout.specs.Slots.{SLOTS, KEYS, put-slot}
+use Rattle.layout.specs.Table.{FIRST, SECOND, THIRD, row-word, token-value}
+use Rattle.layout.specs.Slots.{SLOTS, put-slot}
 use Rattle.layout.specs.Frames.{put-phase}
 use Rattle.layout.specs.Values.{meant, Survives}
 use Rattle.layout.specs.declared.values.Value.{Value}
@@ -22,15 +21,14 @@ use Rattle.layout.specs.declared.values.Value.the-variants.{Nothing}
 use Rattle.machine.specs.Operands.{is-true}
 use Rattle.machine.specs.Outcomes.{memory}
 use Rattle.machine.specs.declared.state.Tally.{Tally}
-use Rattle.runner.specs.Phases.{LAST, UNARY, LEFT, RIGHT, BEFORE, INSIDE, BOUND, CONDITION, TEST, PASS, ARGUMENT, COUNTED, Controls}
+use Rattle.runner.specs.Phases.{LAST, UNARY, LEFT, RIGHT, BEFORE, INSIDE, BOUND, CONDITION, TEST, PASS, ARGUMENT, COUNTED, NAMELESS, Controls}
 use Rattle.runner.specs.Waiting.{Run, Then, binds-name, which, tested, WaitsBefore, WaitsBound, WaitsCondition, WaitsTest, WaitsPass, WaitsWhole, Waits}
 use Rattle.runner.specs.Standing.{Begins, Gives, Resumes, Ends}
 use Rattle.runner.specs.declared.state.Spot.{Spot}
-use Rattle.runner.specs.declared.state.Ending.{Ending}
+use Rattle.runner.specs.Standing.{Ending}
 use Rattle.runner.proofs.Stacks.{then-then}
 use Rattle.runner.proofs.Entering.{fair-low, spot}
-use Rattle.runner.proofs.Finding.{name-small}
-use Rattle.runner.proofs.Giving.{waits-at, back, sees, turns, holding, holding-key, holding-value, holds}
+use Rattle.runner.proofs.Giving.{waits-at, back, sees, turns, holding, holding-value, holds}
 
 -- ---- a value of a kind that is wanted, where the run is not stuck
 
@@ -84,29 +82,17 @@ module _ {q : Run} {t w o : List ℕ} {v : Value} {row phase : ℕ} {p : Spot} {
     pub bound-inside : row < NODES
     bound-inside = bound .inside
 
-    -- its name is a token's
-    pub bound-token : row-word t row OWN + 1 < TOKENS
-    bound-token = omega (arith, bound .own, bound .named .inside)
-
     pub bound-slot : p .base + p .size < SLOTS
     bound-slot = omega (arith, r .sized, bound .room)
 
-    key-is : token-value t (row-word t row OWN + 1) ≡ token-value t (bound .i + 1)
-    key-is = ap (λ (j : ℕ). token-value t (j + 1)) (bound .own)
-
-    pub bound-key : token-value t (row-word t row OWN + 1) ≤ KEYS
-    bound-key = omega (arith, key-is, name-small (r .scene .stand .few) (bound .named .named))
-
-    pub resume-bound : (key : ℕ) → key ≡ token-value t (row-word t row OWN + 1) → Survives v
-        → Begins q t (put-phase (put-slot w 0 (p .base + p .size) key v) (p .height) LAST) o (row-word t row SECOND)
+    pub resume-bound : Survives v
+        → Begins q t (put-phase (put-slot w 0 (p .base + p .size) NAMELESS v) (p .height) LAST) o (row-word t row SECOND)
         (spot (p .base) (p .size + 1) (p .height + 1)) s
     unfolding Waits which
-    resume-bound key e1 back1 =
-        let named : Named (q .ts) key (bound .x) = subst (λ (n : ℕ). Named (q .ts) n (bound .x)) (sym (e1 ∙ key-is)) (bound .named .named) in
-        holds r (bound .room) key LAST 0 (r .κ) {L1 = key ∷ r .L} (record { deep = omega (arith, bound .room); goes = λ x s. refl })
-        (omega arith) (omega arith) (bound .at)
-        (binds-name named (holding-key r (bound .room) key LAST) (holding-value r (bound .room) key LAST back1)
-        (sees r (holding r (bound .room) key LAST)))
+    resume-bound back1 =
+        holds r (bound .room) LAST 0 (r .κ) {L1 = token-value t (bound .i + 1) ∷ r .L}
+        (record { deep = omega (arith, bound .room); goes = λ x s. refl }) (omega arith) (omega arith) (bound .at)
+        (binds-name (bound .named .named) (holding-value r (bound .room) LAST back1) (sees r (holding r (bound .room) LAST)))
         (sym (bound .goes (meant v) σ) ∙ r .means)
 
   -- ---- if
@@ -210,5 +196,5 @@ module _ {q : Run} {t w o : List ℕ} {v : Value} {row phase : ℕ} {p : Spot} {
           ne-eqb phase COUNTED (c .counted),
         ) at (r .waits)
 
-    pub resume-whole : Ends q t w o Ending.«Value» v s
+    pub resume-whole : Ends q t w o Ending.complete v s
     resume-whole = record { fair = fair-low 0 (omega arith) (r .fair); tells = sym (whole .goes (meant v) σ) ∙ r .means }

@@ -34,7 +34,7 @@ use Rattle.runner.specs.Waiting.{Run, Then, bounded, ForAt, ForDoes, Doe
 use Rattle.runner.specs.Standing.{Begins, Starts, Resumes, Good, over}
 use Rattle.runner.specs.Loops.{Counting}
 use Rattle.runner.specs.declared.state.Spot.{Spot}
-use Rattle.runner.specs.declared.state.Ending.{Ending}
+use Rattle.runner.specs.Standing.{Ending}
 use Rattle.runner.proofs.RowKinds.{literal-range}
 use Rattle.runner.proofs.Entering.{fair-low, spot}
 use Rattle.runner.proofs.Arguments.{for-does, none-left, first-inside, first-begins-at}
@@ -54,37 +54,37 @@ counts-range k e = by (eqb k UPTO) refl
 other : {A : Type 0} {x a : ℕ} → x ≡ a → counts x ≡ true → ((UPTO ≤ a) × (a ≤ THROUGH) → ⊥) → A
 other {a = a} e k n = absurd (n (counts-range a (ap counts (sym e) ∙ k)))
 
-record Loop (q : Run) (t : List ℕ) (node : ℕ) (e : Exp) : Type 0 where
-  loop : ForAt q t node
+record Loop (q : Run) (t L : List ℕ) (node : ℕ) (e : Exp) : Type 0 where
+  loop : ForAt q t node L
   es : Exps
   is : e ≡ counted (loop .i) (loop .x) (loop .through) es (loop .e)
   few : count es ≤ PARAMETERS
-  args : Args (q .ts) t (row-word t node FIRST) es
+  args : Args (q .ts) t (q .defs) L (row-word t node FIRST) es
 
-module _ (q : Run) {t : List ℕ} where
-  loop-at : {node : ℕ} {e : Exp} → At (q .ts) t node e → counts (row-word t node KIND) ≡ true → Loop q t node e
+module _ (q : Run) {t L : List ℕ} where
+  loop-at : {node : ℕ} {e : Exp} → At (q .ts) t (q .defs) L node e → counts (row-word t node KIND) ≡ true → Loop q t L node e
   loop-at (at-counted {i = i} {x = x} {b = b} {es = es} {e = e} h n f a m) k =
       record { loop = record { i = i; x = x; through = b; e = e; head = h; named = n; at = m }; es = es; is = refl; few = f; args = a }
-  loop-at (at-name h x) k = other (h .kind-is) k (λ z. omega arith)
+  loop-at (at-name h x m) k = other (h .kind-is) k (λ z. omega arith)
   loop-at (at-literal {l = l} h x y) k = other (h .kind-is) k (λ z. omega (arith, literal-range l))
   loop-at (at-unary {o = o} h x) k = other (h .kind-is) k (λ z. omega (arith, unary-high o))
   loop-at (at-binary {o = o} h x y) k = other (h .kind-is) k (λ z. omega (arith, binary-between o))
   loop-at (at-follow h x y) k = other (h .kind-is) k (λ z. omega arith)
   loop-at (at-group h x) k = other (h .kind-is) k (λ z. omega arith)
   loop-at (at-block h x) k = other (h .kind-is) k (λ z. omega arith)
-  loop-at (at-call h x y z) k = other (h .kind-is) k (λ z. omega arith)
+  loop-at (at-call h x y z m) k = other (h .kind-is) k (λ z. omega arith)
   loop-at (at-bind h x y z) k = other (h .kind-is) k (λ z. omega arith)
   loop-at (at-branch h x y z) k = other (h .kind-is) k (λ z. omega arith)
   loop-at (at-loop h x y) k = other (h .kind-is) k (λ z. omega arith)
 
 module _ {q : Run} {t w o : List ℕ} {node : ℕ} {p : Spot} {s : Tally} (b : Starts q t w o node p s) (k : counts (row-word t node KIND) ≡ true) where
-  looping : Loop q t node (b .e)
+  looping : Loop q t (b .L) node (b .e)
   looping = loop-at q (b .at) k
 
   abbrev doing : List M.Value → M.State → M.Outcome
   doing = bounded (q .fs) (b .d) (looping .loop .i) (looping .loop .x) (looping .loop .through) (looping .loop .e) (b .env)
 
-  does : Does q t (b .d) node (b .env) doing
+  does : Does q t (b .d) node (b .L) (b .env) doing
   does = by-for (record { loop = looping .loop; is = λ vs s. refl })
 
   loop-room : p .base + length (b .L) + WAITING * suc (b .d) ≤ WAITING * ACTIVE
@@ -170,10 +170,10 @@ module _ (q : Run) (κ : Then) (w : List ℕ) (a : ℕ) (v : M.Value) (f : ℤ �
 
 module _ {q : Run} {t w o : List ℕ} {v : Value} {row : ℕ} {p : Spot} {s : Tally} (r : Resumes q t w o v row ARGUMENT p s)
     (end : row-word t (frame-mark w (p .height) / TAGS) NEXT ≡ 0) (k : counts (row-word t row KIND) ≡ true) where
-  does-loop : ForDoes q t (r .d) row (r .env) (waiting r refl .done)
+  does-loop : ForDoes q t (r .d) row (r .L) (r .env) (waiting r refl .done)
   does-loop = for-does (waiting r refl .by) k
 
-  abbrev loop : ForAt q t row
+  abbrev loop : ForAt q t row (r .L)
   loop = does-loop .loop
 
   abbrev opens : ℤ → ℤ → ℤ → M.Outcome
@@ -229,7 +229,7 @@ module _ {q : Run} {t w o : List ℕ} {v : Value} {row : ℕ} {p : Spot} {s : Ta
 
 module _ {q : Run} {t w o : List ℕ} {node : ℕ} {z to by : Value} {p : Spot} {s : Tally} (c : Counting q t w o true node z to by p s) where
   pub open-zero : is-zero (c .step) ≡ true → (place : ℕ) → place ≡ row-word t node OWN → (v : Value)
-      → Good q t w o (over (Ending.Stop Stop.ZeroStep place) v p s)
+      → Good q t w o (over (Ending.stopped Stop.ZeroStep place) v p s)
   unfolding choose then
   open-zero h place e v = record {
     fair = fair-low 0 (omega arith) (c .frame .fair);

@@ -13,10 +13,9 @@ use Rattle.language.specs.State as M
 use Rattle.layout.specs.Table.{zeros}
 use Rattle.layout.proofs.Clearing.{zeros-same}
 use Rattle.machine.specs.Outcomes.{bytes, memory}
-use Rattle.runner.specs.Standing.{ended}
+use Rattle.runner.specs.Standing.{Ending, ended, ending-of}
 use Rattle.runner.specs.Contract.{spent, reported-by, reported, outcome-of, spent-of, EndsAs}
 use Rattle.runner.specs.declared.Spent.{Spent}
-use Rattle.runner.specs.declared.state.Ending.{Ending}
 use Rattle.runner.specs.declared.state.Next.{Next}
 
 -- ---- cleared memory
@@ -63,21 +62,21 @@ output-is o o1 n e l h =
 
 -- it is the outcome's, in the state in which the run ended
 pub report-is : (e : Ending) (n : Next) (σ : M.State) → ended e (n .value) σ ≡ outcome-of (reported-by e n) σ
-report-is Ending.«Value» n σ = refl
-report-is (Ending.Stop y p) n σ = refl
+report-is Ending.complete n σ = refl
+report-is (Ending.stopped y p) n σ = refl
 
 -- units and bytes are the tally's
 pub spent-is : (e : Ending) (n : Next) → spent-of (reported-by e n) ≡ spent (n .tally)
-spent-is Ending.«Value» n = refl
-spent-is (Ending.Stop y p) n = refl
+spent-is Ending.complete n = refl
+spent-is (Ending.stopped y p) n = refl
 
-pub ends-as : {m : M.Outcome} (w o o1 : List ℕ) (n : Next) → ended (n .ending) (n .value) (memory w o1 (n .tally)) ≡ m
+pub ends-as : {m : M.Outcome} (w o o1 : List ℕ) (n : Next) → ended (ending-of (n .mode)) (n .value) (memory w o1 (n .tally)) ≡ m
     → length o1 ≡ length o → n .tally .printed ≤ length o1 → ((k : ℕ) → n .tally .printed ≤ k → getD o1 k 0 ≡ getD o k 0)
     → EndsAs m o o1 (reported n)
 ends-as w o o1 n e wide fits rest = record {
   state = memory w o1 (n .tally);
-  outcome = sym e ∙ report-is (n .ending) n (memory w o1 (n .tally));
-  left = ap (λ (x : Spent). x .left) (spent-is (n .ending) n);
-  printed = ap (λ (x : Spent). x .printed) (spent-is (n .ending) n) ∙ sym (bytes-length o1 (n .tally .printed));
+  outcome = sym e ∙ report-is (ending-of (n .mode)) n (memory w o1 (n .tally));
+  left = ap (λ (x : Spent). x .left) (spent-is (ending-of (n .mode)) n);
+  printed = ap (λ (x : Spent). x .printed) (spent-is (ending-of (n .mode)) n) ∙ sym (bytes-length o1 (n .tally .printed));
   output = output-is o o1 (n .tally .printed) wide fits rest;
 }

@@ -45,7 +45,7 @@ pub enter : {q : Run} {t w o : List ℕ} (d h u : ℕ) (κ′ : Then) {row p bas
     → FrameAt w h row p base (length L) mark → Binds (q .ts) w base L env → Later w n b (s .cells) (s .births)
     → Waits q t w d row base mark n b L env κ κ′ u p → Stack q t w (suc d) h (base + length L) n b κ
     → (base1 size1 : ℕ) {L1 : List ℕ} {env1 : Env} {node : ℕ} {e : Exp} → size1 ≡ length L1 → base + length L + u ≤ base1 + length L1
-    → At (q .ts) t node e → Binds (q .ts) w base1 L1 env1
+    → At (q .ts) t (q .defs) L1 node e → Binds (q .ts) w base1 L1 env1
     → base1 + length L1 + WAITING * d ≤ WAITING * ACTIVE + slack e
     → then (eval (q .fs) d e env1 (memory w o s)) κ′ ≡ q .whole
     → Begins q t w o node (spot base1 size1 (h + 1)) s

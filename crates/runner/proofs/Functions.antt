@@ -2,29 +2,27 @@
 use mathlib.Core.Path.{_≡_, refl, sym, ap, subst, _∙_}
 use mathlib.Core.List.{List, [], _∷_, _++_}
 use mathlib.Core.Option.{Option, none, some}
-use Prim.Native.Nat.{ℕ, zero, suc, _+_, _≤_, _<_}
+use Prim.Native.Nat.{ℕ, zero, suc, _+_}
 use native.Mathlib.Omega.{arith}
 use native.Mathlib.Numerals.{add-one}
 use native.Mathlib.Decide.{ℕ-discrete}
 use lib.ListN.{length}
-use Rattle.language.specs.Sizes.{TOKENS, TABLE}
-use Rattle.language.specs.Tokens as Tokens
-use Rattle.language.specs.Tokens.{Token, NAME}
+use Rattle.language.specs.Tokens.{Token}
 use Rattle.language.specs.Trees.{Name, Param, Def, Exp, last, push, empty, nearest}
 use Rattle.language.specs.State as M
 use Rattle.language.specs.State.{stuck, then, as-int, only, when-some, want}
 use Rattle.language.specs.Meaning.{putchar, defined, Env, put, enter, invoke, eval}
-use Rattle.layout.specs.Table.{OWN, ARITY, token-value, row-word}
+use Rattle.layout.specs.Table.{OWN, token-value, row-word}
 use Rattle.layout.specs.Names.{Named, Stand}
 use Rattle.layout.specs.Decode.{ParamsAt, params-none, params-more}
-use Rattle.layout.specs.Slots.{key-at, value-at}
-use Rattle.layout.proofs.NameLaws.{name-inside, named-at}
+use Rattle.layout.specs.Slots.{value-at}
+use Rattle.layout.proofs.NameLaws.{named-at}
 use Rattle.machine.specs.Slots.{values-from}
-use Rattle.runner.specs.Trees.{parameters-in, Function}
-use Rattle.runner.specs.Standing.{Callable}
+use Rattle.layout.specs.Resolved.{parameters-in}
+use Rattle.runner.specs.Trees.{Function}
 use Rattle.runner.specs.Waiting.{Run, Then, Binds, binds-none, binds-name, called}
 use Rattle.language.proofs.Meaning.CellTypes.{none-some, some-one}
-use Rattle.runner.proofs.Finding.{name-small, Calls, calls-putchar, calls-nobody, calls-function}
+use Rattle.runner.proofs.Finding.{Calls, calls-putchar, calls-nobody, calls-function}
 
 -- ---- slots
 
@@ -46,20 +44,6 @@ unfolding values-from
 values-length w a zero = refl
 values-length w a (suc k) = ap suc (values-length w (a + 1) k)
 
--- the same values
-pub values-by : (v w : List ℕ) (a n : ℕ) → ((i : ℕ) → i < n → value-at v 0 (a + i) ≡ value-at w 0 (a + i))
-    → values-from v 0 a n ≡ values-from w 0 a n
-unfolding values-from
-values-by v w a zero h = refl
-values-by v w a (suc n) h =
-    let z : a + 0 ≡ a = omega arith in
-    let e : value-at v 0 a ≡ value-at w 0 a = subst (λ (j : ℕ). value-at v 0 j ≡ value-at w 0 j) z (h 0 (omega arith)) in
-    let r : values-from v 0 (a + 1) n ≡ values-from w 0 (a + 1) n =
-    values-by v w (a + 1) n (λ i l.
-    let y : a + (i + 1) ≡ a + 1 + i = omega arith in
-    subst (λ (j : ℕ). value-at v 0 j ≡ value-at w 0 j) y (h (i + 1) (omega arith))) in
-    rw (e, r) refl
-
 -- ---- parameters
 
 -- a wrong number of arguments
@@ -76,11 +60,7 @@ record Entered (ts : List Token) (t w : List ℕ) (base row j : ℕ) (ps : List 
   binds : Binds ts w base (parameters-in t row (j + length ps)) inner
   is : (k : Env → M.Outcome) → enter ps (values-from w 0 (base + j) (length ps)) env k ≡ k inner
 
--- the keys of n slots are the names of the parameters
-abbrev pub Names : List ℕ → List ℕ → ℕ → ℕ → ℕ → Type 0
-Names t w row base n = (i : ℕ) → i < n → key-at w 0 (base + i) ≡ token-value t (row-word t (row + 1 + i) OWN)
-
-module _ {ts : List Token} {t : List ℕ} (stand : Stand t (length ts) ts) (w : List ℕ) (base row n : ℕ) (keys : Names t w row base n) where
+module _ {ts : List Token} {t : List ℕ} (stand : Stand t (length ts) ts) (w : List ℕ) (base row : ℕ) where
   none-entered : (j : ℕ) (env : Env) → Binds ts w base (parameters-in t row j) env → Entered ts t w base row j [] env
   unfolding enter values-from
   none-entered j env b =
@@ -99,64 +79,24 @@ module _ {ts : List Token} {t : List ℕ} (stand : Stand t (length ts) ts) (w : 
         is = λ k. ap (λ (m : ℕ). enter ps (values-from w 0 m (length ps)) (push (p .called) (value-at w 0 (base + j)) env) k) f ∙ n .is k;
       }
 
-  one-more : (j : ℕ) (env : Env) {x : Name} → j < n → Named ts (token-value t (row-word t (row + 1 + j) OWN)) x
+  one-more : (j : ℕ) (env : Env) {x : Name} → Named ts (token-value t (row-word t (row + 1 + j) OWN)) x
       → Binds ts w base (parameters-in t row j) env → Binds ts w base (parameters-in t row (j + 1)) (push x (value-at w 0 (base + j)) env)
   unfolding parameters-in
-  one-more j env l m b =
-      rw (add-one j) (binds-name m (ap (λ (i : ℕ). key-at w 0 (base + i)) (parameters-length t row j) ∙ keys j l)
-      (ap (λ (i : ℕ). value-at w 0 (base + i)) (parameters-length t row j)) b)
+  one-more j env m b = rw (add-one j) (binds-name m (ap (λ (i : ℕ). value-at w 0 (base + i)) (parameters-length t row j)) b)
 
-  entered : (j : ℕ) {r : ℕ} {ps : List Param} → ParamsAt ts t r ps → r ≡ row + 1 + j → j + length ps ≤ n → {env : Env}
+  entered : (j : ℕ) {r : ℕ} {ps : List Param} → ParamsAt ts t r ps → r ≡ row + 1 + j → {env : Env}
       → Binds ts w base (parameters-in t row j) env → Entered ts t w base row j ps env
-  entered j params-none er l {env} b = none-entered j env b
-  entered j {r} (params-more {p = p} {ps = ps} e a c y rest) er l {env} b =
+  entered j params-none er {env} b = none-entered j env b
+  entered j {r} (params-more {p = p} {ps = ps} e a c y rest) er {env} b =
       let q : row-word t (row + 1 + j) OWN ≡ p .at = ap (λ (n : ℕ). row-word t n OWN) (sym er) ∙ e in
       let m : Named ts (token-value t (row-word t (row + 1 + j) OWN)) (p .called) =
       subst (λ (m : ℕ). Named ts (token-value t m) (p .called)) (sym q)
       (subst (λ (x : Name). Named ts (token-value t (p .at)) x) (sym c) (named-at stand (p .at) a)) in
-      more-entered j env p ps (entered (j + 1) rest (omega arith) (omega arith) (one-more j env (omega arith) m b))
+      more-entered j env p ps (entered (j + 1) rest (omega arith) (one-more j env m b))
 
 empty-binds : (ts : List Token) (t w : List ℕ) (base row : ℕ) → Binds ts w base (parameters-in t row 0) empty
 unfolding parameters-in
 empty-binds ts t w base row = binds-none
-
--- ---- the parameters of a function can be read
-
--- the name of parameter i is a token's, and its number is a name's
-record Read (t : List ℕ) (r : ℕ) : Type 0 where
-  inside : row-word t r OWN < TOKENS
-  small : token-value t (row-word t r OWN) ≤ TOKENS
-
-param-read : {ts : List Token} {t : List ℕ} → Stand t (length ts) ts → {r : ℕ} (p : Param) → row-word t r OWN ≡ p .at → Tokens.At ts (p .at) NAME
-    → Read t r
-param-read {ts} {t} stand {r} p e a =
-    let l = name-inside ts (p .at) a in
-    record {
-      inside = omega (arith, stand .few);
-      small = rw e (name-small (stand .few) (named-at stand (p .at) a));
-    }
-
-params-read : {ts : List Token} {t : List ℕ} → Stand t (length ts) ts → {r : ℕ} {ps : List Param} → ParamsAt ts t r ps → (i : ℕ) → i < length ps
-    → Read t (r + i)
-params-read stand params-none i l = absurd (omega arith)
-params-read {t = t} stand {r} (params-more {p = p} e a c y rest) zero l =
-    let z : r + 0 ≡ r = omega arith in
-    subst (λ (k : ℕ). Read t k) (sym z) (param-read stand p e a)
-params-read {t = t} stand {r} (params-more e a c y rest) (suc i) l =
-    let z : r + 1 + i ≡ r + suc i = omega arith in
-    subst (λ (k : ℕ). Read t k) z (params-read stand rest i (omega arith))
-
-pub callable : {ts : List Token} {t : List ℕ} {row : ℕ} {f : Def} → TABLE ≤ length t → Stand t (length ts) ts → Function ts t row f
-    → Callable t row (row-word t row ARITY)
-callable long stand g = record {
-  long = long;
-  inside = g .inside;
-  arity = refl;
-  few = omega (arith, g .arity, g .few);
-  last = omega (arith, g .arity, g .last-param);
-  names = λ i l. params-read stand (g .params) i (omega (arith, g .arity)) .inside;
-  small = λ i l. params-read stand (g .params) i (omega (arith, g .arity)) .small;
-}
 
 -- ---- what is called
 
@@ -203,11 +143,11 @@ module _ (q : Run) (κ : Then) (d i : ℕ) (x : Name) (s : M.State) where
 -- a function with its arguments
 pub record Called (q : Run) (t : List ℕ) (head d : ℕ) (vs : List M.Value) (s : M.State) (κ : Then) : Type 0 where
   pub f : Def
-  pub function : Function (q .ts) t head f
+  pub function : Function (q .ts) t (q .defs) head f
   pub count : length vs ≡ length (f .params)
   pub means : then (enter (f .params) vs empty λ env. eval (q .fs) d (f .body) env s) κ ≡ q .whole
 
-function-enters : (q : Run) {t : List ℕ} (κ : Then) (d i : ℕ) (x : Name) (s : M.State) {head : ℕ} (f : Def) → Function (q .ts) t head f
+function-enters : (q : Run) {t : List ℕ} (κ : Then) (d i : ℕ) (x : Name) (s : M.State) {head : ℕ} (f : Def) → Function (q .ts) t (q .defs) head f
     → nearest x (q .fs) ≡ some (defined (f .params) (f .body)) → (vs : List M.Value) → then (called (q .fs) d i x vs s) κ ≡ q .whole
     → Called q t head d vs s κ
 function-enters q κ d i x s f g e vs means =
@@ -216,22 +156,22 @@ function-enters q κ d i x s f g e vs means =
 
 module _ (q : Run) {t : List ℕ} (κ : Then) (d i : ℕ) (x : Name) (s : M.State) where
   -- it is `putchar`
-  pub call-prints : {found : Option ℕ} → Calls (q .ts) t found (nearest x (q .fs)) → found ≡ none → (us : List M.Value) (v : M.Value)
+  pub call-prints : {found : Option ℕ} → Calls (q .ts) t (q .defs) found (nearest x (q .fs)) → found ≡ none → (us : List M.Value) (v : M.Value)
       → then (called (q .fs) d i x (us ++ (v ∷ [])) s) κ ≡ q .whole → then (want (as-int v) λ z. put i z s) κ ≡ q .whole
   call-prints (calls-putchar f) e us v means = putchar-whole q κ d i x s f us v means
   call-prints (calls-nobody f) e us v means = nobody-whole q κ d i x s f (us ++ (v ∷ [])) means
   call-prints (calls-function f g h) e us v means = absurd (none-some (sym e))
 
   -- or a function
-  pub call-enters : {found : Option ℕ} {head : ℕ} → Calls (q .ts) t found (nearest x (q .fs)) → found ≡ some head → (vs : List M.Value)
+  pub call-enters : {found : Option ℕ} {head : ℕ} → Calls (q .ts) t (q .defs) found (nearest x (q .fs)) → found ≡ some head → (vs : List M.Value)
       → then (called (q .fs) d i x vs s) κ ≡ q .whole → Called q t head d vs s κ
   call-enters (calls-putchar f) e vs means = absurd (none-some e)
   call-enters (calls-nobody f) e vs means = absurd (none-some e)
   call-enters (calls-function {row = row} f g h) e vs means =
-      function-enters q κ d i x s f (subst (λ (r : ℕ). Function (q .ts) t r f) (some-one e) g) h vs means
+      function-enters q κ d i x s f (subst (λ (r : ℕ). Function (q .ts) t (q .defs) r f) (some-one e) g) h vs means
 
   -- without arguments it is a function
-  pub call-empty : {A : Type 0} {found : Option ℕ} → Calls (q .ts) t found (nearest x (q .fs)) → found ≡ none
+  pub call-empty : {A : Type 0} {found : Option ℕ} → Calls (q .ts) t (q .defs) found (nearest x (q .fs)) → found ≡ none
       → then (called (q .fs) d i x [] s) κ ≡ q .whole → A
   call-empty (calls-putchar f) e means = putchar-none q κ d i x s f means
   call-empty (calls-nobody f) e means = nobody-whole q κ d i x s f [] means
@@ -246,10 +186,10 @@ pub record Body (q : Run) (t w : List ℕ) (head d base : ℕ) (f : Def) (s : M.
   pub means : then (eval (q .fs) d (f .body) env s) κ ≡ q .whole
 
 pub body-of : {q : Run} {t w : List ℕ} {head d base : ℕ} {vs : List M.Value} {s : M.State} {κ : Then} → Stand t (length (q .ts)) (q .ts)
-    → (e : Called q t head d vs s κ) → vs ≡ values-from w 0 base (length vs) → Names t w head base (length (e .f .params))
+    → (e : Called q t head d vs s κ) → vs ≡ values-from w 0 base (length vs)
     → Body q t w head d base (e .f) s κ
-body-of {q} {t} {w} {head} {d} {base} {vs} {s} {κ} stand e v keys =
-    let n = entered stand w base head (length (e .f .params)) keys 0 (e .function .params) (omega arith) (omega arith)
+body-of {q} {t} {w} {head} {d} {base} {vs} {s} {κ} stand e v =
+    let n = entered stand w base head 0 (e .function .params) (omega arith)
     (empty-binds (q .ts) t w base head) in
     let z : values-from w 0 (base + 0) (length (e .f .params)) ≡ vs =
     ap (λ (m : ℕ). values-from w 0 m (length (e .f .params))) (omega arith) ∙ ap (λ (m : ℕ). values-from w 0 base m) (sym (e .count)) ∙ sym v in

@@ -9,19 +9,20 @@ use Rattle.language.specs.Trees.{Exp}
 use Rattle.language.specs.State as M
 use Rattle.language.specs.State.{then}
 use Rattle.language.specs.Meaning.{Env, eval}
-use Rattle.layout.specs.Slots.{WAITING, key-at, value-at, put-slot}
+use Rattle.layout.specs.Slots.{WAITING, value-at, put-slot}
 use Rattle.layout.specs.Frames.{NODE, PHASE, BASE, FRAMES, FRAMES-AT, frame-word, frame-size, put-phase}
 use Rattle.layout.specs.Values.{meant, Survives}
 use Rattle.layout.specs.declared.values.Value.{Value}
 use Rattle.machine.specs.Outcomes.{memory}
 use Rattle.machine.specs.declared.state.Tally.{Tally}
-use Rattle.machine.proofs.Slotted.{put-key, put-value}
+use Rattle.machine.proofs.Slotted.{put-value}
+use Rattle.runner.specs.Phases.{NAMELESS}
 use Rattle.runner.specs.Trees.{At, slack, Scene}
 use Rattle.runner.specs.Waiting.{Run, Then, Binds, FrameAt, Waits, Stack, ground, frame}
 use Rattle.runner.specs.Standing.{Fair, Begins, Gives, Resumes}
 use Rattle.runner.specs.declared.state.Spot.{Spot}
 use Rattle.runner.proofs.Memory.{Stored, stored-phase, stored-slot, stored-then, frame-turned}
-use Rattle.runner.proofs.Memory.{frame-kept, key-kept, value-kept, keys-kept, memory-kept, fair-kept}
+use Rattle.runner.proofs.Memory.{frame-kept, value-kept, keys-kept, memory-kept, fair-kept}
 use Rattle.runner.proofs.Stacks.{Kept, binds-kept, later-kept, stack-kept, stack-raise}
 use Rattle.runner.proofs.Entering.{fair-low, spot, enter}
 
@@ -124,7 +125,7 @@ module _ {q : Run} {t w o : List ℕ} {v : Value} {row phase : ℕ} {p : Spot} {
     pub part-enters : (ph mark1 u1 : ℕ) (κ1 : Then) → FrameAt w1 H row ph B N mark1
         → Waits q t w1 (r .d) row B mark1 (r .n) (r .b) (r .L) (r .env) (r .κ) κ1 u1 ph
         → (base1 size1 : ℕ) {L1 : List ℕ} {env1 : Env} {part : ℕ} {e : Exp} → size1 ≡ length L1 → B + N + u1 ≤ base1 + length L1
-        → At (q .ts) t part e → Binds (q .ts) w1 base1 L1 env1
+        → At (q .ts) t (q .defs) L1 part e → Binds (q .ts) w1 base1 L1 env1
         → base1 + length L1 + WAITING * r .d ≤ WAITING * ACTIVE + slack e
         → then (eval (q .fs) (r .d) e env1 (memory w o s)) κ1 ≡ q .whole
         → Begins q t w1 o part (spot base1 size1 (H + 1)) s
@@ -142,46 +143,43 @@ module _ {q : Run} {t w o : List ℕ} {v : Value} {row phase : ℕ} {p : Spot} {
     turned = stored-phase w H ph (B + N) frame-low (omega arith)
 
     pub turns : (κ1 : Then) {part : ℕ} {e : Exp} → Waits q t (put-phase w H ph) (r .d) row B (r .mark) (r .n) (r .b) (r .L) (r .env) (r .κ) κ1 0 ph
-        → At (q .ts) t part e → then (eval (q .fs) (r .d) e (r .env) (memory w o s)) κ1 ≡ q .whole
+        → At (q .ts) t (q .defs) (r .L) part e → then (eval (q .fs) (r .d) e (r .env) (memory w o s)) κ1 ≡ q .whole
         → Begins q t (put-phase w H ph) o part (spot B (p .size) (H + 1)) s
     turns κ1 {e = e} wait at means =
         part-enters turned ph (r .mark) 0 κ1 (frame-turned w H row phase ph B N (r .mark) frame-room (r .there)) wait B (p .size) (r .sized) (omega arith) at
         (sees turned) (omega arith) means
 
-  -- and the value is put into the slot above, with a key
-  module _ (room : B + N + WAITING * suc (r .d) ≤ WAITING * ACTIVE) (key ph : ℕ) where
+  -- and the value is put into the slot above
+  module _ (room : B + N + WAITING * suc (r .d) ≤ WAITING * ACTIVE) (ph : ℕ) where
     abbrev S : List ℕ
-    S = put-slot w 0 (B + N) key v
+    S = put-slot w 0 (B + N) NAMELESS v
 
     abbrev W : List ℕ
     W = put-phase S H ph
 
     slotted : Stored w S (B + N) (suc H)
-    slotted = stored-slot w (B + N) key v (B + N) (suc H) (omega arith) (omega arith)
+    slotted = stored-slot w (B + N) NAMELESS v (B + N) (suc H) (omega arith) (omega arith)
 
     pub holding : Stored w W (B + N) H
     holding =
-        stored-then (stored-slot w (B + N) key v (B + N) H (omega arith) (omega arith))
+        stored-then (stored-slot w (B + N) NAMELESS v (B + N) H (omega arith) (omega arith))
         (stored-phase S H ph (B + N) frame-low (omega arith))
 
     turned-on : Stored S W (B + N + 1) H
     turned-on = stored-phase S H ph (B + N + 1) frame-low (omega arith)
 
-    -- what the slot has and holds
-    pub holding-key : key-at W 0 (B + N) ≡ key
-    holding-key = key-kept (turned-on .slots) (B + N) (omega arith) ∙ put-key w 0 (B + N) key v (omega (arith, r .fair .room .long))
-
+    -- what the slot holds
     pub holding-value : Survives v → value-at W 0 (B + N) ≡ meant v
     holding-value back =
-        value-kept (turned-on .slots) (B + N) (omega arith) ∙ put-value w 0 (B + N) key v (omega (arith, r .fair .room .long)) back
+        value-kept (turned-on .slots) (B + N) (omega arith) ∙ put-value w 0 (B + N) NAMELESS v (omega (arith, r .fair .room .long)) back
 
     pub holds : (u1 : ℕ) (κ1 : Then) {L1 : List ℕ} {env1 : Env} {part : ℕ} {e : Exp}
         → Waits q t W (r .d) row B (r .mark) (r .n) (r .b) (r .L) (r .env) (r .κ) κ1 u1 ph → u1 ≤ 1 → length L1 ≡ N + 1
-        → At (q .ts) t part e → Binds (q .ts) W B L1 env1
+        → At (q .ts) t (q .defs) L1 part e → Binds (q .ts) W B L1 env1
         → then (eval (q .fs) (r .d) e env1 (memory w o s)) κ1 ≡ q .whole
-        → Begins q t (put-phase (put-slot w 0 (B + p .size) key v) H ph) o part (spot B (p .size + 1) (H + 1)) s
+        → Begins q t (put-phase (put-slot w 0 (B + p .size) NAMELESS v) H ph) o part (spot B (p .size + 1) (H + 1)) s
     holds u1 κ1 {L1} {part = part} wait l long at binds means =
         let go = part-enters holding ph (r .mark) u1 κ1
         (frame-turned S H row phase ph B N (r .mark) (omega (arith, frame-room, slotted .long)) (frame-kept (slotted .frames) (omega arith) (r .there)))
         wait B (p .size + 1) (omega (arith, r .sized)) (omega arith) at binds (omega arith) means in
-        subst (λ (m : ℕ). Begins q t (put-phase (put-slot w 0 (B + m) key v) H ph) o part (spot B (p .size + 1) (H + 1)) s) (sym (r .sized)) go
+        subst (λ (m : ℕ). Begins q t (put-phase (put-slot w 0 (B + m) NAMELESS v) H ph) o part (spot B (p .size + 1) (H + 1)) s) (sym (r .sized)) go

@@ -3,7 +3,6 @@ mod RowKinds
 mod Few
 mod Reading
 mod Memory
-mod Keying
 mod Stacks
 mod Finding
 mod Functions

@@ -6,14 +6,14 @@ use Prim.Native.Nat.{ℕ, _+_, _*_, _≤_, _<_}
 use native.Mathlib.Omega.{arith}
 use lib.Dec.{eqb}
 use lib.ListN.{length}
-use Rattle.language.specs.Sizes.{TOKENS, NODES, TABLE, WORK}
+use Rattle.language.specs.Sizes.{NODES, TABLE, WORK}
 use Rattle.language.specs.Tokens.{THROUGH}
 use Rattle.language.specs.State as M
 use Rattle.language.specs.State.{number, as-int}
 use Rattle.language.specs.Meaning.{is-zero, towards, due}
-use Rattle.layout.specs.Table.{KIND, OWN, SECOND, row-word, token-value}
+use Rattle.layout.specs.Table.{KIND, OWN, SECOND, row-word}
 use Rattle.layout.specs.Decode.{counts}
-use Rattle.layout.specs.Slots.{HELD, SLOTS, KEYS, value-at, put-slot}
+use Rattle.layout.specs.Slots.{SLOTS, value-at, put-slot}
 use Rattle.layout.specs.Frames.{FRAMES, put-phase}
 use Rattle.layout.specs.Values.{meant, Survives}
 use Rattle.layout.specs.declared.values.Value.{Value}
@@ -22,16 +22,16 @@ use Rattle.machine.specs.Operands.{OfInt, stepped, counter-in}
 use Rattle.machine.specs.declared.counting.Counter.{Counter}
 use Rattle.machine.specs.declared.state.Tally.{Tally}
 use Rattle.numbers.specs.declared.Stop.{Stop}
-use Rattle.runner.specs.Phases.{ARGUMENT, COUNTED}
+use Rattle.runner.specs.Phases.{ARGUMENT, COUNTED, NAMELESS}
 use Rattle.runner.specs.Waiting.{Run}
 use Rattle.runner.specs.Standing.{Resumes, above, begun, given, over, Some, Goes, LastOf}
 use Rattle.runner.specs.Loops.{Counting, BodyBegins}
 use Rattle.runner.specs.declared.state.Spot.{Spot}
-use Rattle.runner.specs.declared.state.Ending.{Ending}
+use Rattle.runner.specs.Standing.{Ending}
 use Rattle.runner.specs.declared.state.Next.{Next}
 use Rattle.runner.proofs.Passing.{waiting}
 use Rattle.runner.proofs.Counting.{bounded-two, bounded-three, open-zero, open-turns}
-use Rattle.runner.proofs.Turns.{turn-due, turn-over, turn-token, turn-key, turn-slots, turn-passes, next-slots, next-counts, next-over}
+use Rattle.runner.proofs.Turns.{turn-due, turn-over, turn-slots, turn-passes, next-slots, next-counts, next-over}
 use Rattle.runner.proofs.Promises.{goes-to}
 
 -- ---- bounded
@@ -68,20 +68,18 @@ module _ {t w : List ℕ} {node : ℕ} {z to by : Value} {p : Spot} {s : Tally} 
     zero-is c = h .is (c .step) (ap as-int (c .step-is))
 
     pub opens-zero : b ≡ true → {place : ℕ} → place ≡ row-word t node OWN → (v : Value) {r : Next}
-        → r ≡ over (Ending.Stop Stop.ZeroStep place) v p s → Goes (Counted true t w node z to by p s) t w (3 * s .units + p .height + 3) r
+        → r ≡ over (Ending.stopped Stop.ZeroStep place) v p s → Goes (Counted true t w node z to by p s) t w (3 * s .units + p .height + 3) r
     opens-zero e {place} f v g = goes-to refl g (λ q o c. open-zero c (sym (zero-is c) ∙ e) place f v) (omega arith)
 
     pub opens-turns : b ≡ false → (q : Run) (o : List ℕ) → Counted true t w node z to by p s q o → Counted false t w node z to by p s q o
     opens-turns e q o c = open-turns c (sym (zero-is c) ∙ e)
 
   -- what a pass asks
-  pub turn-asks : Some (Counted false t w node z to by p s) → (TABLE ≤ length t) × (node < NODES) × (row-word t node OWN + 1 < TOKENS)
-      × (token-value t (row-word t node OWN + 1) ≤ KEYS) × (WORK ≤ length w) × (p .height < FRAMES) × (p .base + p .size + 2 < SLOTS)
+  pub turn-asks : Some (Counted false t w node z to by p s) → (TABLE ≤ length t) × (node < NODES) × (WORK ≤ length w)
+      × (p .height < FRAMES) × (p .base + p .size + 2 < SLOTS)
   turn-asks x = (
     x .holds .frame .scene .long,
     x .holds .loop .head .inside,
-    turn-token (x .holds),
-    turn-key (x .holds),
     x .holds .frame .fair .room .long,
     omega (arith, x .holds .frame .deep),
     turn-slots (x .holds),
@@ -100,16 +98,14 @@ module _ {t w : List ℕ} {node : ℕ} {z to by : Value} {p : Spot} {s : Tally} 
 
 -- ---- pass
 
-pub pass-begun : {t w w1 w2 w3 w4 : List ℕ} {node own name part : ℕ} {z to by v : Value} {p : Spot} {s : Tally} {r : Next}
-    → own ≡ row-word t node OWN → name ≡ token-value t (own + 1) → part ≡ row-word t node SECOND
-    → (w1 ≡ put-slot w 0 (p .base + p .size) name z) × Survives z → (w2 ≡ put-slot w1 0 (p .base + p .size + 1) HELD to) × Survives to
-    → (w3 ≡ put-slot w2 0 (p .base + p .size + 2) HELD by) × Survives by → w4 ≡ put-phase w3 (p .height) COUNTED
+pub pass-begun : {t w w1 w2 w3 w4 : List ℕ} {node part : ℕ} {z to by v : Value} {p : Spot} {s : Tally} {r : Next} → part ≡ row-word t node SECOND
+    → (w1 ≡ put-slot w 0 (p .base + p .size) NAMELESS z) × Survives z → (w2 ≡ put-slot w1 0 (p .base + p .size + 1) NAMELESS to) × Survives to
+    → (w3 ≡ put-slot w2 0 (p .base + p .size + 2) NAMELESS by) × Survives by → w4 ≡ put-phase w3 (p .height) COUNTED
     → r ≡ begun part v (above (p .base) (p .size + 3) p) s → BodyBegins t w w4 node z to by v p s r
-pass-begun {t} {w} {z = z} {to = to} {by = by} {v = v} {p = p} {s = s} a b c d e f g h = record {
+pass-begun {to = to} {by = by} {v = v} {p = p} {s = s} c d e f g h = record {
   laid = g ∙ ap (λ (x : List ℕ). put-phase x (p .height) COUNTED)
-      (f .0 ∙ ap (λ (x : List ℕ). put-slot x 0 (p .base + p .size + 2) HELD by)
-      (e .0 ∙ ap (λ (x : List ℕ). put-slot x 0 (p .base + p .size + 1) HELD to)
-      (d .0 ∙ ap (λ (k : ℕ). put-slot w 0 (p .base + p .size) k z) (b ∙ ap (λ (j : ℕ). token-value t (j + 1)) a))));
+      (f .0 ∙ ap (λ (x : List ℕ). put-slot x 0 (p .base + p .size + 2) NAMELESS by)
+      (e .0 ∙ ap (λ (x : List ℕ). put-slot x 0 (p .base + p .size + 1) NAMELESS to) (d .0)));
   is = h ∙ ap (λ (j : ℕ). begun j v (above (p .base) (p .size + 3) p) s) c;
   survive = (d .1, e .1, f .1);
 }

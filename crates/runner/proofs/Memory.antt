@@ -16,7 +16,7 @@ use Rattle.machine.specs.declared.state.Tally.{Tally}
 use Rattle.machine.proofs.Slotted.{slots-same, value-same, values-same, put-other, put-length}
 use Rattle.machine.proofs.Keeping.{rising-same}
 use Rattle.runner.specs.Waiting.{Run, FrameAt}
-use Rattle.runner.specs.Standing.{Fair, Keyed}
+use Rattle.runner.specs.Standing.{Fair}
 
 -- slots below a are as they were
 pub record Below (w w1 : List ℕ) (a : ℕ) : Type 0 where
@@ -79,15 +79,6 @@ stored-slot w j key v a h l m = record {
   frames = λ k i u. put-other w 0 j key v k (λ x y. omega arith);
   cells = λ k i. put-other w 0 j key v k (λ x y. omega arith);
   long = put-length w 0 j key v;
-}
-
--- the keys of slots
-pub stored-keyed : {t w w1 : List ℕ} {row base n : ℕ} → Keyed t w w1 row base n → (a h : ℕ) → a ≤ base → base + n ≤ SLOTS → Stored w w1 a h
-stored-keyed x a h l m = record {
-  slots = record { same = λ k i. x .other k (λ y z. omega arith) };
-  frames = λ k i u. x .other k (λ y z. omega arith);
-  cells = λ k i. x .other k (λ y z. omega arith);
-  long = x .long;
 }
 
 pub stored-then : {w w1 w2 : List ℕ} {a h : ℕ} → Stored w w1 a h → Stored w1 w2 a h → Stored w w2 a h
@@ -164,9 +155,6 @@ frame-kept {g = g} x l f = record {
 -- a slot that those below it leave
 pub value-kept : {w w1 : List ℕ} {a : ℕ} → Below w w1 a → (j : ℕ) → j < a → value-at w1 0 j ≡ value-at w 0 j
 value-kept {w} {w1} x j l = value-same w1 w 0 j (λ k m u. x .same k (omega arith))
-
-pub key-kept : {w w1 : List ℕ} {a : ℕ} → Below w w1 a → (j : ℕ) → j < a → key-at w1 0 j ≡ key-at w 0 j
-key-kept x j l = ap (λ (n : ℕ). n / TAGS) (x .same (0 + 3 * j) (omega arith))
 
 pub values-kept : {w w1 : List ℕ} {a : ℕ} → Below w w1 a → (j n : ℕ) → j + n ≤ a
     → values-from w1 0 j n ≡ values-from w 0 j n

@@ -13,7 +13,7 @@ use Rattle.language.specs.Meaning.{apply-unary, apply-binary, settles, eval}
 use Rattle.layout.specs.Table.{KIND, OWN, SECOND, row-word}
 use Rattle.layout.specs.Rows.{PREFIX, unary-kind, binary-kind}
 use Rattle.language.specs.Tokens.{REF}
-use Rattle.layout.specs.Slots.{HELD, SLOTS, value-at, put-slot}
+use Rattle.layout.specs.Slots.{SLOTS, value-at, put-slot}
 use Rattle.layout.specs.Frames.{CELLS-AT, frame-mark, put-phase}
 use Rattle.layout.specs.Values.{meant, Survives}
 use Rattle.layout.specs.declared.values.Value.{Value}
@@ -22,14 +22,14 @@ use Rattle.machine.specs.Outcomes.{memory, Answered, Applied, after-birth}
 use Rattle.machine.specs.declared.state.Tally.{Tally}
 use Rattle.machine.specs.declared.state.Outcome.{Outcome}
 use Rattle.machine.proofs.Slotted.{keep-slots}
-use Rattle.runner.specs.Phases.{LAST, UNARY, LEFT, RIGHT, INSIDE}
+use Rattle.runner.specs.Phases.{LAST, UNARY, LEFT, RIGHT, INSIDE, NAMELESS}
 use Rattle.runner.specs.Waiting.{Run, Then, binds-held, which, WaitsLast, WaitsUnary, WaitsLeft, WaitsRight, WaitsInside, Waits}
 use Rattle.runner.specs.Standing.{Fair, Begins, Gives, Resumes, Good, onward, Creating}
 use Rattle.runner.specs.declared.state.Spot.{Spot}
 use Rattle.runner.specs.declared.state.Next.{Next}
 use Rattle.runner.proofs.Stacks.{then-then, stack-raise}
 use Rattle.runner.proofs.Entering.{fair-low, spot, told-whole, onward-good, fair-stepped, stepped-good}
-use Rattle.runner.proofs.Giving.{waits-at, below, back, sees, holding, holding-key, holding-value, holds}
+use Rattle.runner.proofs.Giving.{waits-at, below, back, sees, holding, holding-value, holds}
 
 -- ---- operators by the kinds of their rows
 
@@ -233,13 +233,13 @@ module _ {q : Run} {t w o : List ℕ} {v : Value} {row phase : ℕ} {p : Spot} {
 
     -- it is held, and the right side begins
     pub resume-held : (op : ℕ) → op ≡ row-word t row KIND → settles (binary-of op) (meant v) ≡ false → Survives v
-        → Begins q t (put-phase (put-slot w 0 (p .base + p .size) HELD v) (p .height) RIGHT) o (row-word t row SECOND)
+        → Begins q t (put-phase (put-slot w 0 (p .base + p .size) NAMELESS v) (p .height) RIGHT) o (row-word t row SECOND)
         (spot (p .base) (p .size + 1) (p .height + 1)) s
     unfolding choose Waits which
     resume-held op f k back1 =
         let z : settles (left .o) (meant v) ≡ false = sym (settled-is op f) ∙ k in
         let j : Then = λ x s. apply-binary (left .i) (left .o) (meant v) x s in
-        holds r (left .room) HELD RIGHT 1 (λ x s. then (j x s) (r .κ))
+        holds r (left .room) RIGHT 1 (λ x s. then (j x s) (r .κ))
         (record {
           i = left .i;
           o = left .o;
@@ -247,9 +247,9 @@ module _ {q : Run} {t w o : List ℕ} {v : Value} {row phase : ℕ} {p : Spot} {
           head = left .head;
           room = left .room;
           used = refl;
-          held = holding-value r (left .room) HELD RIGHT back1;
+          held = holding-value r (left .room) RIGHT back1;
           goes = λ x s. refl;
         })
         (omega arith) (omega arith) (left .at)
-        (binds-held (holding-key r (left .room) HELD RIGHT) (sees r (holding r (left .room) HELD RIGHT)))
+        (binds-held (sees r (holding r (left .room) RIGHT)))
         (sym (then-then (eval (q .fs) (r .d) (left .f) (r .env) σ) j (r .κ)) ∙ (rw z at left-means))

@@ -11,9 +11,9 @@ use Rattle.language.specs.Trees.{Exps, last}
 use Rattle.language.specs.State as M
 use Rattle.language.specs.State.{then, as-int, want}
 use Rattle.language.specs.Meaning.{put, arguments, eval}
-use Rattle.layout.specs.Table.{KIND, OWN, EXPRESSION, NEXT, ARITY, row-word}
+use Rattle.layout.specs.Table.{KIND, OWN, EXPRESSION, NEXT, ARITY, BODY, row-word}
 use Rattle.layout.specs.Decode.{counts}
-use Rattle.layout.specs.Slots.{TAGS, HELD, SLOTS, key-at, value-at, put-slot}
+use Rattle.layout.specs.Slots.{TAGS, SLOTS, value-at, put-slot}
 use Rattle.layout.specs.Frames.{frame-mark, put-frame}
 use Rattle.layout.specs.Values.{meant, Survives}
 use Rattle.layout.specs.declared.values.Value.{Value}
@@ -22,17 +22,17 @@ use Rattle.machine.specs.Slots.{values-from}
 use Rattle.machine.specs.Outcomes.{memory}
 use Rattle.machine.specs.declared.state.Tally.{Tally}
 use Rattle.machine.specs.declared.state.Outcome.{Outcome}
-use Rattle.machine.proofs.Slotted.{put-key, put-value}
-use Rattle.runner.specs.Phases.{LAST, ARGUMENT}
+use Rattle.machine.proofs.Slotted.{put-value}
+use Rattle.runner.specs.Phases.{LAST, ARGUMENT, NAMELESS}
 use Rattle.runner.specs.Trees.{count, helds, Args}
 use Rattle.runner.specs.Waiting.{Run, Then, Binds, binds-held, FrameAt, which, called, CallDoes, WaitsArgument, Waits}
-use Rattle.runner.specs.Standing.{Begins, Resumes, Good, Printing, Heads, callee, Callable, Enters}
+use Rattle.runner.specs.Standing.{Begins, Resumes, Good, Printing, Heads, callee, Callable}
 use Rattle.runner.specs.declared.state.Spot.{Spot}
 use Rattle.runner.specs.declared.state.Next.{Next}
-use Rattle.runner.proofs.Memory.{Stored, stored-frame, stored-slot, stored-keyed, stored-then}
-use Rattle.runner.proofs.Memory.{frame-pushed, frame-kept, key-kept, value-kept, values-kept}
+use Rattle.runner.proofs.Memory.{Stored, stored-frame, stored-slot, stored-then}
+use Rattle.runner.proofs.Memory.{frame-pushed, value-kept, values-kept}
 use Rattle.runner.proofs.Stacks.{then-then, helds-length, binds-kept}
-use Rattle.runner.proofs.Functions.{values-more, values-length, values-by, parameters-length, callable, Called, call-prints, call-enters, body-of}
+use Rattle.runner.proofs.Functions.{values-more, values-length, parameters-length, Called, call-prints, call-enters, body-of}
 use Rattle.runner.proofs.Entering.{spot, told-whole, onward-good, fair-printed, same-stack}
 use Rattle.runner.proofs.Giving.{waits-at, frame-room, frame-low, below, part-enters, sees}
 use Rattle.runner.proofs.Arguments.{does-inside, call-does, arguments-same, none-left, Argued, some-left}
@@ -95,13 +95,13 @@ module _ {q : Run} {t w o : List ℕ} {v : Value} {row phase : ℕ} {p : Spot} {
 
   module _ (back : Survives v) (ph mark : ℕ) where
     abbrev S : List ℕ
-    S = put-slot w 0 (B + N + K) HELD v
+    S = put-slot w 0 (B + N + K) NAMELESS v
 
     abbrev W : List ℕ
     W = put-frame S H row ph B N mark
 
     slotted : (a : ℕ) → a ≤ B + N + K → Stored w S a H
-    slotted a l = stored-slot w (B + N + K) HELD v a H l in-slot
+    slotted a l = stored-slot w (B + N + K) NAMELESS v a H l in-slot
 
     framed : (a : ℕ) → a ≤ B + N + K + 1 → Stored S W a H
     framed a l = stored-frame S H row ph B N mark a (frame-low r) (omega (arith, in-slot))
@@ -114,10 +114,7 @@ module _ {q : Run} {t w o : List ℕ} {v : Value} {row phase : ℕ} {p : Spot} {
 
     there : value-at W 0 (B + N + K) ≡ meant v
     there =
-        value-kept (framed (B + N + K + 1) (omega arith) .slots) (B + N + K) (omega arith) ∙ put-value w 0 (B + N + K) HELD v long-enough back
-
-    key-there : key-at W 0 (B + N + K) ≡ HELD
-    key-there = key-kept (framed (B + N + K + 1) (omega arith) .slots) (B + N + K) (omega arith) ∙ put-key w 0 (B + N + K) HELD v long-enough
+        value-kept (framed (B + N + K + 1) (omega arith) .slots) (B + N + K) (omega arith) ∙ put-value w 0 (B + N + K) NAMELESS v long-enough back
 
     -- the values so far
     values-are : values-from W 0 (B + N) (suc K) ≡ waiting .vs ++ (meant v ∷ [])
@@ -136,9 +133,7 @@ module _ {q : Run} {t w o : List ℕ} {v : Value} {row phase : ℕ} {p : Spot} {
     unfolding helds
     held-all =
         let l = helds-length K (r .L) in
-        let a : B + length (helds K (r .L)) ≡ B + N + K = omega arith in
-        binds-held (ap (λ (j : ℕ). key-at W 0 j) a ∙ key-there)
-        (binds-kept (framed (B + N + K) (omega arith) .slots) (omega arith)
+        binds-held (binds-kept (framed (B + N + K) (omega arith) .slots) (omega arith)
         (binds-kept (slotted (B + N + K) (omega arith) .slots) (omega arith) (waiting .sees)))
 
   -- ---- the last argument
@@ -157,21 +152,21 @@ module _ {q : Run} {t w o : List ℕ} {v : Value} {row phase : ℕ} {p : Spot} {
         (sym last-is) ∙ argument-means
 
   -- they are those of a call
-  module _ (end : row-word t (M1 / TAGS) NEXT ≡ 0) (k : counts (row-word t row KIND) ≡ false) {defs : ℕ} (few : q .defs ≡ defs) where
-    call-of : CallDoes q t (r .d) row (r .env) (waiting .done)
+  module _ (end : row-word t (M1 / TAGS) NEXT ≡ 0) (k : counts (row-word t row KIND) ≡ false) where
+    call-of : CallDoes q t (r .d) row (r .L) (r .env) (waiting .done)
     call-of = call-does (waiting .by) k
 
-    pub argument-heads : Heads t defs row
-    argument-heads = heads-at q few (r .scene) (call-of .head) (call-of .named)
+    pub argument-heads : Heads t row
+    argument-heads = heads-at q (r .scene) (call-of .head) (call-of .named)
 
     call-means : then (called (q .fs) (r .d) (call-of .i) (call-of .x) (all end) σ) (r .κ) ≡ q .whole
     call-means = ap (λ (m : M.Outcome). then m (r .κ)) (sym (call-of .is (all end) σ)) ∙ last-means end
 
     -- `putchar` prints it
-    pub argument-prints : none ≡ callee t defs row → {o1 : List ℕ} {z : Next} → Printing (row-word t row OWN) v o o1 p s z → Good q t w o1 z
+    pub argument-prints : none ≡ callee t row → {o1 : List ℕ} {z : Next} → Printing (row-word t row OWN) v o o1 p s z → Good q t w o1 z
     argument-prints n {o1} {z} c =
-        let m = call-prints q (r .κ) (r .d) (call-of .i) (call-of .x) σ (callee-of q few (r .scene) (call-of .head) (call-of .named) none n) refl
-        (waiting .vs) (meant v) call-means in
+        let m = call-prints q (r .κ) (r .d) (call-of .i) (call-of .x) σ
+        (callee-of q (r .scene) (call-of .head) (call-of .named) (call-of .calls) none n) refl (waiting .vs) (meant v) call-means in
         let i = call-of .head .own-is in
         subst (λ (y : Next). Good q t w o1 y) (sym (c .is))
         (onward-good (suc (r .d)) (B + N) p (c .outcome) (row-word t row OWN) v (r .scene) (fair-printed (c .outcome) (r .fair) (c .printed)) (r .deep)
@@ -179,13 +174,14 @@ module _ {q : Run} {t w o : List ℕ} {v : Value} {row phase : ℕ} {p : Spot} {
         (told-whole q (r .κ) (c .printed .right (row-word t row OWN) w)
         (ap (λ (j : ℕ). then (want (as-int (meant v)) λ z. put j z σ) (r .κ)) i ∙ m)))
 
-    module _ {head : ℕ} (who : some head ≡ callee t defs row) where
+    module _ {head : ℕ} (who : some head ≡ callee t row) where
       one : Called q t head (r .d) (all end) σ (r .κ)
-      one = call-enters q (r .κ) (r .d) (call-of .i) (call-of .x) σ (callee-of q few (r .scene) (call-of .head) (call-of .named) (some head) who) refl
-          (all end) call-means
+      one =
+          call-enters q (r .κ) (r .d) (call-of .i) (call-of .x) σ
+          (callee-of q (r .scene) (call-of .head) (call-of .named) (call-of .calls) (some head) who) refl (all end) call-means
 
-      pub argument-callable : Callable t head (row-word t head ARITY)
-      argument-callable = callable (r .scene .long) (r .scene .stand) (one .function)
+      pub argument-callable : Callable t head
+      argument-callable = record { long = r .scene .long; inside = one .function .inside }
 
       pub argument-fits : B + p .size + row-word t head ARITY ≤ SLOTS
       argument-fits = omega (arith, r .sized, one .function .arity, one .function .few, waiting .room)
@@ -193,39 +189,36 @@ module _ {q : Run} {t w o : List ℕ} {v : Value} {row phase : ℕ} {p : Spot} {
       all-long : Survives v → length (all end) ≡ suc K
       all-long back = ap length (sym (values-are back LAST 0)) ∙ values-length (W back LAST 0) (B + N) (suc K)
 
-      module _ (back : Survives v) {w1 : List ℕ} {z : Next} where
+      module _ (back : Survives v) where
         -- as the frame is put
-        body-begins : Enters t (put-slot w 0 (B + N + K) HELD v) w1 row head v (spot B N H) s z → Good q t w1 o z
+        body-begins : Begins q t (W back LAST 0) o (row-word t head BODY) (spot (B + N) (row-word t head ARITY) (H + 1)) s
         unfolding Waits which
-        body-begins x =
+        body-begins =
             let m = parameters-length t head (length (one .f .params)) in
-            let fits : B + N + row-word t head ARITY ≤ SLOTS = omega (arith, argument-fits, r .sized) in
-            let stored : Stored w w1 (B + N) H =
-            stored-then (passed back LAST 0) (stored-keyed (x .keyed) (B + N) H (omega arith) fits) in
-            let frame : FrameAt w1 H row LAST B N 0 =
-            frame-kept (stored-keyed (x .keyed) 0 (suc H) (omega arith) fits .frames) (omega arith) (frame-is back LAST 0) in
-            let n : length (all end) ≡ row-word t head ARITY = omega (arith, one .count, one .function .arity) in
-            let vs : all end ≡ values-from w1 0 (B + N) (length (all end)) =
-            sym (values-are back LAST 0) ∙ ap (λ (k : ℕ). values-from (W back LAST 0) 0 (B + N) k) (sym (all-long back))
-            ∙ sym (values-by w1 (W back LAST 0) (B + N) (length (all end)) (λ i l. x .keyed .values i (omega (arith, n)))) in
-            let body = body-of (r .scene .stand) one vs (λ i l. x .keyed .keys i (omega (arith, one .function .arity))) in
-            subst (λ (n : Next). Good q t w1 o n) (sym (x .is))
-            (part-enters r stored LAST 0 0 (r .κ) frame (record { deep = omega (arith, waiting .room); goes = λ x s. refl })
+            let vs : all end ≡ values-from (W back LAST 0) 0 (B + N) (length (all end)) =
+            sym (values-are back LAST 0) ∙ ap (λ (k : ℕ). values-from (W back LAST 0) 0 (B + N) k) (sym (all-long back)) in
+            let body = body-of (r .scene .stand) one vs in
+            part-enters r (passed back LAST 0) LAST 0 0 (r .κ) (frame-is back LAST 0)
+            (record { deep = omega (arith, waiting .room); goes = λ x s. refl })
             (B + N) (row-word t head ARITY) (omega (arith, one .function .arity)) (omega arith) (one .function .at) (body .binds)
-            (omega (arith, waiting .room, one .function .block, one .function .few)) (body .means))
+            (omega (arith, waiting .room, one .function .block, one .function .few)) (body .means)
+
+        abbrev Enters-at : ℕ → ℕ → Type 0
+        Enters-at n k =
+            Begins q t (put-frame (put-slot w 0 (B + n + k) NAMELESS v) H row LAST B n 0) o (row-word t head BODY)
+            (spot (B + n) (row-word t head ARITY) (H + 1)) s
 
         -- the body begins
-        pub argument-enters : Enters t (put-slot w 0 (B + p .size + M1 % TAGS) HELD v) w1 row head v p s z → Good q t w1 o z
-        argument-enters x =
-            body-begins (subst (λ (k : ℕ). Enters t (put-slot w 0 (B + N + k) HELD v) w1 row head v (spot B N H) s z) number-is
-            (subst (λ (n : ℕ). Enters t (put-slot w 0 (B + n + M1 % TAGS) HELD v) w1 row head v (spot B n H) s z) (r .sized) x))
+        pub argument-enters : Enters-at (p .size) (M1 % TAGS)
+        argument-enters =
+            subst (λ (n : ℕ). Enters-at n (M1 % TAGS)) (sym (r .sized)) (subst (λ (k : ℕ). Enters-at N k) (sym number-is) body-begins)
 
   -- ---- another argument
 
   module _ (next : ℕ) (is : next ≡ row-word t (M1 / TAGS) NEXT) (some-there : next ≡ 0 → ⊥) where
-    argued : Argued q t next (waiting .es)
+    argued : Argued q t (helds (suc K) (r .L)) next (waiting .es)
     argued =
-        some-left q (subst (λ (j : ℕ). Args (q .ts) t j (waiting .es))
+        some-left q (subst (λ (j : ℕ). Args (q .ts) t (q .defs) (helds (suc K) (r .L)) j (waiting .es))
         (sym (is ∙ ap (λ (m : ℕ). row-word t m NEXT) row-is)) (waiting .rest)) some-there
 
     pub next-inside : next < NODES
@@ -256,9 +249,9 @@ module _ {q : Run} {t w o : List ℕ} {v : Value} {row phase : ℕ} {p : Spot} {
         arguments-same q (r .d) (r .env) (argued .rest) s _ _
         (λ ws s. ap (λ (us : List M.Value). waiting .done us s) (sym (append-assoc (waiting .vs) (meant v ∷ []) (x ∷ ws))))
 
-    next-begins : Survives v → Begins q t (put-frame (put-slot w 0 (B + N + K) HELD v) H row ARGUMENT B N (TAGS * next + (K + 1))) o
+    next-begins : Survives v → Begins q t (put-frame (put-slot w 0 (B + N + K) NAMELESS v) H row ARGUMENT B N (TAGS * next + (K + 1))) o
         (row-word t next EXPRESSION) (spot B (N + (K + 1)) (H + 1)) s
-    unfolding Waits which
+    unfolding Waits which helds
     next-begins back =
         let mark = TAGS * next + (K + 1) in
         let long = helds-length (suc K) (r .L) in
@@ -286,7 +279,7 @@ module _ {q : Run} {t w o : List ℕ} {v : Value} {row phase : ℕ} {p : Spot} {
 
     abbrev Passes : ℕ → ℕ → Type 0
     Passes n k =
-        Begins q t (put-frame (put-slot w 0 (B + n + k) HELD v) H row ARGUMENT B n (TAGS * next + (k + 1))) o (row-word t next EXPRESSION)
+        Begins q t (put-frame (put-slot w 0 (B + n + k) NAMELESS v) H row ARGUMENT B n (TAGS * next + (k + 1))) o (row-word t next EXPRESSION)
         (spot B (n + (k + 1)) (H + 1)) s
 
     -- it begins

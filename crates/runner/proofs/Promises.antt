@@ -9,7 +9,8 @@ use lib.ListN.{length}
 use borrow.Author.Tests.{eqb-true, eqb-false}
 use Rattle.language.specs.Sizes.{NODES, ALLOWANCE, TABLE, WORK}
 use Rattle.layout.specs.Slots.{SLOTS}
-use Rattle.layout.specs.Frames.{SIZES, FRAMES}
+use Rattle.layout.specs.Table.{ARITY, BODY, row-word}
+use Rattle.layout.specs.Frames.{SIZES, FRAMES, put-frame}
 use Rattle.layout.specs.declared.values.Value.{Value}
 use Rattle.language.specs.State as M
 use Rattle.layout.specs.Values.{meant}
@@ -17,10 +18,11 @@ use Rattle.machine.specs.Outcomes.{Room, born, after-birth, Created, byte-more,
 use Rattle.machine.specs.declared.state.Outcome.{Outcome}
 use Rattle.numbers.specs.declared.Stop.{Stop}
 use Rattle.machine.specs.declared.state.Tally.{Tally}
+use Rattle.runner.specs.Phases.{LAST}
 use Rattle.runner.specs.Waiting.{Run}
-use Rattle.runner.specs.Standing.{Begins, Starts, Gives, Resumes, Good, charged, given, over}
-use Rattle.runner.specs.Standing.{onward, weight, Some, Goes, Of, Any, Prints, Printing, Creating}
-use Rattle.runner.specs.declared.state.Ending.{Ending}
+use Rattle.runner.specs.Standing.{Begins, Starts, Gives, Resumes, Good, charged, above, begun, given, over, Enters}
+use Rattle.runner.specs.Standing.{onward, weight, Some, Goes, Any, Prints, Printing, Creating}
+use Rattle.runner.specs.Standing.{Ending}
 use Rattle.runner.specs.declared.state.Spot.{Spot}
 use Rattle.runner.specs.declared.state.Next.{Next}
 use Rattle.runner.proofs.Beginning.{inside-at, slack-one}
@@ -82,14 +84,9 @@ charged-less h s s1 n e = omega (arith, ap (λ (x : Tally). x .units) e)
 
 -- ---- what a node's row and its frame ask
 
-module _ {t w : List ℕ} {node : ℕ} {p : Spot} {s : Tally} {defs : ℕ} where
-  pub begins-row : Some (Of defs λ q o. Begins q t w o node p s) → (TABLE ≤ length t) × (node < NODES)
-  begins-row x = (x .holds .1 .scene .long, inside-at (x .holds .1 .at))
-
 module _ {t w : List ℕ} {node : ℕ} {p : Spot} {s : Tally} where
-  -- whatever the functions are
-  pub starts-any : {defs : ℕ} → Some (Of defs λ q o. Starts q t w o node p s) → Some (λ q o. Starts q t w o node p s)
-  starts-any x = record { q = x .q; o = x .o; holds = x .holds .1 }
+  pub begins-row : Some (λ q o. Begins q t w o node p s) → (TABLE ≤ length t) × (node < NODES)
+  begins-row x = (x .holds .scene .long, inside-at (x .holds .at))
 
   pub starts-row : Some (λ q o. Starts q t w o node p s) → (TABLE ≤ length t) × (node < NODES)
   starts-row x = (x .holds .scene .long, inside-at (x .holds .at))
@@ -122,6 +119,17 @@ module _ {t w : List ℕ} {v : Value} {row phase : ℕ} {p : Spot} {s : Tally} w
   pub phase-at : (k : ℕ) → phase ≡ k → (q : Run) (o : List ℕ) → Resumes q t w o v row phase p s → Resumes q t w o v row k p s
   phase-at k e q o r = subst (λ (j : ℕ). Resumes q t w o v row j p s) e r
 
+-- ---- a function is entered
+
+pub entered-at : {t w w1 : List ℕ} {node row : ℕ} {v : Value} {p : Spot} {s : Tally} {r : Next} {count body : ℕ}
+    → w1 ≡ put-frame w (p .height) node LAST (p .base) (p .size) 0 → count ≡ row-word t row ARITY → body ≡ row-word t row BODY
+    → r ≡ begun body v (above (p .base + p .size) count p) s → Enters t w w1 node row v p s r
+entered-at {t} {row = row} {v} {p} {s} {count = count} e f g h = record {
+  laid = e;
+  is = h ∙ ap (λ (n : ℕ). begun n v (above (p .base + p .size) count p) s) g
+      ∙ ap (λ (n : ℕ). begun (row-word t row BODY) v (above (p .base + p .size) n p) s) f;
+}
+
 -- ---- a byte is printed or a cell made
 
 pub printed-room : {v : M.Value} {o o1 : List ℕ} {s : Tally} {r : Outcome} {x : Value} → Printed v o o1 s r → r ≡ Outcome.Gives x → s .printed < length o1
@@ -135,12 +143,12 @@ module _ {i : ℕ} {v : Value} {o o1 : List ℕ} {p : Spot} {s : Tally} {r : Out
     is = g ∙ ap (λ (z : Tally). given y p z) f ∙ ap (λ (z : Outcome). onward z i v p (after-byte z s)) (sym e);
   }
 
-  pub printing-halts : {y : Stop} → r ≡ Outcome.Halts y → {place : ℕ} → place ≡ i → {n : Next} → n ≡ over (Ending.Stop y place) v p s
+  pub printing-halts : {y : Stop} → r ≡ Outcome.Halts y → {place : ℕ} → place ≡ i → {n : Next} → n ≡ over (Ending.stopped y place) v p s
       → Printing i v o o1 p s n
   printing-halts {y} e f g = record {
     outcome = r;
     printed = x;
-    is = g ∙ ap (λ (z : ℕ). over (Ending.Stop y z) v p s) f ∙ ap (λ (z : Outcome). onward z i v p (after-byte z s)) (sym e);
+    is = g ∙ ap (λ (z : ℕ). over (Ending.stopped y z) v p s) f ∙ ap (λ (z : Outcome). onward z i v p (after-byte z s)) (sym e);
   }
 
 module _ {i : ℕ} {v : Value} {w w1 : List ℕ} {p : Spot} {s : Tally} {r : Outcome} (x : Created (meant v) w w1 s r) where
@@ -151,7 +159,7 @@ module _ {i : ℕ} {v : Value} {w w1 : List ℕ} {p : Spot} {s : Tally} {r : Out
     is = g ∙ ap (λ (z : Tally). given y p z) f ∙ ap (λ (z : Outcome). onward z i v p (after-birth z s)) (sym e);
   }
 
-  pub creating-halts : {y : Stop} → r ≡ Outcome.Halts y → {n : Next} → n ≡ over (Ending.Stop y i) v p s → Creating i v w w1 p s n
+  pub creating-halts : {y : Stop} → r ≡ Outcome.Halts y → {n : Next} → n ≡ over (Ending.stopped y i) v p s → Creating i v w w1 p s n
   creating-halts {y} e g = record {
     outcome = r;
     created = x;

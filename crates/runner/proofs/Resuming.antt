@@ -5,13 +5,13 @@ use mathlib.Core.List.{List}
 use Prim.Native.Nat.{ℕ, _+_, _*_, _-_, _≤_, _<_}
 use native.Mathlib.Omega.{arith}
 use lib.ListN.{length}
-use Rattle.language.specs.Sizes.{TOKENS, NODES, WORK}
+use Rattle.language.specs.Sizes.{NODES, WORK}
 use Rattle.language.specs.Tokens.{REF}
 use Rattle.language.specs.Trees.{new}
 use Rattle.language.specs.Meaning.{apply-unary, apply-binary, settles}
-use Rattle.layout.specs.Table.{KIND, OWN, FIRST, SECOND, THIRD, row-word, token-value}
+use Rattle.layout.specs.Table.{KIND, OWN, FIRST, SECOND, THIRD, row-word}
 use Rattle.layout.specs.Rows.{PREFIX}
-use Rattle.layout.specs.Slots.{HELD, KEYS, SLOTS, value-at, put-slot}
+use Rattle.layout.specs.Slots.{SLOTS, value-at, put-slot}
 use Rattle.layout.specs.Frames.{NODE, PHASE, BASE, FRAMES, frame-word, frame-size, frame-mark, put-phase}
 use Rattle.layout.specs.Values.{meant, Survives}
 use Rattle.layout.specs.declared.values.Value.{Value}
@@ -21,16 +21,16 @@ use Rattle.machine.specs.Rows.{unary-of, binary-of}
 use Rattle.machine.specs.Outcomes.{Answered, Applied, after-birth}
 use Rattle.machine.specs.declared.state.Tally.{Tally}
 use Rattle.machine.specs.declared.state.Outcome.{Outcome}
-use Rattle.runner.specs.Phases.{LAST, UNARY, LEFT, RIGHT, BEFORE, INSIDE, BOUND, CONDITION, TEST, PASS, ARGUMENT, COUNTED, Controls}
+use Rattle.runner.specs.Phases.{LAST, UNARY, LEFT, RIGHT, BEFORE, INSIDE, BOUND, CONDITION, TEST, PASS, ARGUMENT, COUNTED, NAMELESS, Controls}
 use Rattle.runner.specs.Waiting.{Run}
-use Rattle.runner.specs.Standing.{Gives, Resumes, Good, above, begun, given, over, onward, weight, Some, Goes, Any, OfAll, Creating}
+use Rattle.runner.specs.Standing.{Gives, Resumes, Good, above, begun, given, over, onward, weight, Some, Goes, Any, Creating}
 use Rattle.runner.specs.declared.state.Spot.{Spot}
-use Rattle.runner.specs.declared.state.Ending.{Ending}
+use Rattle.runner.specs.Standing.{Ending}
 use Rattle.runner.specs.declared.state.Next.{Next}
 use Rattle.runner.proofs.Giving.{give-resumes}
 use Rattle.runner.proofs.Operating.{resume-last, resume-inside, unary-inside, unary-other, resume-unary, resume-create}
 use Rattle.runner.proofs.Operating.{right-inside, right-slot, resume-right, left-inside, left-slot, resume-settled, resume-held}
-use Rattle.runner.proofs.Controlling.{before-inside, resume-before, bound-inside, bound-token, bound-slot, bound-key, resume-bound, condition-inside}
+use Rattle.runner.proofs.Controlling.{before-inside, resume-before, bound-inside, bound-slot, resume-bound, condition-inside}
 use Rattle.runner.proofs.Controlling.{resume-then, resume-else, test-inside, resume-test, resume-end, pass-inside, resume-pass, resume-whole}
 use Rattle.runner.proofs.Promises.{goes-to}
 
@@ -45,26 +45,26 @@ birth-units (Outcome.Halts y) s = omega arith
 
 -- ---- give
 
-abbrev Giving : ℕ → List ℕ → List ℕ → List ℕ → Value → Spot → Tally → Run → Type 0
-Giving defs t w o v p s = OfAll defs λ q. Gives q t w o v p s
+abbrev Giving : List ℕ → List ℕ → List ℕ → Value → Spot → Tally → Run → Type 0
+Giving t w o v p s q = Gives q t w o v p s
 
 abbrev spot : ℕ → ℕ → ℕ → Spot
 spot base size height = record { base = base; size = size; height = height }
 
-module _ {defs : ℕ} {t w o : List ℕ} {v : Value} {p : Spot} {s : Tally} where
-  pub gives-high : Any (Giving defs t w o v p s) → (1 ≤ p .height) × (p .height ≤ FRAMES) × (WORK ≤ length w)
-  gives-high x = (x .holds .1 .high, omega (arith, x .holds .1 .deep), x .holds .1 .fair .room .long)
+module _ {t w o : List ℕ} {v : Value} {p : Spot} {s : Tally} where
+  pub gives-high : Any (Giving t w o v p s) → (1 ≤ p .height) × (p .height ≤ FRAMES) × (WORK ≤ length w)
+  gives-high x = (x .holds .high, omega (arith, x .holds .deep), x .holds .fair .room .long)
 
   -- the last frame is read
   module _ {g row phase base size : ℕ} (high : 1 ≤ p .height) (e : g ≡ p .height - 1) (a : row ≡ frame-word w g NODE) (b : phase ≡ frame-word w g PHASE)
       (c : base ≡ frame-word w g BASE) (d : size ≡ frame-size w g) where
-    pub gives-resumes : (q : Run) → Giving defs t w o v p s q → Resumes q t w o v row phase (spot base size g) s
-    gives-resumes q x = give-resumes (x .1) g (omega arith) row phase base size a b c d
+    pub gives-resumes : (q : Run) → Giving t w o v p s q → Resumes q t w o v row phase (spot base size g) s
+    gives-resumes q x = give-resumes x g (omega arith) row phase base size a b c d
 
-    pub gives-argument : phase ≡ ARGUMENT → (q : Run) → Giving defs t w o v p s q → OfAll defs (λ q. Resumes q t w o v row ARGUMENT (spot base size g) s) q
-    gives-argument f q x = (x .0, subst (λ (k : ℕ). Resumes q t w o v row k (spot base size g) s) f (gives-resumes q x))
+    pub gives-argument : phase ≡ ARGUMENT → (q : Run) → Giving t w o v p s q → Resumes q t w o v row ARGUMENT (spot base size g) s
+    gives-argument f q x = subst (λ (k : ℕ). Resumes q t w o v row k (spot base size g) s) f (gives-resumes q x)
 
-    pub gives-counted : phase ≡ COUNTED → (q : Run) → Giving defs t w o v p s q → Resumes q t w o v row COUNTED (spot base size g) s
+    pub gives-counted : phase ≡ COUNTED → (q : Run) → Giving t w o v p s q → Resumes q t w o v row COUNTED (spot base size g) s
     gives-counted f q x = subst (λ (k : ℕ). Resumes q t w o v row k (spot base size g) s) f (gives-resumes q x)
 
 -- ---- resume and control
@@ -116,15 +116,14 @@ module _ {t w : List ℕ} {v : Value} {row phase : ℕ} {p : Spot} {s : Tally} w
   pub resumes-end : phase ≡ TEST → {b : Bool} → b ≡ is-true (meant v) → b ≡ false → {r : Next} → r ≡ given Nothing p s → Less t w v row phase p s w r
   resumes-end e g h f = goes-to refl f (λ q o r. resume-end r e (sym g ∙ h)) (omega arith)
 
-  pub resumes-bound : phase ≡ BOUND → {own key part : ℕ} → own ≡ row-word t row OWN → key ≡ token-value t (own + 1) → part ≡ row-word t row SECOND
-      → Survives v → {w1 : List ℕ} {r : Next} → w1 ≡ put-phase (put-slot w 0 (p .base + p .size) key v) (p .height) LAST
+  pub resumes-bound : phase ≡ BOUND → {part : ℕ} → part ≡ row-word t row SECOND → Survives v → {w1 : List ℕ} {r : Next}
+      → w1 ≡ put-phase (put-slot w 0 (p .base + p .size) NAMELESS v) (p .height) LAST
       → r ≡ begun part v (above (p .base) (p .size + 1) p) s → Less t w v row phase p s w1 r
-  resumes-bound e {own} {key} a b c back x y =
-      goes-to x (y ∙ ap (λ (k : ℕ). begun k v (above (p .base) (p .size + 1) p) s) c)
-      (λ q o r. resume-bound r e key (b ∙ ap (λ (k : ℕ). token-value t (k + 1)) a) back) (omega arith)
+  resumes-bound e c back x y =
+      goes-to x (y ∙ ap (λ (k : ℕ). begun k v (above (p .base) (p .size + 1) p) s) c) (λ q o r. resume-bound r e back) (omega arith)
 
   pub resumes-whole : Controls phase → (phase ≡ BOUND → ⊥) → (phase ≡ CONDITION → ⊥) → (phase ≡ TEST → ⊥) → (phase ≡ PASS → ⊥) → {r : Next}
-      → r ≡ over Ending.«Value» v p s → Less t w v row phase p s w r
+      → r ≡ over Ending.complete v p s → Less t w v row phase p s w r
   resumes-whole c a b d e f = goes-to refl f (λ q o r. resume-whole r c a b d e) (omega arith)
 
   -- ---- what they ask
@@ -144,14 +143,8 @@ module _ {t w : List ℕ} {v : Value} {row phase : ℕ} {p : Spot} {s : Tally} w
   pub row-pass : phase ≡ PASS → Some (Resuming t w v row phase p s) → row < NODES
   row-pass e x = pass-inside (x .holds) e
 
-  pub token-bound : phase ≡ BOUND → {own : ℕ} → own ≡ row-word t row OWN → Some (Resuming t w v row phase p s) → own + 1 < TOKENS
-  token-bound e f x = omega (arith, bound-token (x .holds) e)
-
   pub slot-bound : phase ≡ BOUND → Some (Resuming t w v row phase p s) → p .base + p .size < SLOTS
   slot-bound e x = bound-slot (x .holds) e
-
-  pub key-bound : phase ≡ BOUND → {own key : ℕ} → own ≡ row-word t row OWN → key ≡ token-value t (own + 1) → Some (Resuming t w v row phase p s) → key ≤ KEYS
-  key-bound e f g x = omega (arith, g ∙ ap (λ (k : ℕ). token-value t (k + 1)) f, bound-key (x .holds) e)
 
 -- ---- operators
 
@@ -168,7 +161,7 @@ module _ {t w : List ℕ} {v : Value} {row : ℕ} {p : Spot} {s : Tally} where
     lefts-settled e f g = goes-to refl g (λ q o r. resume-settled r refl op k (sym e ∙ f)) (omega arith)
 
     pub lefts-held : {b : Bool} → b ≡ settles (binary-of op) (meant v) → b ≡ false → {part : ℕ} → part ≡ row-word t row SECOND → Survives v
-        → {w1 : List ℕ} {r : Next} → w1 ≡ put-phase (put-slot w 0 (p .base + p .size) HELD v) (p .height) RIGHT
+        → {w1 : List ℕ} {r : Next} → w1 ≡ put-phase (put-slot w 0 (p .base + p .size) NAMELESS v) (p .height) RIGHT
         → r ≡ begun part v (above (p .base) (p .size + 1) p) s → Goes (Resuming t w v row LEFT p s) t w1 (3 * s .units + p .height + 3) r
     lefts-held e f g back x y =
         goes-to x (y ∙ ap (λ (j : ℕ). begun j v (above (p .base) (p .size + 1) p) s) g)

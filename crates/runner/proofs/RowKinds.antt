@@ -1,14 +1,15 @@
 -- Rows by their kinds: which nodes wait for a part, in which phase, and kinds that cannot be the same.
 use mathlib.Core.Path.{_≡_, refl, sym, ap, _∙_}
-use mathlib.Core.Bool.{Bool, true, false}
+use mathlib.Core.Bool.{Bool, true, false, cond}
 use Prim.Native.Nat.{ℕ, _≤_}
 use native.Mathlib.Omega.{arith}
-use lib.Dec.{eqb}
-use Rattle.language.specs.Tokens.{NUMBER, FLOAT-NUMBER, LET, IF, WHILE, UPTO, THROUGH, SEMI, LPAR, LBRACE}
+use lib.Dec.{eqb, leb}
+use borrow.Author.Tests.{ne-eqb, le-leb, lt-leb, leb-true}
+use Rattle.language.specs.Tokens.{NAME, NUMBER, FLOAT-NUMBER, LET, IF, WHILE, UPTO, THROUGH, PLUS, BECOMES, SEMI, LPAR, LBRACE}
 use Rattle.language.specs.Trees.{Literal, whole, truth, trivial, decimal, Unary, minus, fetch, new, Binary}
-use Rattle.layout.specs.Rows.{CALL, literal-kind, unary-kind, binary-kind, range-kind}
+use Rattle.layout.specs.Rows.{PREFIX, CALL, literal-kind, unary-kind, binary-kind, range-kind}
 use Rattle.layout.specs.Decode.{counts}
-use Rattle.runner.specs.Phases.{LAST, UNARY, LEFT, BEFORE, INSIDE, BOUND, CONDITION, TEST, waits, phase-of}
+use Rattle.runner.specs.Phases.{LAST, UNARY, LEFT, BEFORE, INSIDE, BOUND, CONDITION, TEST, waits, phase-of, operates}
 
 -- kinds that wait, and those that do not
 pub unary-waits : (o : Unary) → waits (unary-kind o) ≡ true
@@ -151,3 +152,86 @@ clash-waits p f t = clash-bool t (ap waits (sym p) ∙ f)
 
 pub clash-still : {A : Type 0} {x a : ℕ} → x ≡ a → waits x ≡ true → waits a ≡ false → A
 clash-still p t f = clash-bool (ap waits (sym p) ∙ t) f
+
+-- ---- operators, told by their kinds alone
+
+-- a node of this kind waits in this phase for its first part, and is no name, call, Block or `for`
+pub record Plain (k p : ℕ) : Type 0 where
+  pub no-name : k ≡ NAME → ⊥
+  pub no-call : k ≡ CALL → ⊥
+  pub no-block : k ≡ LBRACE → ⊥
+  pub no-for : counts k ≡ false
+  pub waits-for : waits k ≡ true
+  pub phase-is : p ≡ phase-of k
+
+pub number-waits : waits NUMBER ≡ false
+unfolding waits
+number-waits = refl
+
+pub number-named : (k : ℕ) → k ≡ NUMBER → k ≡ NAME → ⊥
+number-named k e f = omega arith
+
+mark-waits : (k : ℕ) → PLUS ≤ k → (k ≡ FLOAT-NUMBER → ⊥) → waits k ≡ true
+unfolding waits
+mark-waits k l n = rw (ne-eqb k FLOAT-NUMBER n, le-leb PLUS k l) refl
+
+no-range : (k : ℕ) → (k ≡ UPTO → ⊥) → (k ≡ THROUGH → ⊥) → counts k ≡ false
+unfolding counts
+no-range k n m = rw (ne-eqb k UPTO n, ne-eqb k THROUGH m) refl
+
+between-phase : (k : ℕ) → PLUS ≤ k → k ≤ BECOMES → LEFT ≡ phase-of k
+unfolding phase-of
+between-phase k l h =
+    rw (
+      ne-eqb k LPAR (λ z. omega arith),
+      ne-eqb k LBRACE (λ z. omega arith),
+      ne-eqb k SEMI (λ z. omega arith),
+      ne-eqb k LET (λ z. omega arith),
+      ne-eqb k IF (λ z. omega arith),
+      ne-eqb k WHILE (λ z. omega arith),
+      lt-leb PREFIX k (omega arith),
+    ) refl
+
+before-phase : (k : ℕ) → PREFIX ≤ k → UNARY ≡ phase-of k
+unfolding phase-of
+before-phase k l =
+    rw (
+      ne-eqb k LPAR (λ z. omega arith),
+      ne-eqb k LBRACE (λ z. omega arith),
+      ne-eqb k SEMI (λ z. omega arith),
+      ne-eqb k LET (λ z. omega arith),
+      ne-eqb k IF (λ z. omega arith),
+      ne-eqb k WHILE (λ z. omega arith),
+      le-leb PREFIX k l,
+    ) refl
+
+both : (a b : Bool) → cond a b false ≡ true → (a ≡ true) × (b ≡ true)
+both true b e = (refl, e)
+both false b e = clash-bool e refl
+
+between : (k : ℕ) → operates k ≡ true → (PLUS ≤ k) × (k ≤ BECOMES)
+unfolding operates
+between k e = let x = both (leb PLUS k) (leb k BECOMES) e in (leb-true PLUS k (x .0), leb-true k BECOMES (x .1))
+
+pub operator-plain : (k : ℕ) → operates k ≡ true → Plain k LEFT
+operator-plain k e =
+    let l : PLUS ≤ k = between k e .0 in
+    let h : k ≤ BECOMES = between k e .1 in
+    record {
+      no-name = λ z. omega arith;
+      no-call = λ z. omega arith;
+      no-block = λ z. omega arith;
+      no-for = no-range k (λ z. omega arith) (λ z. omega arith);
+      waits-for = mark-waits k l (λ z. omega arith);
+      phase-is = between-phase k l h;
+    }
+
+pub prefix-plain : (k : ℕ) → PREFIX ≤ k → Plain k UNARY
+prefix-plain k l = record {
+  no-name = λ z. omega arith;
+  no-call = λ z. omega arith;
+  no-block = λ z. omega arith;
+  no-for = no-range k (λ z. omega arith) (λ z. omega arith);
+  waits-for = mark-waits k (omega arith) (λ z. omega arith);
+  phase-is = before-phase k l;
+}

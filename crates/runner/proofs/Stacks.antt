@@ -17,7 +17,7 @@ use Rattle.runner.specs.Waiting.{Run, Then, Binds, binds-none, binds-nam
 use Rattle.runner.specs.Waiting.{WaitsLeft, WaitsRight, WaitsBefore, WaitsInside, WaitsBound, WaitsCondition, WaitsTest}
 use Rattle.runner.specs.Waiting.{WaitsPass, WaitsArgument, WaitsCounted, WaitsWhole, Waits, Stack, ground, frame}
 use Rattle.runner.specs.Trees.{helds}
-use Rattle.runner.proofs.Memory.{Below, frame-kept, value-kept, key-kept, values-kept}
+use Rattle.runner.proofs.Memory.{Below, frame-kept, value-kept, values-kept}
 
 -- ---- one after another
 
@@ -51,11 +51,9 @@ helds-length (suc k) L = let e = helds-length k L in omega arith
 pub binds-kept : {ts : List Token} {w w1 : List ℕ} {a base : ℕ} {L : List ℕ} {env : Env}
     → Below w w1 a → base + length L ≤ a → Binds ts w base L env → Binds ts w1 base L env
 binds-kept x l binds-none = binds-none
-binds-kept {base = base} x l (binds-name {L = L} n k e b) =
-    binds-name n (key-kept x (base + length L) (omega arith) ∙ k) (value-kept x (base + length L) (omega arith) ∙ e)
-    (binds-kept x (omega arith) b)
-binds-kept {base = base} x l (binds-held {L = L} k b) =
-    binds-held (key-kept x (base + length L) (omega arith) ∙ k) (binds-kept x (omega arith) b)
+binds-kept {base = base} x l (binds-name {L = L} n e b) =
+    binds-name n (value-kept x (base + length L) (omega arith) ∙ e) (binds-kept x (omega arith) b)
+binds-kept x l (binds-held {L = L} b) = binds-held (binds-kept x (omega arith) b)
 
 -- ---- frames
 
@@ -102,7 +100,6 @@ module _ (q : Run) (t : List ℕ) {w w1 : List ℕ} {a h c : ℕ} (k : Kept w w1
     x = y .x;
     f = y .f;
     inside = y .inside;
-    own = y .own;
     named = y .named;
     room = y .room;
     at = y .at;

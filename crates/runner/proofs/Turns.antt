@@ -8,7 +8,7 @@ use native.Mathlib.Omega.{arith}
 use lib.Dec.{eqb}
 use lib.IntN.{ℤ, _+ℤ_}
 use lib.ListN.{length}
-use Rattle.language.specs.Sizes.{TOKENS, NODES}
+use Rattle.language.specs.Sizes.{NODES}
 use Rattle.language.specs.Tokens.{THROUGH}
 use Rattle.language.specs.Trees.{push}
 use Rattle.language.specs.State as M
@@ -16,9 +16,8 @@ use Rattle.language.specs.State.{number, nothing, value, then, as-int, as-unit,
 use Rattle.language.specs.Meaning.{in-range, due, eval}
 use Rattle.language.proofs.Meaning.CellTypes.{none-some, some-one}
 use Rattle.language.proofs.Meaning.Turns.{for-from, for-is}
-use Rattle.layout.specs.Table.{KIND, OWN, SECOND, row-word, token-value}
-use Rattle.layout.specs.Names.{Named}
-use Rattle.layout.specs.Slots.{HELD, SLOTS, KEYS, key-at, value-at}
+use Rattle.layout.specs.Table.{KIND, SECOND, row-word, token-value}
+use Rattle.layout.specs.Slots.{HELD, SLOTS, value-at}
 use Rattle.layout.specs.Frames.{put-phase}
 use Rattle.layout.specs.Values.{meant, Survives}
 use Rattle.layout.specs.declared.values.Value.{Value}
@@ -35,10 +34,9 @@ use Rattle.runner.specs.declared.state.Spot.{Spot}
 use Rattle.runner.proofs.Stacks.{then-then, binds-kept}
 use Rattle.runner.proofs.RowKinds.{range-through}
 use Rattle.runner.proofs.Entering.{spot}
-use Rattle.runner.proofs.Finding.{name-small}
 use Rattle.runner.proofs.Giving.{waits-at, frame-low, back, part-enters}
 use Rattle.runner.proofs.Controlling.{unit-whole}
-use Rattle.runner.proofs.Bound.{bound-stored, bound-frame, bound-key, bound-value, end-key, end-value, step-key, step-value}
+use Rattle.runner.proofs.Bound.{bound-stored, bound-frame, bound-value, end-value, step-value}
 
 -- ---- a pass, or the end
 
@@ -85,17 +83,9 @@ module _ {q : Run} {t w o : List ℕ} {node : ℕ} {z to by : Value} {p : Spot} 
 
   -- ---- the body begins
 
+  -- the number of its name
   abbrev K : ℕ
-  K = token-value t (row-word t node OWN + 1)
-
-  key-is : K ≡ token-value t (c .loop .i + 1)
-  key-is = ap (λ (j : ℕ). token-value t (j + 1)) (c .loop .head .own-is)
-
-  pub turn-token : row-word t node OWN + 1 < TOKENS
-  turn-token = omega (arith, c .loop .head .own-is, c .loop .named .inside)
-
-  pub turn-key : K ≤ KEYS
-  turn-key = omega (arith, key-is, name-small (c .frame .scene .stand .few) (c .loop .named .named))
+  K = token-value t (c .loop .i + 1)
 
   inside : B + N + 2 < SLOTS
   inside = omega (arith, c .room)
@@ -105,31 +95,26 @@ module _ {q : Run} {t w o : List ℕ} {node : ℕ} {z to by : Value} {p : Spot} 
 
   module _ (back-z : Survives z) (back-to : Survives to) (back-by : Survives by) where
     abbrev W : List ℕ
-    W = put-phase (put-bound w (B + N) K z to by) H COUNTED
+    W = put-phase (put-bound w (B + N) z to by) H COUNTED
 
     sees : Binds (q .ts) W B (HELD ∷ HELD ∷ K ∷ c .frame .L) (push (c .loop .x) (number (c .n)) (c .frame .env))
     sees =
         let low = frame-low (c .frame) in
         let long = c .frame .fair .room .long in
-        let named : Named (q .ts) K (c .loop .x) = subst (λ (n : ℕ). Named (q .ts) n (c .loop .x)) (sym key-is) (c .loop .named .named) in
-        let one : B + length (K ∷ c .frame .L) ≡ B + N + 1 = omega arith in
-        let two : B + length (HELD ∷ K ∷ c .frame .L) ≡ B + N + 2 = omega arith in
-        binds-held (ap (λ (j : ℕ). key-at W 0 j) two ∙ step-key w (B + N) K z to by H inside low long)
-        (binds-held (ap (λ (j : ℕ). key-at W 0 j) one ∙ end-key w (B + N) K z to by H inside low long)
-        (binds-name named (bound-key w (B + N) K z to by H inside low long)
-        (bound-value w (B + N) K z to by H inside low long back-z ∙ c .counter-is)
-        (binds-kept (bound-stored w (B + N) K z to by H inside low long .slots) (omega arith) (c .frame .binds))))
+        binds-held (binds-held (binds-name (c .loop .named .named)
+        (bound-value w (B + N) z to by H inside low long back-z ∙ c .counter-is)
+        (binds-kept (bound-stored w (B + N) z to by H inside low long .slots) (omega arith) (c .frame .binds))))
 
     abbrev Passing : ℕ → Type 0
-    Passing n = Begins q t (put-phase (put-bound w (B + n) K z to by) H COUNTED) o (row-word t node SECOND) (spot B (n + 3) (H + 1)) s
+    Passing n = Begins q t (put-phase (put-bound w (B + n) z to by) H COUNTED) o (row-word t node SECOND) (spot B (n + 3) (H + 1)) s
 
     pass-begins : here ≡ true → Passing N
     unfolding Waits which choose
     pass-begins h =
         let low = frame-low (c .frame) in
         let long = c .frame .fair .room .long in
-        part-enters (c .frame) (bound-stored w (B + N) K z to by H inside low long) COUNTED (c .frame .mark) 3 (λ v s. then (after v s) (c .frame .κ))
-        (bound-frame w (B + N) K z to by H inside low long (c .frame .there))
+        part-enters (c .frame) (bound-stored w (B + N) z to by H inside low long) COUNTED (c .frame .mark) 3 (λ v s. then (after v s) (c .frame .κ))
+        (bound-frame w (B + N) z to by H inside low long (c .frame .there))
         (record {
           loop = c .loop;
           to = c .end;
@@ -137,9 +122,9 @@ module _ {q : Run} {t w o : List ℕ} {node : ℕ} {z to by : Value} {p : Spot} 
           z = c .n;
           room = c .room;
           used = refl;
-          counter = bound-value w (B + N) K z to by H inside low long back-z ∙ c .counter-is;
-          end = end-value w (B + N) K z to by H inside low long back-to ∙ c .end-is;
-          step = step-value w (B + N) K z to by H inside low long back-by ∙ c .step-is;
+          counter = bound-value w (B + N) z to by H inside low long back-z ∙ c .counter-is;
+          end = end-value w (B + N) z to by H inside low long back-to ∙ c .end-is;
+          step = step-value w (B + N) z to by H inside low long back-by ∙ c .step-is;
           goes = λ v s. refl;
         })
         B (N + 3) (omega arith) (omega arith) (c .loop .at) sees (omega (arith, c .room))

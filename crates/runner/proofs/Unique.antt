@@ -68,6 +68,6 @@ one-answer (Done.Stop y i d) (Done.Stop z j e) a b =
 pub one-run : {table w o w1 o1 w2 o2 : List ℕ} {P : Held} {allowance : ℕ} {r q : Done} → Loaded table w P allowance
     → RunsTo table w o w1 o1 P allowance r → RunsTo table w o w2 o2 P allowance q → (r ≡ q) × (o1 ≡ o2) × (w1 ≡ w2)
 one-run {r = r} {q = q} sh a b =
-    let e = one-answer r q (a .answer (sh .ts) (sh .program) (sh .type) (sh .holds) (sh .typed))
-    (b .answer (sh .ts) (sh .program) (sh .type) (sh .holds) (sh .typed)) in
+    let e = one-answer r q (a .answer (sh .ts) (sh .program) (sh .type) (sh .holds) (sh .typed) (sh .resolved))
+    (b .answer (sh .ts) (sh .program) (sh .type) (sh .holds) (sh .typed) (sh .resolved)) in
     (e .0, e .1, a .cleared ∙ sym (b .cleared))

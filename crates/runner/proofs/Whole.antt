@@ -18,6 +18,7 @@ use Rattle.layout.specs.Table.{KIND, BODY, token-value, row-word, function-row,
 use Rattle.layout.specs.Names.{Stand, Named}
 use Rattle.layout.specs.Functions.{function-name, Headed}
 use Rattle.layout.specs.Decode.{shape-of, build, build-if, tree-at, Right, FunctionAt, FunctionsAt, functions-none, functions-more, Holds}
+use Rattle.layout.specs.Resolved.{parameters-in, Placed, PlacedDefs, Resolved}
 use Rattle.layout.specs.Frames.{put-frame}
 use Rattle.layout.specs.declared.Held.{Held}
 use Rattle.layout.specs.declared.values.Value.{Value}
@@ -28,7 +29,7 @@ use Rattle.machine.specs.declared.state.Tally.{Tally}
 use Rattle.runner.specs.Phases.{WHOLE}
 use Rattle.runner.specs.Trees.{At, slack, Function, Defines, defines-none, defines-more, Scene}
 use Rattle.runner.specs.Waiting.{Run, binds-none, which, Waits, Stack, ground, frame}
-use Rattle.runner.specs.Standing.{Fair, Begins, Ends, Good, GoodBy, begun, running-by, running, Any, OfAll, Ran}
+use Rattle.runner.specs.Standing.{Fair, Begins, Ends, Good, GoodBy, begun, running-by, running, ending-of, Any, Ran}
 use Rattle.runner.specs.Contract.{Loaded, reported, EndsAs, RunsTo}
 use Rattle.runner.specs.declared.Done.{Done}
 use Rattle.runner.specs.declared.state.Mode.{Mode}
@@ -52,11 +53,14 @@ block-slack (suc f) ts w i r e = rw e refl
 pub some-slack : (e : Exp) → 0 ≤ slack e
 some-slack e = omega arith
 
-module _ {ts : List Token} {t : List ℕ} (long : TABLE ≤ length t) (stand : Stand t (length ts) ts) where
+module _ {ts : List Token} {t : List ℕ} (long : TABLE ≤ length t) (stand : Stand t (length ts) ts) (all : ℕ) where
   -- row r is the function d
-  function-of : {h r : ℕ} {d : Def} → FunctionAt h ts t r d → Few (d .body) → length (d .params) ≤ PARAMETERS → Function ts t r d
-  function-of {h} {r} {d} a few l =
-      let at = at-of ts t long stand h (row-word t r BODY) (a .right) (subst Few (sym (a .body)) few) in
+  function-of : {h r : ℕ} {d : Def} → FunctionAt h ts t r d → Few (d .body) → length (d .params) ≤ PARAMETERS
+      → Placed t t all (parameters-in t r (length (d .params))) (d .body) → Function ts t all r d
+  function-of {h} {r} {d} a few l p =
+      let L = parameters-in t r (length (d .params)) in
+      let at = at-of ts t all long stand h L (row-word t r BODY) (a .right)
+      (subst (λ (e : Exp). Few e × Placed t t all L e) (sym (a .body)) (few, p)) in
       record {
         inside = a .inside;
         few = l;
@@ -64,7 +68,7 @@ module _ {ts : List Token} {t : List ℕ} (long : TABLE ≤ length t) (stand : S
         last-param = a .last-param;
         params = a .params;
         block = subst (λ (e : Exp). slack e ≡ 1) (a .body) (block-slack h ts t (row-word t r BODY) (a .right) (a .block));
-        at = subst (λ (e : Exp). At ts t (row-word t r BODY) e) (a .body) at;
+        at = subst (λ (e : Exp). At ts t all L (row-word t r BODY) e) (a .body) at;
       }
 
   -- its name
@@ -78,18 +82,19 @@ module _ {ts : List Token} {t : List ℕ} (long : TABLE ≤ length t) (stand : S
 
   -- the table's functions are those of the meaning
   defines : {h : ℕ} {k : ℕ} {ds : List Def} {fs : Scope Fun} {Δ : Scope Sig} {e : Exp} {y : Ty} → k + length ds ≤ TOKENS
-      → FunctionsAt h ts t k ds → TypedFrom Δ ds e y → Small Δ → Defines ts t k fs → Defines ts t (k + length ds) (functions ds fs)
-  unfolding functions
-  defines {k = k} {fs = fs} few functions-none (typed-main x) small def =
+      → FunctionsAt h ts t k ds → TypedFrom Δ ds e y → Small Δ → PlacedDefs t t all k ds → Defines ts t all k fs
+      → Defines ts t all (k + length ds) (functions ds fs)
+  unfolding functions PlacedDefs
+  defines {k = k} {fs = fs} few functions-none (typed-main x) small p def =
       let q : k + 0 ≡ k = omega arith in
-      subst (λ (n : ℕ). Defines ts t n fs) (sym q) def
-  defines {k = k} {ds = f ∷ ds} {fs = fs} {Δ = Δ} few (functions-more at rest) (typed-def ok typed) small def =
+      subst (λ (n : ℕ). Defines ts t all n fs) (sym q) def
+  defines {k = k} {ds = f ∷ ds} {fs = fs} {Δ = Δ} few (functions-more at rest) (typed-def ok typed) small p def =
       let q : k + 1 + length ds ≡ k + suc (length ds) = omega arith in
       let l = params-few ok in
       let fs1 = push (f .called) (defined (f .params) (f .body)) fs in
-      let one = defines-more (head-of (omega arith) at) (name-of k at) (function-of at (body-few small ok) l) def in
-      subst (λ (n : ℕ). Defines ts t n (functions ds fs1)) q
-      (defines {fs = fs1} (omega arith) rest typed (def-small Δ f l small) (subst (λ (n : ℕ). Defines ts t n fs1) (sym (add-one k)) one))
+      let one = defines-more (head-of (omega arith) at) (name-of k at) (function-of at (body-few small ok) l (p .0)) def in
+      subst (λ (n : ℕ). Defines ts t all n (functions ds fs1)) q
+      (defines {fs = fs1} (omega arith) rest typed (def-small Δ f l small) (p .1) (subst (λ (n : ℕ). Defines ts t all n fs1) (sym (add-one k)) one))
 
 -- the last expression has few arguments in its calls, too
 main-few : {Δ : Scope Sig} {ds : List Def} {e : Exp} {y : Ty} → TypedFrom Δ ds e y → Small Δ → Few e
@@ -128,12 +133,13 @@ module _ (table w o : List ℕ) (P : Held) (allowance : ℕ) where
 
   -- whatever program the table holds, the loop stands where its meaning does
   abbrev pub Stands : List ℕ → List ℕ → Next → Type 0
-  Stands w1 o1 n = (ts : List Token) (p : Program) (t : Ty) → Holds ts table P p → (h : HasType p t) → Good (run-of ts p t h) table w1 o1 n
+  Stands w1 o1 n = (ts : List Token) (p : Program) (t : Ty) → Holds ts table P p → (h : HasType p t) → Resolved table p
+      → Good (run-of ts p t h) table w1 o1 n
 
 -- ---- the begin
 
 module _ (table w o : List ℕ) (P : Held) (allowance : ℕ) (long : WORK ≤ length w) (allowed : allowance ≤ ALLOWANCE)
-    (ts : List Token) (p : Program) (t : Ty) (h : Holds ts table P p) (typed : HasType p t) where
+    (ts : List Token) (p : Program) (t : Ty) (h : Holds ts table P p) (typed : HasType p t) (res : Resolved table p) where
   abbrev q : Run
   q = run-of table w o P allowance ts p t typed
 
@@ -143,21 +149,26 @@ module _ (table w o : List ℕ) (P : Held) (allowance : ℕ) (long : WORK ≤ le
   stand-all : Stand table (length ts) ts
   stand-all = subst (λ (n : ℕ). Stand table n ts) (sym (h .stand .long)) (h .stand)
 
+  defs-are : length (p .defs) ≡ P .functions
+  defs-are = omega (arith, h .defined)
+
   scene-first : Scene ts table (P .functions) (in-sight p)
   scene-first =
       let e : 0 + length (p .defs) ≡ P .functions = omega (arith, h .defined) in
       record {
         long = h .long;
         stand = stand-all;
-        functions = subst (λ (n : ℕ). Defines ts table n (in-sight p)) e
-            (defines (h .long) stand-all (omega (arith, e, h .few, h .stand .few)) (h .functions) typed given-small defines-none);
+        functions = subst (λ (n : ℕ). Defines ts table (P .functions) n (in-sight p)) e
+            (defines (h .long) stand-all (P .functions) (omega (arith, e, h .few, h .stand .few)) (h .functions) typed given-small
+            (subst (λ (n : ℕ). PlacedDefs table table n 0 (p .defs)) defs-are (res .bodies)) defines-none);
       }
 
-  at-first : At ts table (P .root) (p .main)
+  at-first : At ts table (P .functions) [] (P .root) (p .main)
   at-first =
-      subst (λ (e : Exp). At ts table (P .root) e) (h .main)
-      (at-of ts table (h .long) stand-all (h .depth) (P .root) (h .right)
-      (subst Few (sym (h .main)) (main-few typed given-small)))
+      subst (λ (e : Exp). At ts table (P .functions) [] (P .root) e) (h .main)
+      (at-of ts table (P .functions) (h .long) stand-all (h .depth) [] (P .root) (h .right)
+      (subst (λ (e : Exp). Few e × Placed table table (P .functions) [] e) (sym (h .main))
+      (main-few typed given-small, subst (λ (n : ℕ). Placed table table n [] (p .main)) defs-are (res .main))))
 
   fair-first : Fair q bottom o (first-tally allowance) 1
   fair-first =
@@ -215,49 +226,51 @@ module _ (table w o : List ℕ) (P : Held) (allowance : ℕ) where
 
   stands-first : Loaded table w P allowance → (w1 : List ℕ) (n : Next) (v : Value) → w1 ≡ put-frame w 0 0 WHOLE 0 0 0
       → n ≡ begun (P .root) v (spot 0 0 1) (first-tally allowance) → Loop w1 o n
-  stands-first sh w1 n v e f ts p t h typed =
-      let first = begins-first table w o P allowance (sh .long) (sh .allowed) ts p t h typed in
+  stands-first sh w1 n v e f ts p t h typed res =
+      let first = begins-first table w o P allowance (sh .long) (sh .allowed) ts p t h typed res in
       let q = run-of table w o P allowance ts p t typed in
       subst (λ (x : List ℕ). Good q table x o n) (sym e) (subst (λ (m : Next). Good q table (put-frame w 0 0 WHOLE 0 0 0) o m) (sym f) first)
 
   -- a turn
-  stands-any : Loaded table w P allowance → (w1 o1 : List ℕ) (n : Next) → Loop w1 o1 n → Any (OfAll (P .functions) λ q. Good q table w1 o1 n)
+  stands-any : Loaded table w P allowance → (w1 o1 : List ℕ) (n : Next) → Loop w1 o1 n → Any (λ q. Good q table w1 o1 n)
   stands-any sh w1 o1 n x = record {
     q = run-of table w o P allowance (sh .ts) (sh .program) (sh .type) (sh .typed);
-    holds = (refl, x (sh .ts) (sh .program) (sh .type) (sh .holds) (sh .typed));
+    holds = x (sh .ts) (sh .program) (sh .type) (sh .holds) (sh .typed) (sh .resolved);
   }
 
-  stands-ran : (w1 o1 w2 o2 : List ℕ) (n r : Next) → Loop w1 o1 n → Ran (P .functions) table w1 o1 w2 o2 n r → Loop w2 o2 r
-  stands-ran w1 o1 w2 o2 n r x s ts p t h typed = s .right (run-of table w o P allowance ts p t typed) refl (x ts p t h typed)
+  stands-ran : (w1 o1 w2 o2 : List ℕ) (n r : Next) → Loop w1 o1 n → Ran table w1 o1 w2 o2 n r → Loop w2 o2 r
+  stands-ran w1 o1 w2 o2 n r x s ts p t h typed res = s .right (run-of table w o P allowance ts p t typed) (x ts p t h typed res)
 
   -- ---- the end
 
-  over-mode : (m : Mode) → running-by m ≡ false → m ≡ Mode.Over
-  over-mode Mode.Begin e = absurd (let z : _≡_ {A = ℕ} 0 1 = cc in omega arith)
-  over-mode Mode.Give e = absurd (let z : _≡_ {A = ℕ} 0 1 = cc in omega arith)
-  over-mode Mode.Over e = refl
+  over-so : (q : Run) (w1 o1 : List ℕ) (n : Next) (m : Mode) → running-by m ≡ false → GoodBy q table w1 o1 m n
+      → Ends q table w1 o1 (ending-of m) (n .value) (n .tally)
+  over-so q w1 o1 n Mode.Begin e g = absurd (let z : _≡_ {A = ℕ} 0 1 = cc in omega arith)
+  over-so q w1 o1 n Mode.Give e g = absurd (let z : _≡_ {A = ℕ} 0 1 = cc in omega arith)
+  over-so q w1 o1 n Mode.Over e g = g
+  over-so q w1 o1 n (Mode.Halt y i) e g = g
 
-  ends-of : (ts : List Token) (p : Program) (t : Ty) (h : Holds ts table P p) (typed : HasType p t) (w1 o1 : List ℕ) (n : Next)
-      → running n ≡ false → Loop w1 o1 n → Ends (run-of table w o P allowance ts p t typed) table w1 o1 (n .ending) (n .value) (n .tally)
-  ends-of ts p t h typed w1 o1 n e x =
-      subst (λ (m : Mode). GoodBy (run-of table w o P allowance ts p t typed) table w1 o1 m n) (over-mode (n .mode) e) (x ts p t h typed)
+  ends-of : (ts : List Token) (p : Program) (t : Ty) (h : Holds ts table P p) (typed : HasType p t) → Resolved table p → (w1 o1 : List ℕ) (n : Next)
+      → running n ≡ false → Loop w1 o1 n → Ends (run-of table w o P allowance ts p t typed) table w1 o1 (ending-of (n .mode)) (n .value) (n .tally)
+  ends-of ts p t h typed res w1 o1 n e x =
+      over-so (run-of table w o P allowance ts p t typed) w1 o1 n (n .mode) e (x ts p t h typed res)
 
   stands-few : Loaded table w P allowance → (w1 o1 : List ℕ) (n : Next) → running n ≡ false → Loop w1 o1 n
       → n .tally .units ≤ ALLOWANCE + 1
-  stands-few sh w1 o1 n e x = omega (arith, ends-of (sh .ts) (sh .program) (sh .type) (sh .holds) (sh .typed) w1 o1 n e x .fair .paid)
+  stands-few sh w1 o1 n e x = omega (arith, ends-of (sh .ts) (sh .program) (sh .type) (sh .holds) (sh .typed) (sh .resolved) w1 o1 n e x .fair .paid)
 
   stands-long : Loaded table w P allowance → (w1 o1 : List ℕ) (n : Next) → running n ≡ false → Loop w1 o1 n → WORK ≤ length w1
-  stands-long sh w1 o1 n e x = ends-of (sh .ts) (sh .program) (sh .type) (sh .holds) (sh .typed) w1 o1 n e x .fair .room .long
+  stands-long sh w1 o1 n e x = ends-of (sh .ts) (sh .program) (sh .type) (sh .holds) (sh .typed) (sh .resolved) w1 o1 n e x .fair .room .long
 
   -- the contract of the run
   whole : Loaded table w P allowance → (w1 o1 : List ℕ) (n : Next) → running n ≡ false → Loop w1 o1 n → (w2 : List ℕ)
       → w2 ≡ zeros w1 0 WORK → (r : Done) → r ≡ reported n → RunsTo table w o w2 o1 P allowance r
   whole sh w1 o1 n e x w2 ew r er =
-      let fair = ends-of (sh .ts) (sh .program) (sh .type) (sh .holds) (sh .typed) w1 o1 n e x .fair in
+      let fair = ends-of (sh .ts) (sh .program) (sh .type) (sh .holds) (sh .typed) (sh .resolved) w1 o1 n e x .fair in
       record {
-        answer = λ ts p t h typed.
+        answer = λ ts p t h typed res.
             subst (λ (y : Done). EndsAs (run p allowance (length o)) o o1 y) (sym er)
-            (ends-as w1 o o1 n (ends-of ts p t h typed w1 o1 n e x .tells) (fair .wide) (fair .printed) (fair .rest));
+            (ends-as w1 o o1 n (ends-of ts p t h typed res w1 o1 n e x .tells) (fair .wide) (fair .printed) (fair .rest));
         cleared = ew ∙ cleared-same w w1 (fair .long) (fair .beyond);
       }
 
@@ -269,10 +282,10 @@ module _ (table w o : List ℕ) (P : Held) (allowance : ℕ) (sh : Loaded table 
   first = stands-first table w o P allowance sh w1 n v e f
 
   -- what the loop is asked
-  pub first-any : Any (OfAll (P .functions) λ q. Good q table w1 o n)
+  pub first-any : Any (λ q. Good q table w1 o n)
   first-any = stands-any table w o P allowance sh w1 o n first
 
-  module _ {w2 o2 : List ℕ} {r : Next} (g : Ran (P .functions) table w1 o w2 o2 n r) where
+  module _ {w2 o2 : List ℕ} {r : Next} (g : Ran table w1 o w2 o2 n r) where
     last : Stands table w o P allowance w2 o2 r
     last = stands-ran table w o P allowance w1 o w2 o2 n r first g
 

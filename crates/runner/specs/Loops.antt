@@ -10,14 +10,14 @@ use Rattle.language.specs.State as M
 use Rattle.language.specs.State.{number, stop, zero-step, then, choose}
 use Rattle.language.specs.Meaning.{is-zero}
 use Rattle.language.proofs.Meaning.Turns.{for-from}
-use Rattle.layout.specs.Table.{OWN, SECOND, token-value, row-word}
-use Rattle.layout.specs.Slots.{HELD, WAITING, put-slot}
+use Rattle.layout.specs.Table.{SECOND, row-word}
+use Rattle.layout.specs.Slots.{WAITING, put-slot}
 use Rattle.layout.specs.Frames.{put-phase}
 use Rattle.layout.specs.Values.{meant, Survives}
 use Rattle.layout.specs.declared.values.Value.{Value}
 use Rattle.machine.specs.Outcomes.{memory}
 use Rattle.machine.specs.declared.state.Tally.{Tally}
-use Rattle.runner.specs.Phases.{COUNTED}
+use Rattle.runner.specs.Phases.{COUNTED, NAMELESS}
 use Rattle.runner.specs.Waiting.{Run, ForAt}
 use Rattle.runner.specs.Standing.{Resumes, above, begun}
 use Rattle.runner.specs.declared.state.Spot.{Spot}
@@ -34,7 +34,7 @@ pub record Counting (q : Run) (t w o : List ℕ) (first : Bool) (node : ℕ) (z 
   pub v : Value
   pub phase : ℕ
   pub frame : Resumes q t w o v node phase p s
-  pub loop : ForAt q t node
+  pub loop : ForAt q t node (frame .L)
   pub n : ℤ
   pub end : ℤ
   pub step : ℤ
@@ -47,12 +47,12 @@ pub record Counting (q : Run) (t w o : List ℕ) (first : Bool) (node : ℕ) (z 
       (frame .κ) ≡ q .whole
 
 -- the name's slot, and those of the end and the step above it
-abbrev pub put-bound : List ℕ → ℕ → ℕ → Value → Value → Value → List ℕ
-put-bound w at key z to by = put-slot (put-slot (put-slot w 0 at key z) 0 (at + 1) HELD to) 0 (at + 2) HELD by
+abbrev pub put-bound : List ℕ → ℕ → Value → Value → Value → List ℕ
+put-bound w at z to by =
+    put-slot (put-slot (put-slot w 0 at NAMELESS z) 0 (at + 1) NAMELESS to) 0 (at + 2) NAMELESS by
 
 -- the body begins, for z
 pub record BodyBegins (t w w′ : List ℕ) (node : ℕ) (z to by v : Value) (p : Spot) (s : Tally) (r : Next) : Type 0 where
-  pub laid : w′ ≡ put-phase (put-bound w (p .base + p .size) (token-value t (row-word t node OWN + 1)) z to by)
-      (p .height) COUNTED
+  pub laid : w′ ≡ put-phase (put-bound w (p .base + p .size) z to by) (p .height) COUNTED
   pub is : r ≡ begun (row-word t node SECOND) v (above (p .base) (p .size + 3) p) s
   pub survive : Survives z × Survives to × Survives by

@@ -1,9 +1,9 @@
--- The phases of a frame: for which part of its node it waits.
+-- The phases of a frame: for which part of its node it waits; and the key of its slots.
 use mathlib.Core.Bool.{Bool, true, false, cond}
 use mathlib.Core.Path.{_≡_}
 use Prim.Native.Nat.{ℕ}
 use lib.Dec.{eqb, leb}
-use Rattle.language.specs.Tokens.{FLOAT-NUMBER, LET, WHILE, IF, PLUS, SEMI, LPAR, LBRACE}
+use Rattle.language.specs.Tokens.{FLOAT-NUMBER, LET, WHILE, IF, PLUS, BECOMES, SEMI, LPAR, LBRACE}
 use Rattle.layout.specs.Rows.{PREFIX}
 
 -- the last part, whose value is the node's
@@ -51,6 +51,10 @@ WHOLE = 11
 abbrev pub COUNTED : ℕ
 COUNTED = 12
 
+-- the key of every slot of a frame: none is sought by it
+abbrev pub NAMELESS : ℕ
+NAMELESS = 0
+
 -- a node of this kind waits for its first part, and in which phase
 unfoldable pub waits : ℕ → Bool
 waits k =
@@ -61,6 +65,10 @@ unfoldable pub phase-of : ℕ → ℕ
 phase-of k =
     cond (eqb k LPAR) LAST (cond (eqb k LBRACE) INSIDE (cond (eqb k SEMI) BEFORE (cond (eqb k LET) BOUND
     (cond (eqb k IF) CONDITION (cond (eqb k WHILE) TEST (cond (leb PREFIX k) UNARY LEFT))))))
+
+-- the kinds of operators between two operands
+unfoldable pub operates : ℕ → Bool
+operates k = cond (leb PLUS k) (leb k BECOMES) false
 
 -- none of the phases of operators, `;`, Blocks, calls and `for`s, nor the last part
 pub record Controls (p : ℕ) : Type 0 where

@@ -1,22 +1,24 @@
 -- Where a run stands between two steps, and what the functions of the steps ask and promise.
-use mathlib.Core.Bool.{Bool, true, false}
+use mathlib.Core.Bool.{Bool, true, false, cond}
 use mathlib.Core.List.{List}
-use mathlib.Core.Option.{Option}
+use mathlib.Core.Option.{Option, none, some}
 use mathlib.Core.Path.{_≡_}
 use Prim.Native.Nat.{ℕ, suc, _+_, _-_, _*_, _/_, _%_, _≤_, _<_}
+use lib.Dec.{eqb}
 use lib.ListN.{length, getD}
-use Rattle.language.specs.Sizes.{TOKENS, NODES, PARAMETERS, ACTIVE, ALLOWANCE, TABLE, WORK}
+use Rattle.language.specs.Sizes.{TOKENS, NODES, ACTIVE, ALLOWANCE, TABLE, WORK}
 use Rattle.language.specs.Trees.{Exp}
 use Rattle.language.specs.State as M
 use Rattle.language.specs.State.{value, stop, then}
 use Rattle.language.specs.Meaning.{Env, step, eval}
-use Rattle.layout.specs.Table.{OWN, NEXT, ARITY, BODY, token-value, row-word}
-use Rattle.layout.specs.Functions.{Headed, find-function}
-use Rattle.layout.specs.Slots.{TAGS, WAITING, key-at, value-at}
+use Rattle.layout.specs.Table.{OWN, NEXT, ARITY, BODY, row-word}
+use Rattle.layout.specs.Slots.{TAGS, WAITING}
+use Rattle.layout.specs.Notes.{NOBODY, noted}
 use Rattle.layout.specs.Frames.{frame-mark, put-frame}
 use Rattle.layout.specs.Values.{meant}
 use Rattle.layout.specs.declared.values.Value.{Value}
 use Rattle.numbers.specs.Meanings.{stop-meant}
+use Rattle.numbers.specs.declared.Stop.{Stop}
 use Rattle.machine.specs.Outcomes.{memory, Room, after-birth, Created, after-byte, Printed}
 use Rattle.machine.specs.declared.state.Tally.{Tally}
 use Rattle.machine.specs.declared.state.Outcome.{Outcome}
@@ -25,7 +27,6 @@ use Rattle.runner.specs.Trees.{At, slack, Scene}
 use Rattle.runner.specs.Waiting.{Run, Then, Binds, FrameAt, Later, Waits, Stack}
 use Rattle.runner.specs.declared.state.Spot.{Spot}
 use Rattle.runner.specs.declared.state.Mode.{Mode}
-use Rattle.runner.specs.declared.state.Ending.{Ending}
 use Rattle.runner.specs.declared.state.Next.{Next}
 
 -- the memories and the tally of a run with so many frames: each frame's node has used a unit, which pays for a birth
@@ -38,10 +39,25 @@ pub record Fair (q : Run) (w o : List ℕ) (s : Tally) (h : ℕ) : Type 0 where
   pub wide : length o ≡ length (q .out)
   pub rest : (k : ℕ) → s .printed ≤ k → getD o k 0 ≡ getD (q .out) k 0
 
--- how a run ends
+-- how a run ends: with its value, or by a stop at a token
+pub data Ending : Type 0 where
+  complete : Ending
+  stopped : Stop → ℕ → Ending
+
 abbrev pub ended : Ending → Value → M.State → M.Outcome
-ended Ending.«Value» v σ = value (meant v) σ
-ended (Ending.Stop y i) v σ = stop (stop-meant y) i σ
+ended Ending.complete v σ = value (meant v) σ
+ended (Ending.stopped y i) v σ = stop (stop-meant y) i σ
+
+-- the mode in which it is over so, and how it ends where it is over
+abbrev pub ending-mode : Ending → Mode
+ending-mode Ending.complete = Mode.Over
+ending-mode (Ending.stopped y i) = Mode.Halt y i
+
+abbrev pub ending-of : Mode → Ending
+ending-of Mode.Begin = Ending.complete
+ending-of Mode.Give = Ending.complete
+ending-of Mode.Over = Ending.complete
+ending-of (Mode.Halt y i) = Ending.stopped y i
 
 module _ (q : Run) (t w o : List ℕ) where
   -- a node is to begin
@@ -55,7 +71,7 @@ module _ (q : Run) (t w o : List ℕ) where
     pub κ : Then
     pub deep : d + p .height ≡ ACTIVE + 1
     pub high : 1 ≤ p .height
-    pub at : At (q .ts) t node e
+    pub at : At (q .ts) t (q .defs) L node e
     pub sized : p .size ≡ length L
     pub binds : Binds (q .ts) w (p .base) L env
     pub room : p .base + length L + WAITING * d ≤ WAITING * ACTIVE + slack e
@@ -73,7 +89,7 @@ module _ (q : Run) (t w o : List ℕ) where
     pub κ : Then
     pub deep : suc d + p .height ≡ ACTIVE + 1
     pub high : 1 ≤ p .height
-    pub at : At (q .ts) t node e
+    pub at : At (q .ts) t (q .defs) L node e
     pub sized : p .size ≡ length L
     pub binds : Binds (q .ts) w (p .base) L env
     pub room : p .base + length L + WAITING * suc d ≤ WAITING * ACTIVE + slack e
@@ -122,7 +138,8 @@ module _ (q : Run) (t w o : List ℕ) where
   abbrev pub GoodBy : Mode → Next → Type 0
   GoodBy Mode.Begin r = Begins (r .node) (r .spot) (r .tally)
   GoodBy Mode.Give r = Gives (r .value) (r .spot) (r .tally)
-  GoodBy Mode.Over r = Ends (r .ending) (r .value) (r .tally)
+  GoodBy Mode.Over r = Ends Ending.complete (r .value) (r .tally)
+  GoodBy (Mode.Halt y i) r = Ends (Ending.stopped y i) (r .value) (r .tally)
 
   abbrev pub Good : Next → Type 0
   Good r = GoodBy (r .mode) r
@@ -138,17 +155,17 @@ abbrev pub above : ℕ → ℕ → Spot → Spot
 above base size p = record { base = base; size = size; height = p .height + 1 }
 
 abbrev pub begun : ℕ → Value → Spot → Tally → Next
-begun node v p s = record { mode = Mode.Begin; node = node; value = v; spot = p; tally = s; ending = Ending.«Value» }
+begun node v p s = record { mode = Mode.Begin; node = node; value = v; spot = p; tally = s }
 
 abbrev pub given : Value → Spot → Tally → Next
-given v p s = record { mode = Mode.Give; node = 0; value = v; spot = p; tally = s; ending = Ending.«Value» }
+given v p s = record { mode = Mode.Give; node = 0; value = v; spot = p; tally = s }
 
 abbrev pub over : Ending → Value → Spot → Tally → Next
-over e v p s = record { mode = Mode.Over; node = 0; value = v; spot = p; tally = s; ending = e }
+over e v p s = record { mode = ending-mode e; node = 0; value = v; spot = p; tally = s }
 
 abbrev pub onward : Outcome → ℕ → Value → Spot → Tally → Next
 onward (Outcome.Gives x) i v p s = given x p s
-onward (Outcome.Halts y) i v p s = over (Ending.Stop y i) v p s
+onward (Outcome.Halts y) i v p s = over (Ending.stopped y i) v p s
 
 -- ---- what the functions ask and promise
 
@@ -157,6 +174,7 @@ abbrev pub weight-by : Mode → Next → ℕ
 weight-by Mode.Begin r = 3 * r .tally .units + r .spot .height + 1
 weight-by Mode.Give r = 3 * r .tally .units + r .spot .height + 2
 weight-by Mode.Over r = 0
+weight-by (Mode.Halt y i) r = 0
 
 abbrev pub weight : Next → ℕ
 weight r = weight-by (r .mode) r
@@ -165,6 +183,7 @@ abbrev pub running-by : Mode → Bool
 running-by Mode.Begin = true
 running-by Mode.Give = true
 running-by Mode.Over = false
+running-by (Mode.Halt y i) = false
 
 abbrev pub running : Next → Bool
 running r = running-by (r .mode)
@@ -174,13 +193,6 @@ pub record Some (Before : Run → List ℕ → Type 0) : Type 0 where
   pub q : Run
   pub o : List ℕ
   pub holds : Before q o
-
--- the runs of so many functions
-abbrev pub Of : ℕ → (Run → List ℕ → Type 0) → Run → List ℕ → Type 0
-Of defs Before q o = (q .defs ≡ defs) × Before q o
-
-abbrev pub OfAll : ℕ → (Run → Type 0) → Run → Type 0
-OfAll defs Before q = (q .defs ≡ defs) × Before q
 
 -- every run that stood so stands where the answer says, and nearer to its end; the output stays
 pub record Goes (Before : Run → List ℕ → Type 0) (t w′ : List ℕ) (m : ℕ) (r : Next) : Type 0 where
@@ -212,51 +224,40 @@ pub record Creating (i : ℕ) (v : Value) (w w′ : List ℕ) (p : Spot) (s : Ta
   pub created : Created (meant v) w w′ s outcome
   pub is : r ≡ onward outcome i v p (after-birth outcome s)
 
--- the name of the call at a row, and those of the functions, can be read
-pub record Heads (t : List ℕ) (defs node : ℕ) : Type 0 where
+-- what is noted of the call at a row can be read
+pub record Heads (t : List ℕ) (node : ℕ) : Type 0 where
   pub long : TABLE ≤ length t
   pub inside : node < NODES
   pub token : row-word t node OWN < TOKENS
-  pub heads : (k : ℕ) → k < defs → Headed t k
 
--- the row of the function that it calls
-abbrev pub callee : List ℕ → ℕ → ℕ → Option ℕ
-callee t defs node = find-function t (token-value t (row-word t node OWN)) defs
+-- the row of the function that it calls, by what is noted
+abbrev pub row-noted : ℕ → Option ℕ
+row-noted n = cond (eqb n NOBODY) none (some n)
 
--- the parameters of the function at a row are the names of the n slots from slot `base` on, which hold what they held
-pub record Keyed (t w w′ : List ℕ) (row base n : ℕ) : Type 0 where
-  pub long : length w′ ≡ length w
-  pub other : (k : ℕ) → (3 * base ≤ k → k < 3 * (base + n) → ⊥) → getD w′ k 0 ≡ getD w k 0
-  pub keys : (i : ℕ) → i < n → key-at w′ 0 (base + i) ≡ token-value t (row-word t (row + 1 + i) OWN)
-  pub values : (i : ℕ) → i < n → value-at w′ 0 (base + i) ≡ value-at w 0 (base + i)
+abbrev pub callee : List ℕ → ℕ → Option ℕ
+callee t node = row-noted (noted t (row-word t node OWN))
 
--- a function whose parameters are asked for
-pub record Callable (t : List ℕ) (row n : ℕ) : Type 0 where
+-- a function whose row can be read
+pub record Callable (t : List ℕ) (row : ℕ) : Type 0 where
   pub long : TABLE ≤ length t
   pub inside : row < NODES
-  pub arity : row-word t row ARITY ≡ n
-  pub few : n ≤ PARAMETERS
-  pub last : row + n < NODES
-  pub names : (i : ℕ) → i < n → row-word t (row + 1 + i) OWN < TOKENS
-  pub small : (i : ℕ) → i < n → token-value t (row-word t (row + 1 + i) OWN) ≤ TOKENS
 
 -- the body of the function at a row begins
 pub record Enters (t w w′ : List ℕ) (node row : ℕ) (v : Value) (p : Spot) (s : Tally) (r : Next) : Type 0 where
-  pub keyed : Keyed t (put-frame w (p .height) node LAST (p .base) (p .size) 0) w′ row (p .base + p .size)
-      (row-word t row ARITY)
+  pub laid : w′ ≡ put-frame w (p .height) node LAST (p .base) (p .size) 0
   pub is : r ≡ begun (row-word t row BODY) v (above (p .base + p .size) (row-word t row ARITY) p) s
 
 -- a part of a turn of the loop goes on, or leaves alone what it is not for
-pub record Turns (defs : ℕ) (t w o w′ o′ : List ℕ) (n r : Next) (mode : Mode) : Type 0 where
-  pub right : (q : Run) → q .defs ≡ defs → Good q t w o n → Good q t w′ o′ r
+pub record Turns (t w o w′ o′ : List ℕ) (n r : Next) (mode : Mode) : Type 0 where
+  pub right : (q : Run) → Good q t w o n → Good q t w′ o′ r
   pub nearer : n .mode ≡ mode → weight r < weight n
   pub still : (n .mode ≡ mode → ⊥) → r ≡ n
 
-pub record Steps (defs : ℕ) (t w o w′ o′ : List ℕ) (n r : Next) : Type 0 where
-  pub right : (q : Run) → q .defs ≡ defs → Good q t w o n → Good q t w′ o′ r
+pub record Steps (t w o w′ o′ : List ℕ) (n r : Next) : Type 0 where
+  pub right : (q : Run) → Good q t w o n → Good q t w′ o′ r
   pub less : running n ≡ true → weight r < weight n
 
 -- the loop is over, and stands where it should
-pub record Ran (defs : ℕ) (t w o w′ o′ : List ℕ) (n r : Next) : Type 0 where
+pub record Ran (t w o w′ o′ : List ℕ) (n r : Next) : Type 0 where
   pub over : running r ≡ false
-  pub right : (q : Run) → q .defs ≡ defs → Good q t w o n → Good q t w′ o′ r
+  pub right : (q : Run) → Good q t w o n → Good q t w′ o′ r

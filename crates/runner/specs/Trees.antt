@@ -1,7 +1,7 @@
--- Which tree a row of the table is: all that the runner reads in rows.
+-- Which tree a row of the table is, and what is noted of its names and calls: all that the runner reads in rows.
 use mathlib.Core.Bool.{Bool}
 use mathlib.Core.Path.{_≡_}
-use mathlib.Core.List.{List, [], _∷_}
+use mathlib.Core.List.{List, _∷_}
 use Prim.Native.Nat.{ℕ, zero, suc, _+_, _≤_, _<_}
 use lib.ListN.{length}
 use Rattle.language.specs.Sizes.{TOKENS, NODES, PARAMETERS, TABLE}
@@ -16,6 +16,8 @@ use Rattle.layout.specs.Rows.{CALL, literal-kind, unary-kind, binary-kind, rang
 use Rattle.layout.specs.Functions.{function-name, Headed}
 use Rattle.layout.specs.Decode.{ParamsAt}
 use Rattle.layout.specs.Slots.{HELD}
+use Rattle.layout.specs.Notes.{noted}
+use Rattle.layout.specs.Resolved.{slot-of, callee-row, parameters-in, counting}
 use Rattle.machine.specs.Rows.{literal-of, LiteralRow}
 
 pub record Head (t : List ℕ) (row kind i : ℕ) : Type 0 where
@@ -52,47 +54,50 @@ slack (branch i c e f) = 0
 slack (loop i c e) = 0
 slack (counted i x b es e) = 0
 
--- the keys of the first slots of a function's frame, the newest first, where n of its parameters are bound
-unfoldable pub parameters-in : List ℕ → ℕ → ℕ → List ℕ
-parameters-in t row zero = []
-parameters-in t row (suc n) = token-value t (row-word t (row + 1 + n) OWN) ∷ parameters-in t row n
-
-module _ (ts : List Token) (t : List ℕ) where
+-- The first `defs` functions can be called.
+module _ (ts : List Token) (t : List ℕ) (defs : ℕ) where
   mutual
-    -- the tree at a row
-    pub data At : ℕ → Exp → Type 0 where
-      at-name : {row i : ℕ} {x : Name} → Head t row NAME i → NameAt ts t i x → At row (name i x)
-      at-literal : {row i : ℕ} {l : Literal}
-          → Head t row (literal-kind l) i → literal-of t row ≡ l → LiteralRow t row → At row (literal i l)
-      at-unary : {row i : ℕ} {o : Unary} {e : Exp}
-          → Head t row (unary-kind o) i → At (row-word t row FIRST) e → At row (unary i o e)
-      at-binary : {row i : ℕ} {o : Binary} {e f : Exp}
-          → Head t row (binary-kind o) i → At (row-word t row FIRST) e → At (row-word t row SECOND) f
-          → At row (binary i o e f)
-      at-follow : {row i : ℕ} {e f : Exp}
-          → Head t row SEMI i → At (row-word t row FIRST) e → At (row-word t row SECOND) f → At row (follow i e f)
-      at-group : {row i : ℕ} {e : Exp} → Head t row LPAR i → At (row-word t row FIRST) e → At row (group i e)
-      at-block : {row i : ℕ} {e : Exp} → Head t row LBRACE i → At (row-word t row FIRST) e → At row (block i e)
-      at-call : {row i : ℕ} {x : Name} {es : Exps}
-          → Head t row CALL i → NameAt ts t i x → count es ≤ PARAMETERS → Args (row-word t row FIRST) es
-          → At row (call i x es)
-      at-bind : {row i : ℕ} {x : Name} {e f : Exp}
-          → Head t row LET i → NameAt ts t (i + 1) x → At (row-word t row FIRST) e → At (row-word t row SECOND) f
-          → At row (bind i x e f)
-      at-branch : {row i : ℕ} {c e f : Exp}
-          → Head t row IF i → At (row-word t row FIRST) c → At (row-word t row SECOND) e → At (row-word t row THIRD) f
-          → At row (branch i c e f)
-      at-loop : {row i : ℕ} {c e : Exp}
-          → Head t row WHILE i → At (row-word t row FIRST) c → At (row-word t row SECOND) e → At row (loop i c e)
-      at-counted : {row i : ℕ} {x : Name} {b : Bool} {es : Exps} {e : Exp}
-          → Head t row (range-kind b) i → NameAt ts t (i + 1) x → count es ≤ PARAMETERS → Args (row-word t row FIRST) es
-          → At (row-word t row SECOND) e → At row (counted i x b es e)
+    -- the tree at a row, which begins where its frame has the slots L
+    pub data At : List ℕ → ℕ → Exp → Type 0 where
+      at-name : {L : List ℕ} {row i : ℕ} {x : Name}
+          → Head t row NAME i → NameAt ts t i x → noted t i ≡ slot-of (token-value t i) L → At L row (name i x)
+      at-literal : {L : List ℕ} {row i : ℕ} {l : Literal}
+          → Head t row (literal-kind l) i → literal-of t row ≡ l → LiteralRow t row → At L row (literal i l)
+      at-unary : {L : List ℕ} {row i : ℕ} {o : Unary} {e : Exp}
+          → Head t row (unary-kind o) i → At L (row-word t row FIRST) e → At L row (unary i o e)
+      at-binary : {L : List ℕ} {row i : ℕ} {o : Binary} {e f : Exp}
+          → Head t row (binary-kind o) i → At L (row-word t row FIRST) e → At (HELD ∷ L) (row-word t row SECOND) f
+          → At L row (binary i o e f)
+      at-follow : {L : List ℕ} {row i : ℕ} {e f : Exp}
+          → Head t row SEMI i → At L (row-word t row FIRST) e → At L (row-word t row SECOND) f
+          → At L row (follow i e f)
+      at-group : {L : List ℕ} {row i : ℕ} {e : Exp}
+          → Head t row LPAR i → At L (row-word t row FIRST) e → At L row (group i e)
+      at-block : {L : List ℕ} {row i : ℕ} {e : Exp}
+          → Head t row LBRACE i → At L (row-word t row FIRST) e → At L row (block i e)
+      at-call : {L : List ℕ} {row i : ℕ} {x : Name} {es : Exps}
+          → Head t row CALL i → NameAt ts t i x → count es ≤ PARAMETERS → Args L (row-word t row FIRST) es
+          → noted t i ≡ callee-row t defs (token-value t i) → At L row (call i x es)
+      at-bind : {L : List ℕ} {row i : ℕ} {x : Name} {e f : Exp}
+          → Head t row LET i → NameAt ts t (i + 1) x → At L (row-word t row FIRST) e
+          → At (token-value t (i + 1) ∷ L) (row-word t row SECOND) f → At L row (bind i x e f)
+      at-branch : {L : List ℕ} {row i : ℕ} {c e f : Exp}
+          → Head t row IF i → At L (row-word t row FIRST) c → At L (row-word t row SECOND) e
+          → At L (row-word t row THIRD) f → At L row (branch i c e f)
+      at-loop : {L : List ℕ} {row i : ℕ} {c e : Exp}
+          → Head t row WHILE i → At L (row-word t row FIRST) c → At L (row-word t row SECOND) e
+          → At L row (loop i c e)
+      at-counted : {L : List ℕ} {row i : ℕ} {x : Name} {b : Bool} {es : Exps} {e : Exp}
+          → Head t row (range-kind b) i → NameAt ts t (i + 1) x → count es ≤ PARAMETERS
+          → Args L (row-word t row FIRST) es → At (counting (token-value t (i + 1)) L) (row-word t row SECOND) e
+          → At L row (counted i x b es e)
 
     -- the arguments from a row on, or the bounds
-    pub data Args : ℕ → Exps → Type 0 where
-      args-last : {r : ℕ} → r ≡ 0 → Args r last
-      args-more : {r : ℕ} {e : Exp} {es : Exps}
-          → (r ≡ 0 → ⊥) → r < NODES → At (row-word t r EXPRESSION) e → Args (row-word t r NEXT) es → Args r (more e es)
+    pub data Args : List ℕ → ℕ → Exps → Type 0 where
+      args-last : {L : List ℕ} {r : ℕ} → r ≡ 0 → Args L r last
+      args-more : {L : List ℕ} {r : ℕ} {e : Exp} {es : Exps}
+          → (r ≡ 0 → ⊥) → r < NODES → At L (row-word t r EXPRESSION) e → Args (HELD ∷ L) (row-word t r NEXT) es
+          → Args L r (more e es)
 
   -- ---- functions
 
@@ -104,7 +109,7 @@ module _ (ts : List Token) (t : List ℕ) where
     pub last-param : r + length (f .params) < NODES
     pub params : ParamsAt ts t (r + 1) (f .params)
     pub block : slack (f .body) ≡ 1
-    pub at : At (row-word t r BODY) (f .body)
+    pub at : At (parameters-in t r (length (f .params))) (row-word t r BODY) (f .body)
 
   -- the first n functions of the table, after `putchar`
   pub data Defines : ℕ → Scope Fun → Type 0 where
@@ -114,7 +119,7 @@ module _ (ts : List Token) (t : List ℕ) where
         → Defines (suc n) (push (f .called) (defined (f .params) (f .body)) fs)
 
   -- the tokens and the functions
-  pub record Scene (defs : ℕ) (fs : Scope Fun) : Type 0 where
+  pub record Scene (fs : Scope Fun) : Type 0 where
     pub long : TABLE ≤ length t
     pub stand : Stand t (length ts) ts
     pub functions : Defines defs fs

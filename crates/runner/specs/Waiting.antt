@@ -16,10 +16,12 @@ use Rattle.language.specs.Meaning.{Fun, Env, in-range, is-zero, apply-unary, ap
 use Rattle.language.specs.Meaning.{settles, with-bounds, arguments, invoke, eval}
 use Rattle.language.proofs.Meaning.Spending.{while}
 use Rattle.language.proofs.Meaning.Turns.{for-from}
-use Rattle.layout.specs.Table.{OWN, FIRST, SECOND, THIRD, NEXT, row-word}
+use Rattle.layout.specs.Table.{FIRST, SECOND, THIRD, NEXT, token-value, row-word}
 use Rattle.layout.specs.Names.{Named}
 use Rattle.layout.specs.Rows.{CALL, unary-kind, binary-kind, range-kind}
 use Rattle.layout.specs.Slots.{TAGS, HELD, WAITING, key-at, value-at}
+use Rattle.layout.specs.Notes.{noted}
+use Rattle.layout.specs.Resolved.{callee-row, counting}
 use Rattle.layout.specs.Frames.{NODE, PHASE, BASE, CELLS-AT, frame-word, frame-size, frame-mark}
 use Rattle.machine.specs.Slots.{values-from}
 use Rattle.runner.specs.Phases.{LAST, UNARY, LEFT, RIGHT, BEFORE, INSIDE, BOUND}
@@ -42,14 +44,13 @@ Then = M.Value → M.State → M.Outcome
 
 -- ---- bindings
 
--- the slots from slot `base` on, whose keys are L, the newest first, are the bindings env
+-- the slots from slot `base` on, which L names, the newest first, are the bindings env
 pub data Binds (ts : List Token) (w : List ℕ) (base : ℕ) : List ℕ → Env → Type 0 where
   binds-none : Binds ts w base [] empty
   binds-name : {n : ℕ} {x : Name} {L : List ℕ} {env : Env} {v : M.Value}
-      → Named ts n x → key-at w 0 (base + length L) ≡ n → value-at w 0 (base + length L) ≡ v → Binds ts w base L env
+      → Named ts n x → value-at w 0 (base + length L) ≡ v → Binds ts w base L env
       → Binds ts w base (n ∷ L) (push x v env)
-  binds-held : {L : List ℕ} {env : Env} → key-at w 0 (base + length L) ≡ HELD → Binds ts w base L env
-      → Binds ts w base (HELD ∷ L) env
+  binds-held : {L : List ℕ} {env : Env} → Binds ts w base L env → Binds ts w base (HELD ∷ L) env
 
 -- ---- frames
 
@@ -92,27 +93,28 @@ passed fs d x through to by e env z v s =
     want (as-unit v) λ _. choose (in-range (z +ℤ by)) (λ _. for-from fs d x through to by e env (z +ℤ by) s)
     λ _. value nothing s
 
--- the `for` at a row
-pub record ForAt (q : Run) (t : List ℕ) (row : ℕ) : Type 0 where
+-- the `for` at a row, which begins where its frame has the slots L
+pub record ForAt (q : Run) (t : List ℕ) (row : ℕ) (L : List ℕ) : Type 0 where
   pub i : ℕ
   pub x : Name
   pub through : Bool
   pub e : Exp
   pub head : Head t row (range-kind through) i
   pub named : NameAt (q .ts) t (i + 1) x
-  pub at : At (q .ts) t (row-word t row SECOND) e
+  pub at : At (q .ts) t (q .defs) (counting (token-value t (i + 1)) L) (row-word t row SECOND) e
 
 -- what the node at a row does with the values of its arguments is a call's, or a `for`'s
-module _ (q : Run) (t : List ℕ) (d row : ℕ) (env : Env) (done : List M.Value → M.State → M.Outcome) where
+module _ (q : Run) (t : List ℕ) (d row : ℕ) (L : List ℕ) (env : Env) (done : List M.Value → M.State → M.Outcome) where
   pub record CallDoes : Type 0 where
     pub i : ℕ
     pub x : Name
     pub head : Head t row CALL i
     pub named : NameAt (q .ts) t i x
+    pub calls : noted t i ≡ callee-row t (q .defs) (token-value t i)
     pub is : (vs : List M.Value) (s : M.State) → done vs s ≡ called (q .fs) d i x vs s
 
   pub record ForDoes : Type 0 where
-    pub loop : ForAt q t row
+    pub loop : ForAt q t row L
     pub is : (vs : List M.Value) (s : M.State)
         → done vs s ≡ bounded (q .fs) d (loop .i) (loop .x) (loop .through) (loop .e) env vs s
 
@@ -123,8 +125,8 @@ module _ (q : Run) (t : List ℕ) (d row : ℕ) (env : Env) (done : List M.Value
 -- A frame of the node at a row, whose part may have d more active: κ is what comes behind the node, κ′ what comes
 -- behind the part, and u slots above its own L hold values. There were n cells and b births when it began to wait.
 module _ (q : Run) (t w : List ℕ) (d row base mark n b : ℕ) (L : List ℕ) (env : Env) (κ κ′ : Then) (u : ℕ) where
-  abbrev Tree : ℕ → Exp → Type 0
-  Tree r e = At (q .ts) t r e
+  abbrev Tree : List ℕ → ℕ → Exp → Type 0
+  Tree M r e = At (q .ts) t (q .defs) M r e
 
   -- there is room for what its parts need
   abbrev Roomy : Type 0
@@ -147,7 +149,7 @@ module _ (q : Run) (t w : List ℕ) (d row base mark n b : ℕ) (L : List ℕ) (
     pub f : Exp
     pub head : Head t row (binary-kind o) i
     pub room : Roomy
-    pub at : Tree (row-word t row SECOND) f
+    pub at : Tree (HELD ∷ L) (row-word t row SECOND) f
     pub goes : (v : M.Value) (s : M.State)
         → κ′ v s ≡ then (choose (settles o v) (λ _. value v s) λ _. then (eval (q .fs) d f env s)
         λ x s. apply-binary i o v x s) κ
@@ -166,7 +168,7 @@ module _ (q : Run) (t w : List ℕ) (d row base mark n b : ℕ) (L : List ℕ) (
     pub f : Exp
     pub inside : row < NODES
     pub room : Roomy
-    pub at : Tree (row-word t row SECOND) f
+    pub at : Tree L (row-word t row SECOND) f
     pub goes : (v : M.Value) (s : M.State) → κ′ v s ≡ then (want (as-unit v) λ _. eval (q .fs) d f env s) κ
 
   pub record WaitsInside : Type 0 where
@@ -180,10 +182,9 @@ module _ (q : Run) (t w : List ℕ) (d row base mark n b : ℕ) (L : List ℕ) (
     pub x : Name
     pub f : Exp
     pub inside : row < NODES
-    pub own : row-word t row OWN ≡ i
     pub named : NameAt (q .ts) t (i + 1) x
     pub room : Roomy
-    pub at : Tree (row-word t row SECOND) f
+    pub at : Tree (token-value t (i + 1) ∷ L) (row-word t row SECOND) f
     pub goes : (v : M.Value) (s : M.State) → κ′ v s ≡ then (eval (q .fs) d f (push x v env) s) κ
 
   pub record WaitsCondition : Type 0 where
@@ -191,8 +192,8 @@ module _ (q : Run) (t w : List ℕ) (d row base mark n b : ℕ) (L : List ℕ) (
     pub f : Exp
     pub inside : row < NODES
     pub room : Roomy
-    pub at-e : Tree (row-word t row SECOND) e
-    pub at-f : Tree (row-word t row THIRD) f
+    pub at-e : Tree L (row-word t row SECOND) e
+    pub at-f : Tree L (row-word t row THIRD) f
     pub goes : (v : M.Value) (s : M.State)
         → κ′ v s ≡ then (want (as-bool v) λ b. choose b (λ _. eval (q .fs) d e env s) λ _. eval (q .fs) d f env s) κ
 
@@ -201,8 +202,8 @@ module _ (q : Run) (t w : List ℕ) (d row base mark n b : ℕ) (L : List ℕ) (
     pub e : Exp
     pub inside : row < NODES
     pub room : Roomy
-    pub at-c : Tree (row-word t row FIRST) c
-    pub at-e : Tree (row-word t row SECOND) e
+    pub at-c : Tree L (row-word t row FIRST) c
+    pub at-e : Tree L (row-word t row SECOND) e
     pub goes : (v : M.Value) (s : M.State) → κ′ v s ≡ then (tested (q .fs) d c e env v s) κ
 
   pub record WaitsPass : Type 0 where
@@ -210,8 +211,8 @@ module _ (q : Run) (t w : List ℕ) (d row base mark n b : ℕ) (L : List ℕ) (
     pub e : Exp
     pub inside : row < NODES
     pub room : Roomy
-    pub at-c : Tree (row-word t row FIRST) c
-    pub at-e : Tree (row-word t row SECOND) e
+    pub at-c : Tree L (row-word t row FIRST) c
+    pub at-e : Tree L (row-word t row SECOND) e
     pub goes : (v : M.Value) (s : M.State) → κ′ v s ≡ then (want (as-unit v) λ _. while (q .fs) d c e env s) κ
 
   -- for argument or bound k, whose row and number are the mark, with the values vs before it and the arguments es
@@ -222,7 +223,7 @@ module _ (q : Run) (t w : List ℕ) (d row base mark n b : ℕ) (L : List ℕ) (
     pub vs : List M.Value
     pub es : Exps
     pub done : List M.Value → M.State → M.Outcome
-    pub by : Does q t d row env done
+    pub by : Does q t d row L env done
     pub marked : mark ≡ TAGS * arg + k
     pub inside : arg < NODES
     pub room : Roomy
@@ -231,13 +232,13 @@ module _ (q : Run) (t w : List ℕ) (d row base mark n b : ℕ) (L : List ℕ) (
     pub long : length vs ≡ k
     pub held : values-from w 0 (base + length L) k ≡ vs
     pub sees : Binds (q .ts) w base (helds k L) env
-    pub rest : Args (q .ts) t (row-word t arg NEXT) es
+    pub rest : Args (q .ts) t (q .defs) (helds (suc k) L) (row-word t arg NEXT) es
     pub goes : (v : M.Value) (s : M.State)
         → κ′ v s ≡ then (arguments (q .fs) (eval (q .fs) d) es env s λ ws s. done (vs ++ (v ∷ ws)) s) κ
 
   -- for the pass for z, to which the name is bound in the slot above L, with the end and the step above that
   pub record WaitsCounted : Type 0 where
-    pub loop : ForAt q t row
+    pub loop : ForAt q t row L
     pub to : ℤ
     pub by : ℤ
     pub z : ℤ

@@ -6,8 +6,8 @@ ghost use Rattle.language.specs.Sizes.{NODES, WORK};
 ghost use Rattle.language.specs.Tokens.{NAME};
 ghost use Rattle.layout.specs.Table.{KIND, row-word};
 ghost use Rattle.layout.specs.Frames.{FRAMES, SIZES, put-frame};
-ghost use Rattle.runner.specs.Phases.{waits, phase-of};
-ghost use Rattle.runner.specs.Standing.{Begins, Starts, Some, Goes, Of, charged, above, begun};
+ghost use Rattle.runner.specs.Phases.{waits, phase-of, operates};
+ghost use Rattle.runner.specs.Standing.{Begins, Starts, Some, Goes, charged, above, begun};
 use crate::calls;
 use crate::loops;
 use crate::state;
@@ -15,11 +15,12 @@ use crate::state::Next;
 use crate::state::Spot;
 use language::ACTIVE;
 use language::kinds;
+use layout::SLOTS_AT;
 use layout::frames;
+use layout::notes;
 use layout::rows;
-use layout::token;
+use layout::slots;
 use layout::values::Value;
-use machine::bindings;
 use machine::leaves;
 use machine::state::Tally;
 use numbers::Stop;
@@ -37,18 +38,9 @@ fn charge(s: Tally) -> Tally
     }
 }
 
-// `defs` functions can be called.
-pub fn begin(
-    table: &[u32],
-    work: &mut [u32],
-    defs: usize,
-    node: usize,
-    v: Value,
-    spot: Spot,
-    s: Tally,
-) -> Next
-    requires { ⌜ Some (Of defs λ q o. Begins q (now table) (now work) o node spot s) ⌝ }
-    ensures { λ r. ⌜ Goes (Of defs λ q o. Begins q (now (table .entry)) (now (work .entry)) o node spot s)
+pub fn begin(table: &[u32], work: &mut [u32], node: usize, v: Value, spot: Spot, s: Tally) -> Next
+    requires { ⌜ Some (λ q o. Begins q (now table) (now work) o node spot s) ⌝ }
+    ensures { λ r. ⌜ Goes (λ q o. Begins q (now (table .entry)) (now (work .entry)) o node spot s)
         (now (table .entry)) (now (work .exit)) (3 * s .units + spot .height + 1) r ⌝ }
 {
     if machine::state::exhausted(s) {
@@ -61,7 +53,7 @@ pub fn begin(
         let place = rows::word(table, node, rows::OWN);
         return state::halts(Stop::TooDeep, place, v, spot, t);
     }
-    start(table, work, defs, node, v, spot, t)
+    start(table, work, node, v, spot, t)
 }
 
 // Does a node of this kind wait for its first part? All do but names, literals, calls and `for`s.
@@ -111,26 +103,58 @@ fn phase_of(kind: u32) -> u32
     state::LEFT
 }
 
-// A node that has used its unit.
-fn start(
-    table: &[u32],
-    work: &mut [u32],
-    defs: usize,
-    node: usize,
-    v: Value,
-    spot: Spot,
-    s: Tally,
-) -> Next
-    requires { ⌜ Some (Of defs λ q o. Starts q (now table) (now work) o node spot s) ⌝ }
-    ensures { λ r. ⌜ Goes (Of defs λ q o. Starts q (now (table .entry)) (now (work .entry)) o node spot s)
+// Is it an operator between two operands?
+fn operates(kind: u32) -> bool
+    ensures { λ r. ⌜ r ≡ operates kind ⌝ }
+{
+    if kind < kinds::PLUS {
+        return false;
+    }
+    kind <= kinds::BECOMES
+}
+
+// A node that has used its unit. Names, numbers and operators, of which most nodes are, are told first.
+fn start(table: &[u32], work: &mut [u32], node: usize, v: Value, spot: Spot, s: Tally) -> Next
+    requires { ⌜ Some (λ q o. Starts q (now table) (now work) o node spot s) ⌝ }
+    ensures { λ r. ⌜ Goes (λ q o. Starts q (now (table .entry)) (now (work .entry)) o node spot s)
         (now (table .entry)) (now (work .exit)) (3 * s .units + spot .height + 3) r ⌝ }
 {
     let kind = rows::word(table, node, rows::KIND);
     if kind == kinds::NAME {
         return look(table, work, node, spot, s);
     }
+    if kind == kinds::NUMBER {
+        let number = leaves::literal(table, node);
+        return state::gives(number, spot, s);
+    }
+    if operates(kind) {
+        let left = rows::link(table, node, rows::FIRST);
+        return wait(work, node, state::LEFT, 0, left, v, spot, s);
+    }
+    if rows::PREFIX <= kind {
+        let operand = rows::link(table, node, rows::FIRST);
+        return wait(work, node, state::UNARY, 0, operand, v, spot, s);
+    }
+    other(table, work, node, kind, v, spot, s)
+}
+
+// A node of any kind but a name's.
+fn other(
+    table: &[u32],
+    work: &mut [u32],
+    node: usize,
+    kind: u32,
+    v: Value,
+    spot: Spot,
+    s: Tally,
+) -> Next
+    requires { ⌜ Some (λ q o. Starts q (now table) (now work) o node spot s)
+        × (kind ≡ row-word (now table) node KIND) × (kind ≡ NAME → ⊥) ⌝ }
+    ensures { λ r. ⌜ Goes (λ q o. Starts q (now (table .entry)) (now (work .entry)) o node spot s)
+        (now (table .entry)) (now (work .exit)) (3 * s .units + spot .height + 3) r ⌝ }
+{
     if kind == rows::CALL {
-        return calls::call(table, work, defs, node, v, spot, s);
+        return calls::call(table, work, node, v, spot, s);
     }
     if loops::counts(kind) {
         let bound = rows::link(table, node, rows::START);
@@ -139,13 +163,13 @@ fn start(
     if waits(kind) {
         let phase = phase_of(kind);
         let first = rows::link(table, node, rows::FIRST);
-        return wait(work, node, phase, first, v, spot, s);
+        return wait(work, node, phase, s.cells, first, v, spot, s);
     }
     let found = leaves::literal(table, node);
     state::gives(found, spot, s)
 }
 
-// What the nearest binding of the name holds.
+// What the nearest binding of the name holds, whose slot is noted of its token.
 fn look(table: &[u32], work: &[u32], node: usize, spot: Spot, s: Tally) -> Next
     requires { ⌜ Some (λ q o. Starts q (now table) (now work) o node spot s)
         × (row-word (now table) node KIND ≡ NAME) ⌝ }
@@ -153,32 +177,33 @@ fn look(table: &[u32], work: &[u32], node: usize, spot: Spot, s: Tally) -> Next
         (now (work .entry)) (3 * s .units + spot .height + 3) r ⌝ }
 {
     let own = rows::link(table, node, rows::OWN);
-    let key = token::value(table, own);
-    let v = bindings::nearest(work, spot.base, spot.size, key);
+    let slot = notes::note(table, own) as usize;
+    let v = slots::value(work, SLOTS_AT, spot.base + slot);
     state::gives(v, spot, s)
 }
 
-// A frame for the node, and its part begins. The mark is how many cells are live, for a Block to free those that come.
+// A frame for the node, and its part begins. The mark is for a Block: how many cells are live, so that it frees those
+// that come.
 fn wait(
     work: &mut [u32],
     node: usize,
     phase: u32,
+    mark: usize,
     part: usize,
     v: Value,
     spot: Spot,
     s: Tally,
 ) -> Next
     requires { ⌜ (WORK ≤ length (now work)) × (spot .height < FRAMES) × (node < NODES) × (spot .base ≤ WORK)
-        × (spot .size < SIZES) × (s .cells ≤ WORK) ⌝ }
+        × (spot .size < SIZES) × (mark ≤ WORK) ⌝ }
     ensures { λ r. ⌜ (now (work .exit)
-        ≡ put-frame (now (work .entry)) (spot .height) node phase (spot .base) (spot .size) (s .cells))
+        ≡ put-frame (now (work .entry)) (spot .height) node phase (spot .base) (spot .size) mark)
         × (r ≡ begun part v (above (spot .base) (spot .size) spot) s) ⌝ }
 {
     let base = spot.base;
     let size = spot.size;
     let height = spot.height;
-    let cells = s.cells;
-    frames::put(work, height, node, phase, base, size, cells);
+    frames::put(work, height, node, phase, base, size, mark);
     let inner = Spot {
         base,
         size,

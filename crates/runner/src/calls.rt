@@ -10,20 +10,19 @@ ghost use Rattle.layout.specs.Functions.{found};
 ghost use Rattle.layout.specs.Slots.{SLOTS, TAGS};
 ghost use Rattle.layout.specs.Frames.{FRAMES, SIZES, put-frame};
 ghost use Rattle.runner.specs.Phases.{ARGUMENT};
-ghost use Rattle.runner.specs.Standing.{Starts, Resumes, Some, Goes, Of, Any, Prints, OfAll, LastOf};
-ghost use Rattle.runner.specs.Standing.{Printing, Keyed, Callable, Enters, Heads, callee, above, begun};
+ghost use Rattle.runner.specs.Standing.{Starts, Resumes, Some, Goes, Any, Prints, LastOf};
+ghost use Rattle.runner.specs.Standing.{Printing, Callable, Enters, Heads, callee, above, begun};
 use crate::loops;
 use crate::state;
 use crate::state::Next;
 use crate::state::Spot;
-use layout::HELD;
+use layout::NOBODY;
 use layout::SLOTS_AT;
 use layout::frames;
-use layout::functions;
 use layout::functions::Found;
+use layout::notes;
 use layout::rows;
 use layout::slots;
-use layout::token;
 use layout::values::Value;
 use machine::output;
 use machine::state::Outcome;
@@ -32,33 +31,28 @@ use machine::state::Tally;
 // Which argument a frame waits for: its row and its number, in one mark.
 const NUMBERS: usize = 8;
 
-// The function that a call means; `putchar` has no row.
-fn callee(table: &[u32], defs: usize, node: usize) -> Found
-    requires { ⌜ Heads (now table) defs node ⌝ }
-    ensures { λ r. ⌜ found r ≡ callee (now (table .entry)) defs node ⌝ }
+// The function that a call means, as it is noted of its token; `putchar` has no row.
+fn callee(table: &[u32], node: usize) -> Found
+    requires { ⌜ Heads (now table) node ⌝ }
+    ensures { λ r. ⌜ found r ≡ callee (now (table .entry)) node ⌝ }
 {
     let own = rows::link(table, node, rows::OWN);
-    let name = token::value(table, own);
-    functions::find(table, defs, name)
+    let row = notes::note(table, own);
+    if row == NOBODY {
+        return Found::Nowhere;
+    }
+    Found::At(row as usize)
 }
 
-pub fn call(
-    table: &[u32],
-    work: &mut [u32],
-    defs: usize,
-    node: usize,
-    v: Value,
-    spot: Spot,
-    s: Tally,
-) -> Next
-    requires { ⌜ Some (Of defs λ q o. Starts q (now table) (now work) o node spot s)
+pub fn call(table: &[u32], work: &mut [u32], node: usize, v: Value, spot: Spot, s: Tally) -> Next
+    requires { ⌜ Some (λ q o. Starts q (now table) (now work) o node spot s)
         × (row-word (now table) node KIND ≡ CALL) ⌝ }
-    ensures { λ r. ⌜ Goes (Of defs λ q o. Starts q (now (table .entry)) (now (work .entry)) o node spot s)
+    ensures { λ r. ⌜ Goes (λ q o. Starts q (now (table .entry)) (now (work .entry)) o node spot s)
         (now (table .entry)) (now (work .exit)) (3 * s .units + spot .height + 3) r ⌝ }
 {
     let row = rows::link(table, node, rows::FIRST);
     if row == 0 {
-        let who = callee(table, defs, node);
+        let who = callee(table, node);
         return match who {
             Found::At(head) => enter(table, work, head, node, v, spot, s),
             Found::Nowhere => state::gives(v, spot, s),
@@ -99,21 +93,7 @@ pub fn pass(
     state::begins(part, v, inner, s)
 }
 
-// The arguments, which lie in the slots from `base` on, get the names of the function's parameters.
-fn bind(table: &[u32], work: &mut [u32], head: usize, base: usize, n: usize)
-    requires { ⌜ Callable (now table) head n × (base + n ≤ SLOTS) × (WORK ≤ length (now work)) ⌝ }
-    ensures { λ _. ⌜ Keyed (now (table .entry)) (now (work .entry)) (now (work .exit)) head base n ⌝ }
-{
-    let mut i = 0;
-    while i < n {
-        let own = rows::link(table, head + 1 + i, rows::OWN);
-        let key = token::value(table, own);
-        slots::name(work, SLOTS_AT, base + i, key);
-        i += 1;
-    }
-}
-
-// The body begins, and sees the arguments alone.
+// The body begins, and sees the arguments alone, which lie in the first slots of its frame.
 fn enter(
     table: &[u32],
     work: &mut [u32],
@@ -123,8 +103,7 @@ fn enter(
     spot: Spot,
     s: Tally,
 ) -> Next
-    requires { ⌜ Callable (now table) head (row-word (now table) head ARITY) × (WORK ≤ length (now work))
-        × (spot .height < FRAMES) × (node < NODES)
+    requires { ⌜ Callable (now table) head × (WORK ≤ length (now work)) × (spot .height < FRAMES) × (node < NODES)
         × (spot .base + spot .size + row-word (now table) head ARITY ≤ SLOTS) ⌝ }
     ensures { λ r. ⌜ Enters (now (table .entry)) (now (work .entry)) (now (work .exit)) node head v spot s r ⌝ }
 {
@@ -134,7 +113,6 @@ fn enter(
     let count = rows::link(table, head, rows::ARITY);
     let body = rows::link(table, head, rows::BODY);
     frames::put(work, height, node, state::LAST, base, size, 0);
-    bind(table, work, head, base + size, count);
     let inner = Spot {
         base: base + size,
         size: count,
@@ -148,14 +126,13 @@ pub fn argument(
     table: &[u32],
     work: &mut [u32],
     out: &mut [u8],
-    defs: usize,
     v: Value,
     node: usize,
     spot: Spot,
     s: Tally,
 ) -> Next
-    requires { ⌜ Any (OfAll defs λ q. Resumes q (now table) (now work) (now out) v node ARGUMENT spot s) ⌝ }
-    ensures { λ r. ⌜ Prints (OfAll defs λ q. Resumes q (now (table .entry)) (now (work .entry)) (now (out .entry)) v
+    requires { ⌜ Any (λ q. Resumes q (now table) (now work) (now out) v node ARGUMENT spot s) ⌝ }
+    ensures { λ r. ⌜ Prints (λ q. Resumes q (now (table .entry)) (now (work .entry)) (now (out .entry)) v
         node ARGUMENT spot s) (now (table .entry)) (now (work .exit)) (now (out .exit))
         (3 * s .units + spot .height + 3) r ⌝ }
 {
@@ -165,10 +142,10 @@ pub fn argument(
     let k = mark % NUMBERS;
     let next = rows::link(table, row, rows::NEXT);
     if next == 0 {
-        return last_argument(table, work, out, defs, v, node, k, spot, s);
+        return last_argument(table, work, out, v, node, k, spot, s);
     }
     let at = spot.base + spot.size + k;
-    slots::put(work, SLOTS_AT, at, HELD, v);
+    slots::put(work, SLOTS_AT, at, state::NAMELESS, v);
     pass(table, work, node, next, k + 1, v, spot, s)
 }
 
@@ -178,16 +155,15 @@ fn last_argument(
     table: &[u32],
     work: &mut [u32],
     out: &mut [u8],
-    defs: usize,
     v: Value,
     node: usize,
     k: usize,
     spot: Spot,
     s: Tally,
 ) -> Next
-    requires { ⌜ Any (OfAll defs λ q. Resumes q (now table) (now work) (now out) v node ARGUMENT spot s)
+    requires { ⌜ Any (λ q. Resumes q (now table) (now work) (now out) v node ARGUMENT spot s)
         × LastOf (now table) (now work) (spot .height) k ⌝ }
-    ensures { λ r. ⌜ Prints (OfAll defs λ q. Resumes q (now (table .entry)) (now (work .entry)) (now (out .entry)) v
+    ensures { λ r. ⌜ Prints (λ q. Resumes q (now (table .entry)) (now (work .entry)) (now (out .entry)) v
         node ARGUMENT spot s) (now (table .entry)) (now (work .exit)) (now (out .exit))
         (3 * s .units + spot .height + 3) r ⌝ }
 {
@@ -195,12 +171,12 @@ fn last_argument(
     if loops::counts(kind) {
         return loops::bounded(table, work, v, node, k, spot, s);
     }
-    let who = callee(table, defs, node);
+    let who = callee(table, node);
     match who {
         Found::Nowhere => print(table, out, v, node, spot, s),
         Found::At(head) => {
             let at = spot.base + spot.size + k;
-            slots::put(work, SLOTS_AT, at, HELD, v);
+            slots::put(work, SLOTS_AT, at, state::NAMELESS, v);
             enter(table, work, head, node, v, spot, s)
         }
     }

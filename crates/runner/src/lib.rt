@@ -11,9 +11,8 @@ mod state;
 ghost use mathlib.Core.Path.{_≡_};
 ghost use Prim.Native.Nat.{_+_, _≤_};
 ghost use Rattle.language.specs.Sizes.{ALLOWANCE};
-ghost use Rattle.runner.specs.Standing.{Good, Any, OfAll, Turns, Steps, Ran};
+ghost use Rattle.runner.specs.Standing.{Good, Any, Turns, Steps, Ran};
 ghost use Rattle.runner.specs.Contract.{Loaded, RunsTo, reported};
-use crate::state::Ending;
 use crate::state::Mode;
 use crate::state::Next;
 use crate::state::Spot;
@@ -38,54 +37,56 @@ pub enum Done {
 }
 
 // A node that is to begin does.
-fn begun(table: &[u32], work: &mut [u32], out: &mut [u8], defs: usize, n: Next) -> Next
-    requires { ⌜ Any (OfAll defs λ q. Good q (now table) (now work) (now out) n) ⌝ }
-    ensures { λ r. ⌜ Turns defs (now (table .entry)) (now (work .entry)) (now (out .entry)) (now (work .exit))
+fn begun(table: &[u32], work: &mut [u32], out: &mut [u8], n: Next) -> Next
+    requires { ⌜ Any (λ q. Good q (now table) (now work) (now out) n) ⌝ }
+    ensures { λ r. ⌜ Turns (now (table .entry)) (now (work .entry)) (now (out .entry)) (now (work .exit))
         (now (out .exit)) n r Mode.Begin ⌝ }
 {
     let mode = n.mode;
     let v = n.value;
     match mode {
-        Mode::Begin => begin::begin(table, work, defs, n.node, v, n.spot, n.tally),
+        Mode::Begin => begin::begin(table, work, n.node, v, n.spot, n.tally),
         Mode::Give => n,
         Mode::Over => n,
+        Mode::Halt(_, _) => n,
     }
 }
 
 // A value that is to be given is.
-fn given(table: &[u32], work: &mut [u32], out: &mut [u8], defs: usize, n: Next) -> Next
-    requires { ⌜ Any (OfAll defs λ q. Good q (now table) (now work) (now out) n) ⌝ }
-    ensures { λ r. ⌜ Turns defs (now (table .entry)) (now (work .entry)) (now (out .entry)) (now (work .exit))
+fn given(table: &[u32], work: &mut [u32], out: &mut [u8], n: Next) -> Next
+    requires { ⌜ Any (λ q. Good q (now table) (now work) (now out) n) ⌝ }
+    ensures { λ r. ⌜ Turns (now (table .entry)) (now (work .entry)) (now (out .entry)) (now (work .exit))
         (now (out .exit)) n r Mode.Give ⌝ }
 {
     let mode = n.mode;
     let v = n.value;
     match mode {
         Mode::Begin => n,
-        Mode::Give => resume::give(table, work, out, defs, v, n.spot, n.tally),
+        Mode::Give => resume::give(table, work, out, v, n.spot, n.tally),
         Mode::Over => n,
+        Mode::Halt(_, _) => n,
     }
 }
 
 // A turn of the loop: a node begins, and if it has its value at once, that is given.
-fn turn(table: &[u32], work: &mut [u32], out: &mut [u8], defs: usize, n: Next) -> Next
-    requires { ⌜ Any (OfAll defs λ q. Good q (now table) (now work) (now out) n) ⌝ }
-    ensures { λ r. ⌜ Steps defs (now (table .entry)) (now (work .entry)) (now (out .entry)) (now (work .exit))
+fn turn(table: &[u32], work: &mut [u32], out: &mut [u8], n: Next) -> Next
+    requires { ⌜ Any (λ q. Good q (now table) (now work) (now out) n) ⌝ }
+    ensures { λ r. ⌜ Steps (now (table .entry)) (now (work .entry)) (now (out .entry)) (now (work .exit))
         (now (out .exit)) n r ⌝ }
 {
-    let m = begun(table, work, out, defs, n);
-    given(table, work, out, defs, m)
+    let m = begun(table, work, out, n);
+    given(table, work, out, m)
 }
 
 // Turn by turn, until it is over.
-fn go(table: &[u32], work: &mut [u32], out: &mut [u8], defs: usize, first: Next) -> Next
-    requires { ⌜ Any (OfAll defs λ q. Good q (now table) (now work) (now out) first) ⌝ }
-    ensures { λ r. ⌜ Ran defs (now (table .entry)) (now (work .entry)) (now (out .entry)) (now (work .exit))
+fn go(table: &[u32], work: &mut [u32], out: &mut [u8], first: Next) -> Next
+    requires { ⌜ Any (λ q. Good q (now table) (now work) (now out) first) ⌝ }
+    ensures { λ r. ⌜ Ran (now (table .entry)) (now (work .entry)) (now (out .entry)) (now (work .exit))
         (now (out .exit)) first r ⌝ }
 {
     let mut next = first;
     while state::runs(next) {
-        next = turn(table, work, out, defs, next);
+        next = turn(table, work, out, next);
     }
     next
 }
@@ -100,14 +101,16 @@ fn report(n: Next) -> Done
         left: t.units as u32,
         printed: t.printed,
     };
-    let ending = n.ending;
-    match ending {
-        Ending::Value => Done::Value(v, spent),
-        Ending::Stop(why, place) => Done::Stop(why, place, spent),
+    let mode = n.mode;
+    match mode {
+        Mode::Begin => Done::Value(v, spent),
+        Mode::Give => Done::Value(v, spent),
+        Mode::Over => Done::Value(v, spent),
+        Mode::Halt(why, place) => Done::Stop(why, place, spent),
     }
 }
 
-// Runs the program that the table holds.
+// Runs the program that the table holds, and whose names and calls are resolved.
 pub fn run(table: &[u32], work: &mut [u32], out: &mut [u8], program: Held, allowance: u32) -> Done
     requires { ⌜ Loaded (now table) (now work) program allowance ⌝ }
     ensures { λ r. ⌜ RunsTo (now (table .entry)) (now (work .entry)) (now (out .entry)) (now (work .exit))
@@ -126,7 +129,7 @@ pub fn run(table: &[u32], work: &mut [u32], out: &mut [u8], program: Held, allow
     };
     frames::put(work, 0, 0, state::WHOLE, 0, 0, 0);
     let first = state::begins(program.root, Value::Nothing, spot, tally);
-    let last = go(table, work, out, program.functions, first);
+    let last = go(table, work, out, first);
     memory::clear(work, 0, WORK);
     report(last)
 }

@@ -3,10 +3,10 @@ ghost use mathlib.Core.Bool.{true, false};
 ghost use mathlib.Core.Path.{_≡_};
 ghost use Prim.Native.Nat.{_+_, _*_, _≤_, _<_};
 ghost use lib.ListN.{length};
-ghost use Rattle.language.specs.Sizes.{TOKENS, NODES, TABLE, WORK};
-ghost use Rattle.layout.specs.Table.{KIND, OWN, row-word, token-value};
+ghost use Rattle.language.specs.Sizes.{NODES, TABLE, WORK};
+ghost use Rattle.layout.specs.Table.{KIND, row-word};
 ghost use Rattle.layout.specs.Decode.{counts};
-ghost use Rattle.layout.specs.Slots.{SLOTS, KEYS};
+ghost use Rattle.layout.specs.Slots.{SLOTS};
 ghost use Rattle.layout.specs.Frames.{FRAMES};
 ghost use Rattle.runner.specs.Phases.{ARGUMENT, COUNTED};
 ghost use Rattle.runner.specs.Standing.{Resumes, Some, Goes, LastOf};
@@ -15,12 +15,10 @@ use crate::state;
 use crate::state::Next;
 use crate::state::Spot;
 use language::kinds;
-use layout::HELD;
 use layout::SLOTS_AT;
 use layout::frames;
 use layout::rows;
 use layout::slots;
-use layout::token;
 use layout::values::Value;
 use machine::counting;
 use machine::counting::Counter;
@@ -120,20 +118,17 @@ fn pass(
     spot: Spot,
     s: Tally,
 ) -> Next
-    requires { ⌜ (TABLE ≤ length (now table)) × (node < NODES) × (row-word (now table) node OWN + 1 < TOKENS)
-        × (token-value (now table) (row-word (now table) node OWN + 1) ≤ KEYS) × (WORK ≤ length (now work))
-        × (spot .height < FRAMES) × (spot .base + spot .size + 2 < SLOTS) ⌝ }
+    requires { ⌜ (TABLE ≤ length (now table)) × (node < NODES) × (WORK ≤ length (now work)) × (spot .height < FRAMES)
+        × (spot .base + spot .size + 2 < SLOTS) ⌝ }
     ensures { λ r. ⌜ BodyBegins (now (table .entry)) (now (work .entry)) (now (work .exit)) node z to by v spot s r ⌝ }
 {
-    let own = rows::link(table, node, rows::OWN);
-    let name = token::value(table, own + 1);
     let part = rows::link(table, node, rows::PASS);
     let base = spot.base;
     let size = spot.size;
     let height = spot.height;
-    slots::put(work, SLOTS_AT, base + size, name, z);
-    slots::put(work, SLOTS_AT, base + size + 1, HELD, to);
-    slots::put(work, SLOTS_AT, base + size + 2, HELD, by);
+    slots::put(work, SLOTS_AT, base + size, state::NAMELESS, z);
+    slots::put(work, SLOTS_AT, base + size + 1, state::NAMELESS, to);
+    slots::put(work, SLOTS_AT, base + size + 2, state::NAMELESS, by);
     frames::turn(work, height, state::COUNTED);
     let inner = Spot {
         base,

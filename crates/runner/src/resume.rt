@@ -3,24 +3,22 @@ ghost use mathlib.Core.Path.{_≡_};
 ghost use Prim.Native.Nat.{_+_, _*_, _≤_, _<_};
 ghost use lib.ListN.{length};
 ghost use Rattle.language.specs.Sizes.{ALLOWANCE, WORK};
-ghost use Rattle.layout.specs.Slots.{SLOTS, KEYS, put-slot};
+ghost use Rattle.layout.specs.Slots.{SLOTS, put-slot};
 ghost use Rattle.layout.specs.Frames.{FRAMES, put-phase};
 ghost use Rattle.layout.specs.Values.{Survives};
 ghost use Rattle.machine.specs.Outcomes.{Room};
-ghost use Rattle.runner.specs.Phases.{UNARY, LEFT, RIGHT, ARGUMENT, COUNTED, Controls};
-ghost use Rattle.runner.specs.Standing.{Gives, Resumes, Some, Goes, Any, Prints, OfAll, Creating, above, begun};
+ghost use Rattle.runner.specs.Phases.{UNARY, LEFT, RIGHT, ARGUMENT, COUNTED, NAMELESS, Controls};
+ghost use Rattle.runner.specs.Standing.{Gives, Resumes, Some, Goes, Any, Prints, Creating, above, begun};
 use crate::calls;
 use crate::loops;
 use crate::state;
 use crate::state::Next;
 use crate::state::Spot;
 use language::kinds;
-use layout::HELD;
 use layout::SLOTS_AT;
 use layout::frames;
 use layout::rows;
 use layout::slots;
-use layout::token;
 use layout::values::Value;
 use machine::cells;
 use machine::operands;
@@ -30,18 +28,9 @@ use machine::state::Tally;
 
 const NEW: u32 = rows::PREFIX + kinds::REF;
 
-// `defs` functions can be called.
-pub fn give(
-    table: &[u32],
-    work: &mut [u32],
-    out: &mut [u8],
-    defs: usize,
-    v: Value,
-    spot: Spot,
-    s: Tally,
-) -> Next
-    requires { ⌜ Any (OfAll defs λ q. Gives q (now table) (now work) (now out) v spot s) ⌝ }
-    ensures { λ r. ⌜ Prints (OfAll defs λ q. Gives q (now (table .entry)) (now (work .entry)) (now (out .entry)) v spot
+pub fn give(table: &[u32], work: &mut [u32], out: &mut [u8], v: Value, spot: Spot, s: Tally) -> Next
+    requires { ⌜ Any (λ q. Gives q (now table) (now work) (now out) v spot s) ⌝ }
+    ensures { λ r. ⌜ Prints (λ q. Gives q (now (table .entry)) (now (work .entry)) (now (out .entry)) v spot
         s) (now (table .entry)) (now (work .exit)) (now (out .exit)) (3 * s .units + spot .height + 2) r ⌝ }
 {
     let h = spot.height - 1;
@@ -55,7 +44,7 @@ pub fn give(
         height: h,
     };
     if phase == state::ARGUMENT {
-        return calls::argument(table, work, out, defs, v, node, back, s);
+        return calls::argument(table, work, out, v, node, back, s);
     }
     if phase == state::COUNTED {
         return loops::next(table, work, v, node, back, s);
@@ -117,10 +106,8 @@ fn control(
         (now (table .entry)) (now (work .exit)) (3 * s .units + spot .height + 3) r ⌝ }
 {
     if phase == state::BOUND {
-        let own = rows::link(table, node, rows::OWN);
-        let name = token::value(table, own + 1);
         let part = rows::link(table, node, rows::SECOND);
-        return hold(work, v, name, state::LAST, part, spot, s);
+        return hold(work, v, state::LAST, part, spot, s);
     }
     if phase == state::CONDITION {
         if operands::is_true(v) {
@@ -160,18 +147,17 @@ fn turn(work: &mut [u32], phase: u32, part: usize, v: Value, spot: Spot, s: Tall
     state::begins(part, v, inner, s)
 }
 
-// The value goes into the slot above those in sight, with a key, and another part begins, which sees it, too.
-fn hold(work: &mut [u32], v: Value, key: u32, phase: u32, part: usize, spot: Spot, s: Tally) -> Next
-    requires { ⌜ (WORK ≤ length (now work)) × (spot .height < FRAMES) × (spot .base + spot .size < SLOTS)
-        × (key ≤ KEYS) ⌝ }
+// The value goes into the slot above those in sight, and another part begins, which has it in sight, too.
+fn hold(work: &mut [u32], v: Value, phase: u32, part: usize, spot: Spot, s: Tally) -> Next
+    requires { ⌜ (WORK ≤ length (now work)) × (spot .height < FRAMES) × (spot .base + spot .size < SLOTS) ⌝ }
     ensures { λ r. ⌜ (now (work .exit)
-        ≡ put-phase (put-slot (now (work .entry)) 0 (spot .base + spot .size) key v) (spot .height) phase)
+        ≡ put-phase (put-slot (now (work .entry)) 0 (spot .base + spot .size) NAMELESS v) (spot .height) phase)
         × (r ≡ begun part v (above (spot .base) (spot .size + 1) spot) s) × Survives v ⌝ }
 {
     let base = spot.base;
     let size = spot.size;
     let height = spot.height;
-    slots::put(work, SLOTS_AT, base + size, key, v);
+    slots::put(work, SLOTS_AT, base + size, state::NAMELESS, v);
     frames::turn(work, height, phase);
     let inner = Spot {
         base,
@@ -192,7 +178,7 @@ fn left(table: &[u32], work: &mut [u32], v: Value, node: usize, spot: Spot, s: T
         return state::gives(v, spot, s);
     }
     let part = rows::link(table, node, rows::SECOND);
-    hold(work, v, HELD, state::RIGHT, part, spot, s)
+    hold(work, v, state::RIGHT, part, spot, s)
 }
 
 fn right(table: &[u32], work: &mut [u32], v: Value, node: usize, spot: Spot, s: Tally) -> Next

@@ -1,22 +1,18 @@
 // Where a run stands between two steps.
 ghost use mathlib.Core.Path.{_≡_};
-ghost use Rattle.runner.specs.Standing.{running, begun, given, over, onward};
+ghost use Rattle.runner.specs.Standing.{Ending, running, begun, given, over, onward};
 use layout::values::Value;
 use machine::state::Outcome;
 use machine::state::Tally;
 use numbers::Stop;
 
-// A node begins, a value goes to the frame that waits for it, or it is over.
+// A node begins, a value goes to the frame that waits for it, or it is over: with the value, or by a stop at a token.
+// Why and where it stops stand here, so that a run carries nothing of it from step to step.
 pub enum Mode {
     Begin,
     Give,
     Over,
-}
-
-// How the run ends: with the value, or by a stop at a token.
-pub enum Ending {
-    Value,
-    Stop(Stop, u32),
+    Halt(Stop, u32),
 }
 
 // The slots in sight, from slot `base` on, and how many frames wait.
@@ -33,7 +29,6 @@ pub struct Next {
     pub value: Value,
     pub spot: Spot,
     pub tally: Tally,
-    pub ending: Ending,
 }
 
 // The phases of a frame: for which part of its node it waits.
@@ -65,6 +60,9 @@ pub const WHOLE: u32 = 11;
 // A pass of a `for`.
 pub const COUNTED: u32 = 12;
 
+// The key of every slot of a frame: which slot a name means is noted, so none is sought by its key.
+pub const NAMELESS: u32 = 0;
+
 pub fn begins(node: usize, value: Value, spot: Spot, tally: Tally) -> Next
     ensures { λ r. ⌜ r ≡ begun node value spot tally ⌝ }
 {
@@ -74,7 +72,6 @@ pub fn begins(node: usize, value: Value, spot: Spot, tally: Tally) -> Next
         value,
         spot,
         tally,
-        ending: Ending::Value,
     }
 }
 
@@ -87,13 +84,12 @@ pub fn gives(value: Value, spot: Spot, tally: Tally) -> Next
         value,
         spot,
         tally,
-        ending: Ending::Value,
     }
 }
 
 // The run ends with a value.
 pub fn done(value: Value, spot: Spot, tally: Tally) -> Next
-    ensures { λ r. ⌜ r ≡ over Ending.«Value» value spot tally ⌝ }
+    ensures { λ r. ⌜ r ≡ over Ending.complete value spot tally ⌝ }
 {
     Next {
         mode: Mode::Over,
@@ -101,21 +97,19 @@ pub fn done(value: Value, spot: Spot, tally: Tally) -> Next
         value,
         spot,
         tally,
-        ending: Ending::Value,
     }
 }
 
 // The run stops.
 pub fn halts(why: Stop, place: u32, value: Value, spot: Spot, tally: Tally) -> Next
-    ensures { λ r. ⌜ r ≡ over (Ending.Stop why place) value spot tally ⌝ }
+    ensures { λ r. ⌜ r ≡ over (Ending.stopped why place) value spot tally ⌝ }
 {
     Next {
-        mode: Mode::Over,
+        mode: Mode::Halt(why, place),
         node: 0,
         value,
         spot,
         tally,
-        ending: Ending::Stop(why, place),
     }
 }
 
@@ -138,5 +132,6 @@ pub fn runs(n: Next) -> bool
         Mode::Begin => true,
         Mode::Give => true,
         Mode::Over => false,
+        Mode::Halt(_, _) => false,
     }
 }

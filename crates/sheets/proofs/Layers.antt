@@ -12,8 +12,6 @@ use Rattle.language.specs.Sizes.{TOKENS, TABLE}
 use Rattle.language.specs.Tokens.{Vocabulary, Token, place-at}
 use Rattle.language.specs.Trees.{Program}
 use Rattle.language.specs.Answers.{at, too-long, flawed, TextGives, from-text, Denied, unread, faulty, Refused, by-origin, by-tokens}
-use Rattle.language.specs.Edition.{edition, text-in, unknown}
-use Rattle.language.proofs.Answers.Editions.{text-alike, passes-in, refused-in}
 use Rattle.language.proofs.Text.Marks.{Laws}
 use Rattle.numbers.specs.Meanings.{reason-meant, refusal-meant}
 use Rattle.numbers.specs.declared.Flaw.{Flaw}
@@ -32,10 +30,7 @@ use Rattle.layout.proofs.VariablesTrees.{holds-without}
 use Rattle.layout.proofs.Wiped.{wiped-tokens, wiped-program, wiped-without-rows, wiped-without-variables}
 use Rattle.tokens.specs.Answer as Tokens
 use Rattle.tokens.proofs.OneAnswer.{split-stands}
-use Rattle.tokens.specs.Editions.{meant, Names}
 use Rattle.tokens.specs.declared.answer.Split as split
-use Rattle.tokens.specs.declared.edition.Edition.{Edition}
-use Rattle.tokens.specs.declared.edition.Known.{Known}
 use Rattle.reader.specs.Findings as Reader
 use Rattle.reader.specs.declared.Found as found
 use Rattle.checker.specs.Checked as Checker
@@ -233,26 +228,3 @@ module _ {voc : Vocabulary} (laws : Laws voc) (source w w₁ : List ℕ) (long :
   examined-long r y e =
       let x = subst (Tokens.IsSplit voc source w w₁) e y in
       record { told = by-origin (too-long (x .long)); rest = ap wiped (x .kept); long = ap length (x .kept) }
-
--- ---- in the edition that a number names
-
-module _ (number : ℕ) (source w w₁ : List ℕ) where
-  of-known : {v : Vocabulary} → edition number ≡ some v → (s : Seen) → OfSource (from-text v source) w₁ s → OfSource (text-in number source) w₁ s
-  of-known e (Seen.Passes P n) x = record {
-    tokens = x .tokens;
-    program = x .program;
-    type = x .type;
-    passes = passes-in number (text-alike source) e (x .passes);
-    numbered = x .numbered;
-    holds = x .holds;
-  }
-  of-known e (Seen.Refused y i) x = refused-in number (text-alike source) e x
-
-  pub examined-known : (k : Known) (e : Edition) (s : Seen) → Names number k → k ≡ Known.Is e → Examined (from-text (meant e) source) w w₁ s
-      → Examined (text-in number source) w w₁ s
-  examined-known k e s y z x =
-      record { told = of-known (subst (Names number) z y) s (x .told); rest = x .rest; long = x .long }
-
-pub examined-unknown : (number : ℕ) (source w : List ℕ) (k : Known) → Names number k → k ≡ Known.None
-    → Examined (text-in number source) w w (Seen.Refused Refusal.NoEdition 0)
-examined-unknown number source w k y z = record { told = by-origin (unknown (subst (Names number) z y)); rest = refl; long = refl }

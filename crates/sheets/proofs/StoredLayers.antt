@@ -8,12 +8,9 @@ use lib.ListN.{length}
 use Rattle.language.specs.Sizes.{TOKENS, TABLE}
 use Rattle.language.specs.Tokens.{Vocabulary, Token}
 use Rattle.language.specs.Answers.{at, Denied, unread, faulty, Refused, by-origin, by-tokens}
-use Rattle.language.specs.Edition.{edition, stored-in, unknown}
 use Rattle.language.specs.Numbers as Numbers
 use Rattle.language.specs.Starts.{wrong-token, wrong-end}
 use Rattle.language.specs.Stored.{from-stored}
-use Rattle.language.proofs.Answers.Editions.{passes-in, refused-in}
-use Rattle.language.proofs.Stored.Editions.{stored-alike}
 use Rattle.language.proofs.Text.Marks.{Laws}
 use Rattle.language.proofs.Types.FaultPlaces.{fault-inside}
 use Rattle.numbers.specs.Meanings.{refusal-meant}
@@ -24,9 +21,6 @@ use Rattle.layout.proofs.Wiped.{wiped-tokens}
 use Rattle.stored.specs.Answer as Stored
 use Rattle.stored.proofs.Stands.{stored-stands}
 use Rattle.stored.specs.declared.Stored as stored
-use Rattle.tokens.specs.Editions.{meant, Names}
-use Rattle.tokens.specs.declared.edition.Edition.{Edition}
-use Rattle.tokens.specs.declared.edition.Known.{Known}
 use Rattle.sheets.specs.Sheets.{wiped, Standing, OfTokens, Read, Near, lined-of, OfSource, Examined}
 use Rattle.sheets.specs.declared.Verdict.{Verdict}
 use Rattle.sheets.specs.declared.Seen.{Seen}
@@ -96,26 +90,3 @@ module _ {voc : Vocabulary} (laws : Laws voc) (input w w₁ : List ℕ) (long : 
     rest = laid-rest (x .tokens) (x .few) (x .laid);
     long = laid-long (x .tokens) (x .laid);
   }
-
--- ---- in the edition that a number names
-
-module _ (number : ℕ) (input w w₁ : List ℕ) where
-  of-stored : {v : Vocabulary} → edition number ≡ some v → (s : Seen) → OfSource (from-stored v input) w₁ s → OfSource (stored-in number input) w₁ s
-  of-stored e (Seen.Passes P n) x = record {
-    tokens = x .tokens;
-    program = x .program;
-    type = x .type;
-    passes = passes-in number (stored-alike input) e (x .passes);
-    numbered = x .numbered;
-    holds = x .holds;
-  }
-  of-stored e (Seen.Refused y i) x = refused-in number (stored-alike input) e x
-
-  pub stored-known : (k : Known) (e : Edition) (s : Seen) → Names number k → k ≡ Known.Is e → Examined (from-stored (meant e) input) w w₁ s
-      → Examined (stored-in number input) w w₁ s
-  stored-known k e s y z x =
-      record { told = of-stored (subst (Names number) z y) s (x .told); rest = x .rest; long = x .long }
-
-pub stored-unknown : (number : ℕ) (input w : List ℕ) (k : Known) → Names number k → k ≡ Known.None
-    → Examined (stored-in number input) w w (Seen.Refused Refusal.NoEdition 0)
-stored-unknown number input w k y z = record { told = by-origin (unknown (subst (Names number) z y)); rest = refl; long = refl }

@@ -1,5 +1,5 @@
--- What is asked of a book before any line, step by step: each tells the written admission, where the steps before it found
--- nothing.
+-- What is asked of a book before any line, step by step: each tells the written admission, where the steps before it
+-- found nothing.
 use mathlib.Core.List.{List}
 use mathlib.Core.Path.{_≡_}
 use Prim.Native.Nat.{ℕ, _≤_}

@@ -25,11 +25,12 @@ use Rattle.shift.specs.Meanings.{admission-meant, lent, left-by, new-sta
 use Rattle.shift.specs.After.{After, Grows}
 
 -- R14.7: a shift begins, or it is refused
-pub record Begin (edition : ℕ) (book table work : List ℕ) (allowance : ℕ) (r : Answer) (table′ work′ : List ℕ) : Type 0 where
-  pub admits : (output : ℕ) → Admits edition book (lent table work output allowance) (admission-meant (r .told))
-  pub state : r .state ≡ new-state allowance
-  pub table-left : table′ ≡ left-by (admission-meant (r .told) .told) TABLE table
-  pub work-left : work′ ≡ left-by (admission-meant (r .told) .told) WORK work
+pub record Begin (edition : ℕ) (book table work : List ℕ) (allowance : ℕ) (r : Answer) (table′ work′ : List ℕ) : Type 0
+  where
+    pub admits : (output : ℕ) → Admits edition book (lent table work output allowance) (admission-meant (r .told))
+    pub state : r .state ≡ new-state allowance
+    pub table-left : table′ ≡ left-by (admission-meant (r .told) .told) TABLE table
+    pub work-left : work′ ≡ left-by (admission-meant (r .told) .told) WORK work
 
 -- a piece: the book is asked again; where it is refused, nothing is printed and the state is as it was
 pub data Feeds (edition : ℕ) (book piece out : List ℕ) (l : Lent) (state : State) (out′ : List ℕ)
@@ -41,7 +42,8 @@ pub data Feeds (edition : ℕ) (book piece out : List ℕ) (l : Lent) (state : S
 pub record Feed (edition : ℕ) (book piece table work out : List ℕ) (state : State) (r : Answer)
     (table′ work′ out′ : List ℕ) : Type 0 where
   pub admits : Admits edition book (lent table work (length out) (state .allowance)) (admission-meant (r .told))
-  pub tells : Feeds edition book piece out (lent table work (length out) (state .allowance)) state out′ (r .told) (r .state)
+  pub tells : Feeds edition book piece out (lent table work (length out) (state .allowance)) state out′ (r .told)
+      (r .state)
   pub table-left : table′ ≡ left-by (admission-meant (r .told) .told) TABLE table
   pub work-left : work′ ≡ left-by (admission-meant (r .told) .told) WORK work
 

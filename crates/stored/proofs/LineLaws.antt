@@ -13,7 +13,7 @@ use Prim.Native.Nat.{ℕ, zero, suc, _+_, _-_, _*_, _/_, _%_, _≤_, _<_}
 use Rattle.language.proofs.Stored.Digits as Digits
 use Rattle.language.proofs.Stored.Digits.{Digits, each-digit, hex-shown, hex-long, digits-line, odd-none, stray-none, digits-unended}
 use Rattle.language.proofs.Stored.Hex.{digit-worth}
-use Rattle.language.proofs.Stored.Lines.{first-taken, taken-count, one-line}
+use Rattle.language.proofs.Stored.Lines.{first-taken, taken-count, one-first-line}
 use Rattle.language.proofs.Text.Choices.{either}
 use Rattle.language.proofs.Text.Runs.{Run}
 use Rattle.language.specs.Stored.{hex, count-line, Bytes, FirstLine, FirstCount}
@@ -125,7 +125,7 @@ pub no-count : {t : List ℕ} → ((s more : List ℕ) → FirstLine t s more �
 no-count h n rest f = h _ rest (count-first f)
 
 pub other-count : {t : List ℕ} {e : ℕ} → LineTo t 0 e → (e ≡ 4 → ⊥) → (n : ℕ) (rest : List ℕ) → FirstCount t n rest → ⊥
-other-count l h n rest f = h (omega (arith, line-digits l, ap length (one-line (l .line) (count-first f) .0)))
+other-count l h n rest f = h (omega (arith, line-digits l, ap length (one-first-line (l .line) (count-first f) .0)))
 
 two-bytes : (s : List ℕ) → length s ≡ 2 → s ≡ byte s 0 ∷ byte s 1 ∷ []
 two-bytes [] h = absurd (omega arith)

@@ -1,5 +1,5 @@
--- What is kept of the lines so far, as the numbers of the written report of what they came to (R14.6); and what the code's
--- outcomes and jobs mean.
+-- What is kept of the lines so far, as the numbers of the written report of what they came to (R14.6); and what the
+-- code's outcomes and jobs mean.
 use lib.ListN.{length, getD}
 use mathlib.Core.List.{List}
 use mathlib.Core.Option.{Option, none, some}

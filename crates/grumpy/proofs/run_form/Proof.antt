@@ -65,16 +65,16 @@ same-length-5 c = search needs
 
 returns-4 : tie.Need-returns-4
 returns-4 c =
-    let earlier = c .before .before .before .before .before .before .before in
-    let at-run-or-refuse = earlier .before in
+    let at-clear = c .before .before in
+    let at-run-or-refuse = at-clear .before .before .before .before .before .before .before .before in
     let at-examine = at-run-or-refuse .before .before .before .before .before .before in
     let at-if3 = at-examine .before .before in
     let at-if2 = at-if3 .before in
     let at-if1 = at-if2 .before in
     let x = at-run-or-refuse .run-or-refuse .ensures in
     let a = at-if1 .before .before .before .before .before .before .args in
-    run-is-answered (a .first .now) (a .second .now) (a .form) (a .edition) _ _ _ _ _ _ _ _ _ _ (at-if1 .if1 .left) (at-if2 .if2 .left)
-    (at-if3 .if3 .left) (at-examine .examine-form .ensures) x (c .before .before .clear3 .ensures)
+    run-is-answered (a .first .now) (a .second .now) (a .form) (a .edition) _ _ _ _ _ _ _ _ _ _ _ (at-if1 .if1 .left) (at-if2 .if2 .left)
+    (at-if3 .if3 .left) (at-examine .examine-form .ensures) x (at-clear .clear3 .ensures)
 
 pub run-form-spec : {M : Type 1} → statement M
 run-form-spec =

@@ -25,7 +25,7 @@ returns-2 c =
     let report-checked = c .before .before in
     let check = report-checked .before .before .before .before in
     let if1 = check .before .before in
-    checked-c _ _ _ _ _ _ (check .check .result) _ (if1 .if1 .left) (check .check .ensures) (report-checked .report-checked .ensures)
+    checked-c (check .check .result) (if1 .if1 .left) (check .check .ensures) (report-checked .report-checked .ensures)
 
 pub grumpy-check-spec : {M : Type 1} → statement M
 grumpy-check-spec =

@@ -1,7 +1,7 @@
 use borrow.Author.Needs.{needs}
 use mathlib.Core.Path.{refl}
-use Rattle.grumpy_c.specs.Stored.{check-no-report}
-use Rattle.grumpy_c.proofs.ToldStored.{stored-checked-c}
+use Rattle.grumpy_c.specs.Reports.{check-no-report}
+use Rattle.grumpy_c.proofs.Told.{checked-c}
 use Rattle.grumpy_c.proofs.grumpy_check_stored.Statement.{statement}
 use Rattle.grumpy_c.proofs.grumpy_check_stored.Tie as tie
 
@@ -25,7 +25,7 @@ returns-2 c =
     let report-checked = c .before .before in
     let check = report-checked .before .before .before .before in
     let if1 = check .before .before in
-    stored-checked-c _ _ _ _ _ _ (check .check-stored .result) _ (if1 .if1 .left) (check .check-stored .ensures) (report-checked .report-checked .ensures)
+    checked-c (check .check-stored .result) (if1 .if1 .left) (check .check-stored .ensures) (report-checked .report-checked .ensures)
 
 pub grumpy-check-stored-spec : {M : Type 1} → statement M
 grumpy-check-stored-spec =

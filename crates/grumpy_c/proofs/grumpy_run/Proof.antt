@@ -32,7 +32,7 @@ returns-2 c =
     let ran = report-ran .before .before .before .before in
     let run = ran .before .before .before .before in
     let if1 = run .before .before .before .before in
-    ran-c _ _ _ _ _ _ _ _ _ _ _ (run .run .result) _ (if1 .if1 .left) (run .run .ensures) (report-ran .report-ran .ensures)
+    ran-c (run .run .result) (if1 .if1 .left) (run .run .ensures) (report-ran .report-ran .ensures)
 
 pub grumpy-run-spec : {M : Type 1} → statement M
 grumpy-run-spec =

@@ -1,7 +1,7 @@
 use borrow.Author.Needs.{needs}
 use mathlib.Core.Path.{refl}
-use Rattle.grumpy_c.specs.Stored.{run-no-report}
-use Rattle.grumpy_c.proofs.ToldStored.{stored-ran-c}
+use Rattle.grumpy_c.specs.Reports.{run-no-report}
+use Rattle.grumpy_c.proofs.Told.{ran-c}
 use Rattle.grumpy_c.proofs.grumpy_run_stored.Statement.{statement}
 use Rattle.grumpy_c.proofs.grumpy_run_stored.Tie as tie
 
@@ -32,7 +32,7 @@ returns-2 c =
     let ran = report-ran .before .before .before .before in
     let run = ran .before .before .before .before in
     let if1 = run .before .before .before .before in
-    stored-ran-c _ _ _ _ _ _ _ _ _ _ _ (run .run-stored .result) _ (if1 .if1 .left) (run .run-stored .ensures) (report-ran .report-ran .ensures)
+    ran-c (run .run-stored .result) (if1 .if1 .left) (run .run-stored .ensures) (report-ran .report-ran .ensures)
 
 pub grumpy-run-stored-spec : {M : Type 1} → statement M
 grumpy-run-stored-spec =

@@ -1,12 +1,12 @@
 use borrow.Author.Needs.{needs}
 use mathlib.Core.Path.{refl}
-use Rattle.grumpy_c.specs.Stored.{store-no-report}
-use Rattle.grumpy_c.proofs.ToldStored.{stored-c}
+use Rattle.grumpy_c.specs.Reports.{write-no-report}
+use Rattle.grumpy_c.proofs.Told.{wrote-c}
 use Rattle.grumpy_c.proofs.grumpy_store.Statement.{statement}
 use Rattle.grumpy_c.proofs.grumpy_store.Tie as tie
 
 returns : tie.Need-returns
-returns c = store-no-report (c .if1 .taken) refl refl refl refl
+returns c = write-no-report (c .if1 .taken) refl refl refl refl
 
 store-requires : tie.Need-store-requires
 store-requires c κs = search needs
@@ -28,7 +28,7 @@ returns-2 c =
     let report-wrote = c .before .before in
     let store = report-wrote .before .before .before .before .before .before in
     let if1 = store .before .before .before in
-    stored-c _ _ _ _ _ _ _ _ (store .store .result) _ (if1 .if1 .left) (store .store .ensures) (report-wrote .report-wrote .ensures)
+    wrote-c _ (store .store .result) (if1 .if1 .left) (store .store .ensures) (report-wrote .report-wrote .ensures)
 
 pub grumpy-store-spec : {M : Type 1} → statement M
 grumpy-store-spec =

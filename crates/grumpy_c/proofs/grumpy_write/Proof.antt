@@ -28,7 +28,7 @@ returns-2 c =
     let report-wrote = c .before .before in
     let write = report-wrote .before .before .before .before .before .before in
     let if1 = write .before .before .before in
-    wrote-c _ _ _ _ _ _ _ _ (write .write .result) _ (if1 .if1 .left) (write .write .ensures) (report-wrote .report-wrote .ensures)
+    wrote-c _ (write .write .result) (if1 .if1 .left) (write .write .ensures) (report-wrote .report-wrote .ensures)
 
 pub grumpy-write-spec : {M : Type 1} → statement M
 grumpy-write-spec =

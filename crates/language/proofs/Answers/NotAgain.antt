@@ -14,8 +14,9 @@ use Rattle.language.specs.State as State
 use Rattle.language.specs.Numbers.{Refusal, short-memory, large-allowance, no-edition, long-source, text, no-reading, types, long-text}
 use Rattle.language.specs.Numbers.{not-hexadecimal, wrong-count, not-one-token}
 use Rattle.language.specs.Numbers.{endless-node, many-units}
-use Rattle.language.specs.Numbers.{Told, passed, refused, stopped, number, flaw-number, reason-number, stop-number}
+use Rattle.language.specs.Numbers.{Told, passed, refused, stopped, number, flaw-number, reason-number, stop-number, refusal-number}
 use Rattle.language.specs.Answers.{Origin}
+use Rattle.language.specs.Shift.{ShiftRefusal, sheet, no-book, many-lines, shift-number}
 use Rattle.language.proofs.Grammar.FewNodes.{never-too-large}
 use Rattle.language.proofs.Answers.Origins.{LawfulUnder}
 
@@ -59,23 +60,32 @@ stop-not State.Stop.not-a-byte = omega arith
 stop-not State.Stop.output-full = omega arith
 stop-not State.Stop.zero-step = omega arith
 
+refusal-not : (r : Refusal) → refusal-number r ≡ GONE → ⊥
+refusal-not short-memory e = omega arith
+refusal-not large-allowance e = omega arith
+refusal-not no-edition e = omega arith
+refusal-not long-source e = omega arith
+refusal-not (text f) e = omega (arith, flaw-not f)
+refusal-not no-reading e = omega arith
+refusal-not (types r) e = omega (arith, reason-not r)
+refusal-not long-text e = omega arith
+refusal-not not-hexadecimal e = omega arith
+refusal-not wrong-count e = omega arith
+refusal-not not-one-token e = omega arith
+refusal-not endless-node e = omega arith
+refusal-not many-units e = omega arith
+
 -- no answer tells it
 pub not-again : (a : Told) → number a ≡ GONE → ⊥
 not-again passed e = omega arith
-not-again (refused short-memory) e = omega arith
-not-again (refused large-allowance) e = omega arith
-not-again (refused no-edition) e = omega arith
-not-again (refused long-source) e = omega arith
-not-again (refused (text f)) e = omega (arith, flaw-not f)
-not-again (refused no-reading) e = omega arith
-not-again (refused (types r)) e = omega (arith, reason-not r)
-not-again (refused long-text) e = omega arith
-not-again (refused not-hexadecimal) e = omega arith
-not-again (refused wrong-count) e = omega arith
-not-again (refused not-one-token) e = omega arith
-not-again (refused endless-node) e = omega arith
-not-again (refused many-units) e = omega arith
+not-again (refused r) e = refusal-not r e
 not-again (stopped s) e = omega (arith, stop-not s)
+
+-- nor does a shift
+pub shift-not-again : (r : ShiftRefusal) → shift-number r ≡ GONE → ⊥
+shift-not-again (sheet r) e = refusal-not r e
+shift-not-again no-book e = omega arith
+shift-not-again many-lines e = omega arith
 
 -- and none needs it
 pub never-needed : {σ : Sizes} {P : Type 0} {o : Origin P} → σ .tokens ≤ σ .nodes → LawfulUnder σ o → (ts : List Token) → o .gives ts

@@ -148,6 +148,11 @@ module _ (ts : List Token) where
   span (rising-end h) = h
   span (rising-next h v r) = omega (arith, span r)
 
+  -- there are no more of them than tokens from i up to j
+  pub few : {i j : ℕ} {os : List Own} → Rising i os j → length os + i ≤ j
+  few (rising-end h) = omega arith
+  few (rising-next h v r) = omega (arith, few r)
+
   each : {i j : ℕ} {os : List Own} → Rising i os j → All (λ o. (o .at < j) × (o .worth ≤ value-at ts (o .at))) os
   each (rising-end h) = all-none
   each {j = j} (rising-next {o = o} h v r) = let l : o .at < j = omega (arith, span r) in all-more (l, v) (each r)

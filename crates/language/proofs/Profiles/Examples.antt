@@ -117,9 +117,9 @@ by-computation [] h = tt
 by-computation (e ∷ es) h =
     ((worked e, first h, said-right (text-in-lawful (e .edition) (e .source)) TABLE (omega arith)), by-computation es (later h))
 
-pub all-answered : All examples
+pub all-profiled : All examples
 unfolding worked-out
-all-answered = by-computation examples refl
+all-profiled = by-computation examples refl
 
 pub tripling-answered : All tripling
 unfolding worked-out

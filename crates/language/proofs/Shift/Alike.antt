@@ -106,7 +106,8 @@ module _ {n : ℕ} {t u : List ℕ} (a : Alike n t u) where
       subst (λ (s : Spelling). Form voc u p q (token NUMBER (number-from 10 0 s))) (sym (a .slices p q h)) (number (within-too h w) (each-too is-digit h e))
   form-too {voc} p q c h (based {base = base} s w e) =
       subst (λ (r : Spelling). Form voc u p q (token NUMBER (number-from base 0 r))) (sym (a .slices (p + 2) q h))
-      (based {base = base} (ap (spelled (voc .bases)) (sym (a .slices p (p + 2) (omega (arith, w .some)))) ∙ s) (within-too h w) (each-too (is-digit-of base) h e))
+      (based {base = base} (ap (spelled (voc .bases)) (sym (a .slices p (p + 2) (omega (arith, w .some)))) ∙ s) (within-too h w)
+      (each-too (is-digit-of base) h e))
   form-too {voc} p q c h (float {m = m} o w e d l r g) =
       float {m = m} (rw (a .bytes (m + 1) (omega arith)) at o) (within-too (omega arith) w) (each-too is-digit (omega arith) e)
       (sym (a .bytes m (omega arith)) ∙ d) l (omega (arith, a .longer)) (each-too is-digit h g)

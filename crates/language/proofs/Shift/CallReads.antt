@@ -10,9 +10,11 @@ use Rattle.language.specs.Tokens.{Token, past, At, kind-at, value-at, sp
 use Rattle.language.specs.Trees.{Exp, name, literal, whole, unary, binary, follow, group, block, call, bind, branch, loop, counted, last, more}
 use Rattle.language.specs.Trees.{Literal, Program}
 use Rattle.language.specs.Grammar.{program, seq, tail, item, assign, atom, tier, Tier, or, and, sum, prod, Reads, Reading}
-use Rattle.language.specs.Grammar.{program-seq, program-def, seq-tail, seq-item, seq-more, tail-let, tail-if, let-in, item-if, item-while, item-for, for-is}
+use Rattle.language.specs.Grammar.{program-seq, program-def, seq-tail, seq-item, seq-more, tail-let}
+use Rattle.language.specs.Grammar.{tail-if, let-in, item-if, item-while, item-for, for-is}
 use Rattle.language.specs.Grammar.{item-assign, assign-one, assign-to, chain-one, chain-more, cmp-one, cmp-two, un-prefix, un-atom}
-use Rattle.language.specs.Grammar.{atom-name, atom-call, atom-number, atom-float, atom-constant, atom-group, atom-block, actuals-some, args-one, args-more}
+use Rattle.language.specs.Grammar.{atom-name, atom-call, atom-number, atom-float, atom-constant}
+use Rattle.language.specs.Grammar.{atom-group, atom-block, actuals-some, args-one, args-more}
 use Rattle.language.proofs.Grammar.FirstTokens.{grows}
 use Rattle.language.proofs.Grammar.SameTokens.{Same, reads-same}
 

@@ -121,7 +121,8 @@ module _ {ed : ℕ} {book : List ℕ} {l : Lent} where
 
   -- a line that ends
   line-more : (s : Sofar) (b : ℕ) (t : List ℕ) (x : Outcome) (printed : List ℕ) (e : Sofar) → length (s .outcomes) < LINES → is-in-line b ≡ false → Open s
-      → Comes ed book l (ended-line (s .part)) x printed → Tells ed book l (with-outcome s x printed) (lines t) e → Tells ed book l s (lines (s .part ++ (b ∷ t))) e
+      → Comes ed book l (ended-line (s .part)) x printed → Tells ed book l (with-outcome s x printed) (lines t) e
+      → Tells ed book l s (lines (s .part ++ (b ∷ t))) e
   line-more s b t x printed e n i o c h =
       let k : LINES - length (s .outcomes) ≡ suc (LINES - length (s .outcomes ++ (x ∷ []))) = omega (arith, length-append (s .outcomes) (x ∷ [])) in
       let z : length (s .outcomes ++ (x ∷ [])) + length (lines t) ≡ length (s .outcomes) + suc (length (lines t)) =

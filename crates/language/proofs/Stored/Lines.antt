@@ -14,13 +14,13 @@ pub first-taken : {t s r : List ℕ} → FirstLine t s r → take-line t ≡ tak
 first-taken {t} {s} {r} f = ap take-line (f .begins) ∙ line-taken s r (f .bytes .each)
 
 -- there is one first line
-pub one-line : {t s r u w : List ℕ} → FirstLine t s r → FirstLine t u w → (s ≡ u) × (r ≡ w)
-one-line a b = let e = sym (first-taken a) ∙ first-taken b in (cc, cc)
+pub one-first-line : {t s r u w : List ℕ} → FirstLine t s r → FirstLine t u w → (s ≡ u) × (r ≡ w)
+one-first-line a b = let e = sym (first-taken a) ∙ first-taken b in (cc, cc)
 
 -- two spellings are one exactly where their lines are
 pub one-spelling : {s u : List ℕ} → Bytes s → Bytes u → line s ≡ line u → s ≡ u
 one-spelling {s} {u} a b e =
-    one-line record { begins = sym (append-nil (line s)); bytes = a } record { begins = e ∙ sym (append-nil (line u)); bytes = b } .0
+    one-first-line record { begins = sym (append-nil (line s)); bytes = a } record { begins = e ∙ sym (append-nil (line u)); bytes = b } .0
 
 -- what holds a byte is a line, if it is taken
 pub taken-first : (t : List ℕ) (b : ℕ) (s r : List ℕ) → take-line t ≡ taken (b ∷ s) r → FirstLine t (b ∷ s) r

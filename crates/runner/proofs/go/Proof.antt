@@ -8,15 +8,15 @@ use Rattle.runner.proofs.go.Statement.{statement}
 use Rattle.runner.proofs.go.Tie as tie
 
 abbrev Inv-loop : tie.InvT-loop
-Inv-loop table work₀ out₀ defs next₀ work out next =
+Inv-loop table work₀ out₀ next₀ work out next =
     (length work ≡ length work₀) × (length out ≡ length out₀)
-    × ((q : Run) → q .defs ≡ defs → Good q table work₀ out₀ next₀ → Good q table work out next)
+    × ((q : Run) → Good q table work₀ out₀ next₀ → Good q table work out next)
 
 abbrev μ-loop : tie.MeasureT-loop
-μ-loop table work₀ out₀ defs next₀ work out next = weight next
+μ-loop table work₀ out₀ next₀ work out next = weight next
 
 loop-holds : tie.Need-loop-holds Inv-loop μ-loop
-loop-holds c = (refl, refl, λ q d g. g)
+loop-holds c = (refl, refl, λ q g. g)
 
 runs-requires : tie.Need-runs-requires Inv-loop μ-loop
 runs-requires c κs = search needs
@@ -25,7 +25,7 @@ turn-requires : tie.Need-turn-requires Inv-loop μ-loop
 turn-requires c κs =
     let at-loop = c .before .before .before .before in
     let start = at-loop .before .before .before .before in
-    record { q = start .pre .q; holds = (start .pre .holds .0, at-loop .loop .inv .2 (start .pre .q) (start .pre .holds .0) (start .pre .holds .1)) }
+    record { q = start .pre .q; holds = at-loop .loop .inv .2 (start .pre .q) (start .pre .holds) }
 
 loop-less : tie.Need-loop-less Inv-loop μ-loop
 loop-less c =
@@ -40,7 +40,7 @@ loop-again c =
     let at-loop = at-turn .before .before .before .before .before in (
       at-turn .turn .kept .1 .0 ∙ at-loop .loop .inv .0,
       at-turn .turn .kept .1 .1 .0 ∙ at-loop .loop .inv .1,
-      λ q d g. at-turn .turn .ensures .right q d (at-loop .loop .inv .2 q d g),
+      λ q g. at-turn .turn .ensures .right q (at-loop .loop .inv .2 q g),
     )
 
 same-length : tie.Need-same-length Inv-loop μ-loop

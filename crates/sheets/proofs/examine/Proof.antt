@@ -1,7 +1,10 @@
 -- `examine` goes by what the number names.
 use borrow.Author.Needs.{needs}
 use Rattle.tokens.specs.Shown.{shown}
-use Rattle.sheets.proofs.Layers.{examined-known, examined-unknown}
+use Rattle.language.specs.Tokens.{Vocabulary}
+use Rattle.language.specs.Answers.{from-text}
+use Rattle.language.proofs.Answers.Editions.{text-alike}
+use Rattle.sheets.proofs.NamedEdition.{examined-known, examined-unknown}
 use Rattle.sheets.proofs.examine.Statement.{statement}
 use Rattle.sheets.proofs.examine.Tie as tie
 
@@ -27,7 +30,8 @@ returns c =
     let at-named = at-known .before .before in
     let a = at-named .before .before .before .before .args in
     let source = shown (a .first .now) (a .second .now) (a .view) in
-    examined-known (a .edition) source _ _ (at-named .named .result) _ _ (at-named .named .ensures) (at-known .known .given .1)
+    examined-known (a .edition) (λ (v : Vocabulary). from-text v source) (text-alike source) _ _ (at-named .named .result) _ _ (at-named .named .ensures)
+    (at-known .known .given .1)
     (at-in .examine-in .ensures)
 
 returns-2 : tie.Need-returns-2
@@ -35,7 +39,7 @@ returns-2 c =
     let at-named = c .before .before in
     let a = at-named .before .before .before .before .args in
     let source = shown (a .first .now) (a .second .now) (a .view) in
-    examined-unknown (a .edition) source _ (at-named .named .result) (at-named .named .ensures) (c .enum-told .given .1)
+    examined-unknown (a .edition) (λ (v : Vocabulary). from-text v source) _ (at-named .named .result) (at-named .named .ensures) (c .enum-told .given .1)
 
 pub examine-spec : {M : Type 1} → statement M
 examine-spec =

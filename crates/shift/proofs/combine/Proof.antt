@@ -25,25 +25,49 @@ overfull-requires : tie.Need-overfull-requires
 overfull-requires c κs = search needs
 
 returns : tie.Need-returns
-returns c = first-over (c .before .before .before .before .before .before .before .before .args .first) (c .before .before .before .before .before .before .before .before .args .second) _ _ _ (c .before .before .before .before .before .before .told2 .given .1) (c .before .before .before .other2 .given .1) (c .before .if1 .taken) (c .overfull .ensures)
+returns c =
+    let at-other = c .before .before .before in
+    let at-told = at-other .before .before .before in
+    let start = at-told .before .before in
+    first-over (start .args .first) (start .args .second) _ _ _ (at-told .told2 .given .1) (at-other .other2 .given .1) (c .before .if1 .taken)
+    (c .overfull .ensures)
 
 overfull-requires-2 : tie.Need-overfull-requires-2
 overfull-requires-2 c κs = search needs
 
 returns-2 : tie.Need-returns-2
-returns-2 c = second-over (c .before .before .before .before .before .before .before .before .before .args .first) (c .before .before .before .before .before .before .before .before .before .args .second) _ _ _ (c .before .before .before .before .before .before .before .told2 .given .1) (c .before .before .before .before .other2 .given .1) (c .before .before .if1 .left) (c .before .if2 .taken) (c .overfull2 .ensures)
+returns-2 c =
+    let at-if1 = c .before .before in
+    let at-other = at-if1 .before .before in
+    let at-told = at-other .before .before .before in
+    let start = at-told .before .before in
+    second-over (start .args .first) (start .args .second) _ _ _ (at-told .told2 .given .1) (at-other .other2 .given .1) (at-if1 .if1 .left)
+    (c .before .if2 .taken) (c .overfull2 .ensures)
 
 together-requires : tie.Need-together-requires
 together-requires c κs = search needs
 
 returns-3 : tie.Need-returns-3
-returns-3 c = by-first (c .before .before .before .before .args .first) (c .before .before .before .before .args .second) _ (c .before .before .told .given .1) (c .refused .ensures)
+returns-3 c =
+    let at-told = c .before .before in
+    let start = at-told .before .before in
+    by-first (start .args .first) (start .args .second) _ (at-told .told .given .1) (c .refused .ensures)
 
 returns-4 : tie.Need-returns-4
-returns-4 c = by-second (c .before .before .before .before .before .before .before .args .first) (c .before .before .before .before .before .before .before .args .second) _ _ (c .before .before .before .before .before .told2 .given .1) (c .before .before .other .given .1) (c .refused2 .ensures)
+returns-4 c =
+    let at-other = c .before .before in
+    let at-told = at-other .before .before .before in
+    let start = at-told .before .before in
+    by-second (start .args .first) (start .args .second) _ _ (at-told .told2 .given .1) (at-other .other .given .1) (c .refused2 .ensures)
 
 returns-5 : tie.Need-returns-5
-returns-5 c = neither-over (c .before .before .before .before .before .before .before .before .before .args .first) (c .before .before .before .before .before .before .before .before .before .args .second) _ _ _ (c .before .before .before .before .before .before .before .told2 .given .1) (c .before .before .before .before .other2 .given .1) (c .before .before .if1 .left) (c .before .if2 .left) (c .together .ensures)
+returns-5 c =
+    let at-if1 = c .before .before in
+    let at-other = at-if1 .before .before in
+    let at-told = at-other .before .before .before in
+    let start = at-told .before .before in
+    neither-over (start .args .first) (start .args .second) _ _ _ (at-told .told2 .given .1) (at-other .other2 .given .1) (at-if1 .if1 .left)
+    (c .before .if2 .left) (c .together .ensures)
 
 pub combine-spec : {M : Type 1} → statement M
 combine-spec =

@@ -11,13 +11,19 @@ both-requires : tie.Need-both-requires
 both-requires c κs = sym (c .before .addable .ensures) ∙ c .if1 .taken
 
 returns : tie.Need-returns
-returns c = added (c .before .before .before .args .a) (c .before .before .before .args .b) (c .before .before .addable .ensures) (c .before .if1 .taken) (c .both .ensures)
+returns c =
+    let at-addable = c .before .before in
+    let start = at-addable .before in
+    added (start .args .a) (start .args .b) (at-addable .addable .ensures) (c .before .if1 .taken) (c .both .ensures)
 
 overfull-requires : tie.Need-overfull-requires
 overfull-requires c κs = search needs
 
 returns-2 : tie.Need-returns-2
-returns-2 c = not-added (c .before .before .before .args .a) (c .before .before .before .args .b) (c .before .before .addable .ensures) (c .before .if1 .left) (c .overfull .ensures)
+returns-2 c =
+    let at-addable = c .before .before in
+    let start = at-addable .before in
+    not-added (start .args .a) (start .args .b) (at-addable .addable .ensures) (c .before .if1 .left) (c .overfull .ensures)
 
 pub together-spec : {M : Type 1} → statement M
 together-spec =

@@ -14,17 +14,11 @@ mul-at c = search needs
 add-at : tie.Need-add-at
 add-at c = search needs
 
-tag-requires : tie.Need-tag-requires
-tag-requires c κs = search needs
-
-low-requires : tie.Need-low-requires
-low-requires c κs = search needs
-
-high-requires : tie.Need-high-requires
-high-requires c κs = search needs
+words-requires : tie.Need-words-requires
+words-requires c κs = search needs
 
 pack-requires : tie.Need-pack-requires
-pack-requires c κs = (search needs, rw (c .before .before .tag .ensures) (tag-small (c .before .before .before .before .args .v)))
+pack-requires c κs = (search needs, rw (c .words .ensures .0) (tag-small (c .before .before .args .v)))
 
 mul-work : tie.Need-mul-work
 mul-work c = search needs
@@ -56,8 +50,8 @@ same-length c = search needs
 returns : tie.Need-returns
 unfolding put-slot
 returns c =
-    let at-low = c .before .before in
-    rw (c .pack .ensures, at-low .before .tag .ensures, at-low .low .ensures .0, c .before .high .ensures) (refl, at-low .low .ensures .1)
+    let w = c .before .words .ensures in
+    rw (c .pack .ensures, w .0, w .1, w .2) (refl, w .3)
 
 pub put-spec : {M : Type 1} → statement M
 put-spec =
@@ -65,9 +59,7 @@ put-spec =
     (tie.spec
     mul-at
     add-at
-    tag-requires
-    low-requires
-    high-requires
+    words-requires
     pack-requires
     mul-work
     slice-write-work

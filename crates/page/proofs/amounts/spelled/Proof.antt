@@ -30,7 +30,10 @@ add-value : tie.Need-add-value Inv-loop μ-loop
 add-value c = omega (arith, c .before .before .before .loop .inv .small, c .before .before .before .before .before .pre, c .worth .ensures .1)
 
 returns : tie.Need-returns Inv-loop μ-loop
-returns c = counted-large (c .before .before .before .before .loop .inv) (c .before .before .before .loop-test .taken) (c .before .worth .ensures .0) (c .if1 .taken)
+returns c =
+    let at-loop-test = c .before .before .before in
+    let at-loop = at-loop-test .before in
+    counted-large (at-loop .loop .inv) (at-loop-test .loop-test .taken) (c .before .worth .ensures .0) (c .if1 .taken)
 
 add-i : tie.Need-add-i Inv-loop μ-loop
 add-i c = search needs
@@ -39,7 +42,10 @@ loop-less : tie.Need-loop-less Inv-loop μ-loop
 loop-less c = search needs
 
 loop-again : tie.Need-loop-again Inv-loop μ-loop
-loop-again c = counted-more (c .before .before .before .before .loop .inv) (c .before .before .before .loop-test .taken) (c .before .worth .ensures .0) (c .if1 .left)
+loop-again c =
+    let at-loop-test = c .before .before .before in
+    let at-loop = at-loop-test .before in
+    counted-more (at-loop .loop .inv) (at-loop-test .loop-test .taken) (c .before .worth .ensures .0) (c .if1 .left)
 
 returns-2 : tie.Need-returns-2 Inv-loop μ-loop
 returns-2 c = counted-all (c .before .loop .inv) (c .loop-test .left)

@@ -19,7 +19,9 @@ spelled-requires : tie.Need-spelled-requires
 spelled-requires c κs = omega arith
 
 returns-2 : tie.Need-returns-2
-returns-2 c = a-number (c .before .before .before .before .args .word .now) (sym (c .before .before .is-number .ensures) ∙ not-false _ (c .before .if1 .left)) (c .spelled .ensures)
+returns-2 c =
+    let start = c .before .before .before .before in
+    a-number (start .args .word .now) (sym (c .before .before .is-number .ensures) ∙ not-false _ (c .before .if1 .left)) (c .spelled .ensures)
 
 pub unsigned-spec : {M : Type 1} → statement M
 unsigned-spec =

@@ -31,7 +31,12 @@ shared-slice-read-if2-2 : tie.Need-shared-slice-read-if2-2 Inv-loop μ-loop
 shared-slice-read-if2-2 c = search needs
 
 returns-2 : tie.Need-returns-2 Inv-loop μ-loop
-returns-2 c = same-other (c .before .before .before .before .before .loop .inv) (c .before .before .before .before .loop-test .taken) (omega (arith, c .before .before .before .if1 .left, c .before .before .before .before .before .before .pre)) (c .if2 .taken)
+returns-2 c =
+    let at-if1 = c .before .before .before in
+    let at-loop-test = at-if1 .before in
+    let at-loop = at-loop-test .before in
+    let start = at-loop .before in
+    same-other (at-loop .loop .inv) (at-loop-test .loop-test .taken) (omega (arith, at-if1 .if1 .left, start .pre)) (c .if2 .taken)
 
 add-i : tie.Need-add-i Inv-loop μ-loop
 add-i c = search needs
@@ -40,7 +45,12 @@ loop-less : tie.Need-loop-less Inv-loop μ-loop
 loop-less c = search needs
 
 loop-again : tie.Need-loop-again Inv-loop μ-loop
-loop-again c = same-more (c .before .before .before .before .before .loop .inv) (c .before .before .before .before .loop-test .taken) (omega (arith, c .before .before .before .if1 .left, c .before .before .before .before .before .before .pre)) (c .if2 .left)
+loop-again c =
+    let at-if1 = c .before .before .before in
+    let at-loop-test = at-if1 .before in
+    let at-loop = at-loop-test .before in
+    let start = at-loop .before in
+    same-more (at-loop .loop .inv) (at-loop-test .loop-test .taken) (omega (arith, at-if1 .if1 .left, start .pre)) (c .if2 .left)
 
 returns-3 : tie.Need-returns-3 Inv-loop μ-loop
 returns-3 c = same-all (c .before .loop .inv) (c .loop-test .left)

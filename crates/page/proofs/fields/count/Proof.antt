@@ -19,7 +19,10 @@ up-to-requires : tie.Need-up-to-requires
 up-to-requires c κs = search needs
 
 returns : tie.Need-returns
-returns c = count-found (c .before .before .before .find .ensures) (c .before .before .before .before .before .before .args .most) (c .before .before .if1 .taken) (c .up-to .ensures)
+returns c =
+    let at-find = c .before .before .before in
+    let start = at-find .before .before .before in
+    count-found (at-find .find .ensures) (start .args .most) (c .before .before .if1 .taken) (c .up-to .ensures)
 
 returns-2 : tie.Need-returns-2
 returns-2 c = count-none (c .before .find .ensures) (c .before .before .before .before .args .most) (c .if1 .left)

@@ -20,13 +20,23 @@ is-here-requires : tie.Need-is-here-requires Inv-loop μ-loop
 is-here-requires c κs = search needs
 
 add-from : tie.Need-add-from Inv-loop μ-loop
-add-from c = record { fits = omega (arith, room (c .before .before .before .loop .inv) (c .before .before .loop-test .taken) (c .before .is-here .ensures) (c .if1 .taken), c .before .before .before .before .before .before .good) }
+add-from c =
+    let at-loop = c .before .before .before in
+    let start = at-loop .before .before .before in
+    record
+    { fits = omega (arith, room (at-loop .loop .inv) (c .before .before .loop-test .taken) (c .before .is-here .ensures) (c .if1 .taken), start .good) }
 
 line-end-requires : tie.Need-line-end-requires Inv-loop μ-loop
-line-end-requires c κs = room (c .before .before .before .loop .inv) (c .before .before .loop-test .taken) (c .before .is-here .ensures) (c .if1 .taken)
+line-end-requires c κs =
+    let at-loop = c .before .before .before in
+    room (at-loop .loop .inv) (c .before .before .loop-test .taken) (c .before .is-here .ensures) (c .if1 .taken)
 
 returns : tie.Need-returns Inv-loop μ-loop
-returns c = seek-found (c .before .before .before .before .loop .inv) (c .before .before .before .loop-test .taken) (c .before .before .is-here .ensures) (c .before .if1 .taken) _ _ refl (c .line-end .ensures)
+returns c =
+    let at-loop-test = c .before .before .before in
+    let at-loop = at-loop-test .before in
+    seek-found (at-loop .loop .inv) (at-loop-test .loop-test .taken) (c .before .before .is-here .ensures) (c .before .if1 .taken) _ _ refl
+    (c .line-end .ensures)
 
 shared-slice-read-fresh : tie.Need-shared-slice-read-fresh Inv-loop μ-loop
 shared-slice-read-fresh c = search needs
@@ -38,7 +48,10 @@ loop-less : tie.Need-loop-less Inv-loop μ-loop
 loop-less c = search needs
 
 loop-again : tie.Need-loop-again Inv-loop μ-loop
-loop-again c = seek-more (c .before .before .before .before .loop .inv) (c .before .before .before .loop-test .taken) (c .before .before .is-here .ensures) (c .before .if1 .left) refl
+loop-again c =
+    let at-loop-test = c .before .before .before in
+    let at-loop = at-loop-test .before in
+    seek-more (at-loop .loop .inv) (at-loop-test .loop-test .taken) (c .before .before .is-here .ensures) (c .before .if1 .left) refl
 
 returns-2 : tie.Need-returns-2 Inv-loop μ-loop
 returns-2 c = seek-none (c .before .loop .inv) (c .loop-test .left)

@@ -2,14 +2,14 @@
 use mathlib.Core.Path.{sym, ap, _∙_}
 use lib.Dec.{lit<}
 use Rattle.layout.specs.Functions.{found}
-use Rattle.runner.proofs.Promises.{starts-any, starts-row, starts-frame}
+use Rattle.runner.proofs.Promises.{starts-row, starts-frame}
 use Rattle.runner.proofs.Starting.{calls-heads, calls-callable, calls-fits, calls-enters, calls-nobody, calls-inside, calls-passes}
 use borrow.Author.Needs.{needs}
 use Rattle.runner.proofs.calls.call.Statement.{statement}
 use Rattle.runner.proofs.calls.call.Tie as tie
 
 link-requires : tie.Need-link-requires
-link-requires c κs = let x = starts-row (starts-any (c .before .before .pre .0)) in (x .0, x .1, lit< tt)
+link-requires c κs = let x = starts-row (c .before .before .pre .0) in (x .0, x .1, lit< tt)
 
 callee-requires : tie.Need-callee-requires
 callee-requires c κs = calls-heads (c .before .before .before .before .pre .1) (c .before .before .before .before .pre .0)
@@ -24,7 +24,7 @@ enter-requires c κs =
     let at-link = at-if1 .before in
     let start = at-link .before .before .before in
     let who = sym (ap found (c .before .before .who .given .1)) ∙ at-callee .callee .ensures in
-    let x = starts-frame (starts-any (start .pre .0)) in (
+    let x = starts-frame (start .pre .0) in (
       calls-callable (start .pre .1) (at-link .link .ensures) (at-if1 .if1 .taken) who (start .pre .0),
       x .0,
       x .1,
@@ -63,8 +63,8 @@ returns-2 c =
 pass-requires : tie.Need-pass-requires
 pass-requires c κs =
     let start = c .before .before .before .before .before in
-    let x = starts-frame (starts-any (start .pre .0)) in (
-      starts-row (starts-any (start .pre .0)) .0,
+    let x = starts-frame (start .pre .0) in (
+      starts-row (start .pre .0) .0,
       x .0,
       x .1,
       x .2,

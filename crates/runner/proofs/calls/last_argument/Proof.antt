@@ -24,13 +24,13 @@ bounded-requires c κs =
     let at-word = c .before .before .before in
     let start = at-word .before .before .before .before in
     let k = ap counts (sym (at-word .word .ensures)) ∙ sym (c .before .before .counts .ensures) ∙ c .before .if1 .taken in
-    (some-of _ (λ q x. x .1) (start .pre .0), start .pre .1, k)
+    (some-of _ (λ q x. x) (start .pre .0), start .pre .1, k)
 
 same-length : tie.Need-same-length
 same-length c = search needs
 
 returns : tie.Need-returns
-returns c = prints-still _ (λ q x. x .1) (le-refl _) (c .before .before .bounded .ensures)
+returns c = prints-still _ (λ q x. x) (le-refl _) (c .before .before .bounded .ensures)
 
 callee-requires : tie.Need-callee-requires
 callee-requires c κs =

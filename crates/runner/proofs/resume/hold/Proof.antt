@@ -16,11 +16,11 @@ put-requires c κs = search needs
 turn-requires : tie.Need-turn-requires
 turn-requires c κs = search needs
 
-add-t15 : tie.Need-add-t15
-add-t15 c = search needs
+add-t14 : tie.Need-add-t14
+add-t14 c = search needs
 
-add-t18 : tie.Need-add-t18
-add-t18 c = search needs
+add-t17 : tie.Need-add-t17
+add-t17 c = search needs
 
 begins-requires : tie.Need-begins-requires
 begins-requires c κs = search needs
@@ -45,8 +45,8 @@ hold-spec =
     add-put
     put-requires
     turn-requires
-    add-t15
-    add-t18
+    add-t14
+    add-t17
     begins-requires
     same-length
     returns)

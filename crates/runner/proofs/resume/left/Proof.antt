@@ -1,5 +1,5 @@
 -- What the borrow checker leaves of `resume::left`.
-use lib.Dec.{lit<, lit≤}
+use lib.Dec.{lit<}
 use Rattle.runner.proofs.Promises.{resumes-table, resumes-frame}
 use Rattle.runner.proofs.Resuming.{row-left, slot-left, lefts-settled, lefts-held}
 use borrow.Author.Needs.{needs}
@@ -26,7 +26,7 @@ link-requires c κs =
 hold-requires : tie.Need-hold-requires
 hold-requires c κs =
     let start = c .before .before .before .before .before .before .before in
-    let x = resumes-frame (start .pre) in (x .0, x .1, slot-left (start .pre), lit≤ tt)
+    let x = resumes-frame (start .pre) in (x .0, x .1, slot-left (start .pre))
 
 same-length : tie.Need-same-length
 same-length c = search needs

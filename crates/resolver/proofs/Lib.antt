@@ -1,0 +1,13 @@
+pub mod Spanning
+pub mod Rising
+pub mod Writing
+pub mod Staying
+pub mod Cutting
+pub mod Framing
+pub mod Nodes
+pub mod Parts
+pub mod Lists
+pub mod Calls
+pub mod Passes
+pub mod Bodies
+pub mod Programs
