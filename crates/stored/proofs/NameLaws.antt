@@ -4,7 +4,7 @@ use lib.Seq.{slice, take-length}
 use mathlib.Core.Bool.{Bool, true, false}
 use mathlib.Core.List.{List}
 use mathlib.Core.Logic.{⊎-elim}
-use mathlib.Core.Path.{_≡_, refl, sym, ap, ap₂, _∙_}
+use mathlib.Core.Path.{_≡_, refl, sym, ap, ap₂, subst, _∙_}
 use native.Mathlib.Numerals.{add-one}
 use native.Mathlib.Omega.{arith}
 use Prim.Native.Nat.{ℕ, zero, suc, _+_, _*_, _≤_, _<_}
@@ -16,8 +16,8 @@ use Rattle.language.specs.Trees.{PUTCHAR}
 use Rattle.layout.specs.Table.{token-end}
 use Rattle.layout.proofs.TokenLaws.{same-self}
 use Rattle.tokens.proofs.Compared.{same-swap, unlike}
-use Rattle.tokens.proofs.Planting.{ends-finds, ends-inside, none-before, none-alike, planted-same, planted-fork}
-use Rattle.tokens.specs.Forks.{STARTS-AT, letter-at, Finds, Ends, Forked, Planted}
+use Rattle.tokens.proofs.Planting.{ends-finds, ends-inside, none-before, none-alike, planted-first, planted-same, planted-fork}
+use Rattle.tokens.specs.Forks.{STARTS-AT, Finds, Shape, Ends, Seekable, Hangable, Hung, Planted}
 use Rattle.tokens.specs.Shown.{told}
 use Rattle.stored.specs.Names.{line-from, digits-of, Searchable, First, Numbered}
 
@@ -58,36 +58,68 @@ module _ {t w : List ℕ} {n p q : ℕ} (k : Searchable t w n p q) {at r from en
 
   module _ {to : ℕ} (h : to ≡ from + end * 2) where
     digits-there : slice from to t ≡ digits-of t w r
-    digits-there = ap₂ (λ (a b : ℕ). slice a b t) starts-there (omega (arith, h, starts-there, g))
+    digits-there =
+        let z : to ≡ line-from w r + token-end w r * 2 = omega (arith, h, starts-there, g) in
+        ap₂ (λ (a b : ℕ). slice a b t) starts-there z
 
-    -- it has the digits
-    pub alike-first : same (slice from to t) (slice p q t) ≡ true → First t w n (slice p q t) r
-    alike-first z = record {
-      within = omega (arith, line-inside);
-      before = λ i l. unlike (digits-of t w i) (slice p q t) (none-before (k .sought) finds i l (omega (arith, line-inside)));
-      here = λ l. ap (λ (y : List ℕ). same y (slice p q t)) (sym digits-there) ∙ z;
+    pub hangable : Hangable t w at n from to p q
+    hangable = record {
+      room = k .bytes .room;
+      some = some;
+      few = k .sought .small;
+      shape = k .sought .shape;
+      link-at = x .link-at;
+      order = omega (arith, h);
+      inside = omega (arith, h, line-near, k .bytes .lines);
+      near = omega (arith, h, line-near, k .near);
+      order-new = k .bytes .order;
+      inside-new = k .bytes .inside;
     }
 
-    pub alike-planted : same (slice from to t) (slice p q t) ≡ true → Planted (digits-of t w) w w n (slice p q t)
-    alike-planted z = planted-same (k .sought) finds line-inside (sym digits-there ∙ same-one (slice from to t) (slice p q t) z)
+    module _ {v : List ℕ} {y : Bool} (hung : Hung w v at n (slice from to t) (slice p q t) y) where
+      told-there : {z : Bool} → y ≡ z → same (digits-of t w r) (slice p q t) ≡ z
+      told-there d = ap (λ (u : List ℕ). same u (slice p q t)) (sym digits-there) ∙ sym (hung .told) ∙ d
 
-    -- it has not
-    pub unlike-first : same (slice from to t) (slice p q t) ≡ false → First t w n (slice p q t) n
-    unlike-first z = record {
-      within = omega arith;
-      before = λ i l. unlike (digits-of t w i) (slice p q t) (none-alike (k .sought) finds (λ y. clash (again y) z) i l);
-      here = λ l. absurd (omega arith);
-    }
-      where
-        again : digits-of t w r ≡ slice p q t → same (slice from to t) (slice p q t) ≡ true
-        again y = rw (digits-there ∙ y) (same-self (slice p q t))
+      again : digits-of t w r ≡ slice p q t → same (digits-of t w r) (slice p q t) ≡ true
+      again z = rw z (same-self (slice p q t))
 
-    pub unlike-planted : {v : List ℕ} {place : ℕ}
-        → Forked w v at n place (letter-at (slice from to t) place) (letter-at (slice p q t) place) → Planted (digits-of t w) w v n (slice p q t)
-    unlike-planted y = planted-fork (k .sought) (k .bytes .room) some x (digits-there ∙ ap (digits-of t w) e) y
+      -- it has the digits
+      pub hung-found : y ≡ true → First t w n (slice p q t) r × Planted (digits-of t w) w v n (slice p q t)
+      hung-found d = (
+        record {
+          within = omega (arith, line-inside);
+          before = λ i l. unlike (digits-of t w i) (slice p q t) (none-before (k .sought) finds i l (omega (arith, line-inside)));
+          here = λ l. told-there d;
+        },
+        rw (hung .kept d) (planted-same (k .sought) finds line-inside (same-one (digits-of t w r) (slice p q t) (told-there d))),
+      )
 
-pub first-of-all : {t w : List ℕ} {s : List ℕ} → First t w 0 s 0
-first-of-all = record { within = omega arith; before = λ i l. absurd (omega arith); here = λ l. absurd (omega arith) }
+      -- it has not
+      pub hung-none : y ≡ false → First t w n (slice p q t) n × Planted (digits-of t w) w v n (slice p q t)
+      hung-none d = (
+        record {
+          within = omega arith;
+          before = λ i l. unlike (digits-of t w i) (slice p q t) (none-alike (k .sought) finds (λ z. clash (again z) (told-there d)) i l);
+          here = λ l. absurd (omega arith);
+        },
+        planted-fork (k .sought) (k .bytes .room) some x (digits-there ∙ ap (digits-of t w) e) (hung .forked d),
+      )
+
+pub seekable : {t w : List ℕ} {n p q : ℕ} → Searchable t w n p q → Seekable t w n p q
+seekable k = record {
+  room = k .bytes .room;
+  few = k .bytes .few;
+  shape = k .sought .shape;
+  order = k .bytes .order;
+  ends = k .bytes .inside;
+}
+
+pub first-start : {t w : List ℕ} {n : ℕ} {s : List ℕ} → n ≡ 0 → Shape w n → First t w n s 0 × Planted (digits-of t w) w w n s
+first-start {t} {w} {n} {s} e g =
+    subst (λ (m : ℕ). First t w m s 0 × Planted (digits-of t w) w w m s) (sym e) (none, planted-first (subst (Shape w) e g))
+  where
+    none : First t w 0 s 0
+    none = record { within = omega arith; before = λ i l. absurd (omega arith); here = λ l. absurd (omega arith) }
 
 -- ---- the number of a name
 

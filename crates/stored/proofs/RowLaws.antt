@@ -1,15 +1,15 @@
 -- What `keep` does with a token, by whether there is room.
-use lib.ListN.{set}
+use lib.ListN.{length, set, length-set}
 use lib.Seq.{slice}
 use mathlib.Core.List.{List}
 use mathlib.Core.Logic.{inl, inr, ⊎-elim}
-use mathlib.Core.Path.{_≡_, refl, ap₂, _∙_}
+use mathlib.Core.Path.{_≡_, refl, ap, ap₂, _∙_}
 use native.Mathlib.Omega.{arith}
 use Prim.Native.Nat.{ℕ, _+_, _-_, _/_, _%_, _≤_, _<_}
 use Rattle.language.specs.Sizes.{SOURCE, TOKENS}
 use Rattle.layout.specs.Table.{put-token}
 use Rattle.layout.specs.Values.{HALF}
-use Rattle.tokens.specs.Forks.{STARTS-AT, Foretold}
+use Rattle.tokens.specs.Forks.{STARTS-AT, ButRows, Foretold}
 use Rattle.stored.specs.Names.{TableWorth, digits-of}
 use Rattle.stored.specs.Rows.{Kept}
 
@@ -33,3 +33,8 @@ module _ {t w : List ℕ} {count bytes kind worth p q : ℕ} where
     };
     skipped = λ s. absurd (⊎-elim (λ y. omega arith) (λ y. omega arith) s);
   }
+
+-- the table keeps its length
+pub kept-long-table : {u v w : List ℕ} (i x n a b c d e : ℕ) → ButRows u w → v ≡ put-token (set u i x) n a b c d e → length v ≡ length w
+unfolding put-token
+kept-long-table i x n a b c d e r f = ap length f ∙ simp length-set (r .long)
