@@ -10,10 +10,11 @@ use mathlib.Core.Path.{_≡_, refl, sym, _∙_, subst}
 use native.Mathlib.Omega.{arith}
 use Prim.Native.Nat.{ℕ, zero, suc, _+_, _*_, _≤_, _<_}
 use Rattle.language.proofs.Text.Choices.{either, outcome}
-use Rattle.language.specs.Sizes.{TOKENS}
+use Rattle.language.specs.Sizes.{TOKENS, TABLE}
 use Rattle.language.specs.Tokens.{Token}
+use Rattle.layout.proofs.Clearing.{zeros-same}
 use Rattle.layout.specs.Names.{lay-tokens}
-use Rattle.layout.specs.Table.{ROWS-AT, VARIABLES-AT, SPANS, put-token}
+use Rattle.layout.specs.Table.{ROWS-AT, VARIABLES-AT, SPANS, put-token, zeros}
 use Rattle.tokens.specs.Forks.{ButRows, STARTS-AT, FORKS-AT, SameForks}
 
 pub but-self : (w : List ℕ) → ButRows w w
@@ -89,3 +90,9 @@ forks-start w n x h = record {
   words = λ i y z. getD-set-other w (STARTS-AT + n) i x 0 (omega arith);
   count = getD-set-other w (STARTS-AT + n) FORKS-AT x 0 (omega arith);
 }
+
+-- ---- cleared
+
+-- with all of their words cleared they are the same
+pub but-cleared : {v w : List ℕ} → ButRows v w → zeros v 0 TABLE ≡ zeros w 0 TABLE
+but-cleared {v} {w} a = zeros-same TABLE 0 v w (a .long) (λ i h. a .words i (λ x y. h (omega arith) (omega arith)))
