@@ -1,5 +1,8 @@
 -- `keep` writes a token where there is room for it.
-use Rattle.stored.proofs.RowLaws.{kept-full, kept-long, kept-written}
+use lib.ListN.{length-set}
+use native.Mathlib.Omega.{arith}
+use Rattle.tokens.proofs.Indexing.{foretold-rest}
+use Rattle.stored.proofs.RowLaws.{kept-full, kept-long, kept-written, kept-long-table}
 use borrow.Author.Needs.{needs}
 use Rattle.stored.proofs.rows.keep.Statement.{statement}
 use Rattle.stored.proofs.rows.keep.Tie as tie
@@ -22,24 +25,29 @@ low-requires c κs = search needs
 sub-size : tie.Need-sub-size
 sub-size c = search needs
 
+cast-table : tie.Need-cast-table
+cast-table c = omega (arith, c .before .before .before .before .before .before .before .before .before .before .pre .near (c .before .before .before .before .before .before .before .if1 .left) (c .before .before .before .before .before .before .if2 .left))
+
+add-table : tie.Need-add-table
+add-table c = search needs
+
+mul-table : tie.Need-mul-table
+mul-table c = search needs
+
+slice-write-table : tie.Need-slice-write-table
+slice-write-table c = omega (arith, foretold-rest (c .before .before .before .before .table-worth .ensures .1) .long, c .before .before .before .before .before .before .before .before .before .before .pre .room, c .before .before .before .before .before .before .before .if1 .left)
+
 cast-put : tie.Need-cast-put
 cast-put c = search needs
 
 put-requires : tie.Need-put-requires
-put-requires c κs = search needs
+put-requires c κs = let s = c .before .before .before .before .before .before .before .before .before .before .before .pre in let long = foretold-rest (c .before .before .before .before .before .table-worth .ensures .1) .long in (simp length-set (omega (arith, long, s .room)), c .before .before .before .before .before .before .before .before .if1 .left, omega arith, omega (arith, s .some, c .before .before .before .before .before .before .before .if2 .left))
 
 same-length : tie.Need-same-length
-same-length c = search needs
+same-length c = kept-long-table _ _ _ _ _ _ _ _ (foretold-rest (c .before .before .before .before .before .before .before .before .table-worth .ensures .1)) (c .before .before .put .ensures)
 
 returns-3 : tie.Need-returns-3
-returns-3 c =
-    let at-low = c .before .before .before .before in
-    let at-high = at-low .before in
-    let at-table-worth = at-high .before in
-    let at-if2 = at-table-worth .before .before in
-    let at-if1 = at-if2 .before in
-    kept-written (at-if1 .if1 .left) (at-if2 .if2 .left) (at-table-worth .table-worth .ensures) (at-high .high .ensures) (at-low .low .ensures)
-    (c .before .before .put .ensures)
+returns-3 c = kept-written (c .before .before .before .before .before .before .before .before .before .before .before .if1 .left) (c .before .before .before .before .before .before .before .before .before .before .if2 .left) (c .before .before .before .before .before .before .before .before .table-worth .ensures .0) (c .before .before .before .before .before .before .before .before .table-worth .ensures .1) (c .before .before .before .before .before .high .ensures) (c .before .before .before .before .low .ensures) (c .before .before .put .ensures)
 
 pub keep-spec : {M : Type 1} → statement M
 keep-spec =
@@ -51,6 +59,10 @@ keep-spec =
     high-requires
     low-requires
     sub-size
+    cast-table
+    add-table
+    mul-table
+    slice-write-table
     cast-put
     put-requires
     same-length
