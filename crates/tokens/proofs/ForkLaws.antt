@@ -1,13 +1,17 @@
 -- Forks: a spelling has one way, and it is the same where the words of forks are.
-use lib.ListN.{getD}
+use borrow.Author.Tests.{ltb-true}
+use lib.Dec.{ltb}
+use lib.ListN.{length, getD}
 use mathlib.Core.List.{List}
+use mathlib.Core.Logic.{⊎-elim}
 use mathlib.Core.Path.{_≡_, refl, sym, _∙_, ap, subst, subst₂}
 use native.Mathlib.Nat.{mod-lt}
 use native.Mathlib.Omega.{arith}
-use Prim.Native.Nat.{ℕ, _+_, _*_, _/_, _≤_, _<_}
+use Prim.Native.Nat.{ℕ, _+_, _*_, _-_, _/_, _≤_, _<_}
+use Rattle.language.proofs.Text.Choices.{outcome}
 use Rattle.language.specs.Sizes.{TOKENS}
 use Rattle.language.specs.Tokens.{Spelling}
-use Rattle.tokens.specs.Forks.{FORKS-AT, SameForks, letter-at, turn, link, Leads, here, goes}
+use Rattle.tokens.specs.Forks.{ROOTS, FORKS-AT, SameForks, letter-at, turn, link, root-of, start-at, start, Leads, here, goes}
 use Rattle.tokens.specs.Forks.{Finds, Link, LinkAt, Shape}
 
 -- ---- ways
@@ -42,6 +46,22 @@ link-there {w} {n} g l =
 pub link-taken : {m : ℕ} (w : List ℕ) (s : Spelling) (f : ℕ) → TOKENS ≤ f → f < TOKENS + m → LinkAt m (link w s f)
 link-taken w s f h l = record { fork = f; side = turn w s f; low = h; high = l; two = turn-two w s f; is = refl }
 
+-- where a way begins
+root-small : (n : ℕ) → root-of n < ROOTS
+unfolding root-of
+root-small n =
+    ⊎-elim (λ e. rw e (omega (arith, ltb-true n (ROOTS - 1) e))) (λ e. rw e (omega arith)) (outcome (ltb n (ROOTS - 1)))
+
+pub start-there : {w : List ℕ} {n : ℕ} → Shape w n → (k : ℕ) → LinkAt (getD w FORKS-AT 0) (start-at k)
+start-there g k = record {
+  fork = TOKENS + root-of k;
+  side = 0;
+  low = omega arith;
+  high = omega (arith, root-small k, g .some);
+  two = omega arith;
+  is = omega arith;
+}
+
 -- every link on a way is one
 pub leads-there : {w : List ℕ} {s : Spelling} {n a e : ℕ} → Shape w n → LinkAt (getD w FORKS-AT 0) a → Leads w s a e → LinkAt (getD w FORKS-AT 0) e
 leads-there g k here = k
@@ -50,7 +70,7 @@ leads-there {w} {s} g k (goes {a = a} x y) = leads-there g (link-taken w s (getD
 -- ---- more tokens
 
 link-more : {n m f x : ℕ} → Link n m f x → Link (n + 1) m f x
-link-more l = record { leaf = λ h. omega (arith, l .leaf h); above = l .above; below = l .below }
+link-more l = record { leaf = λ h. omega (arith, l .leaf h); above = l .above; asks = l .asks; below = l .below }
 
 pub shape-more : {w : List ℕ} {n : ℕ} → Shape w n → Shape w (n + 1)
 shape-more g = record {
@@ -63,7 +83,7 @@ shape-more g = record {
 -- ---- the same forks
 
 module _ {w v : List ℕ} {n : ℕ} (g : Shape w n) (few : n ≤ TOKENS) (like : SameForks v w) where
-  m-few : getD w FORKS-AT 0 ≤ TOKENS
+  m-few : getD w FORKS-AT 0 ≤ TOKENS + ROOTS
   m-few = omega (arith, g .few)
 
   link-like : (s : Spelling) (f : ℕ) → TOKENS ≤ f → f < TOKENS + getD w FORKS-AT 0 → link v s f ≡ link w s f
@@ -86,11 +106,10 @@ module _ {w v : List ℕ} {n : ℕ} (g : Shape w n) (few : n ≤ TOKENS) (like :
   -- lead to the same
   pub finds-like : {s : Spelling} {r : ℕ} → Finds w s r → Finds v s r
   finds-like {s} a =
-      let h : TOKENS < TOKENS + getD w FORKS-AT 0 = omega (arith, g .some) in
-      let k : LinkAt (getD w FORKS-AT 0) (link w s TOKENS) = link-taken w s TOKENS (omega arith) h in
+      let k : LinkAt (getD w FORKS-AT 0) (start s) = start-there g (length s) in
       record {
         at = a .at;
-        leads = subst (λ (b : ℕ). Leads v s b (a .at)) (sym (link-like s TOKENS (omega arith) h)) (leads-like k (a .leads));
+        leads = leads-like k (a .leads);
         leaf = word-like (leads-there g k (a .leads)) ∙ a .leaf;
         small = a .small;
       }

@@ -3,6 +3,7 @@ pub mod Bits
 pub mod Agreeing
 pub mod ForkLaws
 pub mod NewFork
+pub mod FirstForks
 pub mod Planting
 pub mod Indexing
 pub mod OneKind

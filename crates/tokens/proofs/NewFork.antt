@@ -12,11 +12,14 @@ use Prim.Native.Nat.{ℕ, _+_, _*_, _-_, _/_, _%_, _≤_, _<_}
 use Rattle.language.proofs.Text.Choices.{either, outcome}
 use Rattle.language.specs.Sizes.{TOKENS, TABLE}
 use Rattle.language.specs.Tokens.{Spelling}
-use Rattle.layout.specs.Table.{ROWS-AT}
 use Rattle.tokens.proofs.Agreeing.{but-self, but-inside}
-use Rattle.tokens.proofs.ForkLaws.{leads-on, link-there, link-taken, leads-there}
-use Rattle.tokens.specs.Forks.{ButRows, STARTS-AT, FORKS-AT, letter-at, turn, link, Leads, here, goes}
-use Rattle.tokens.specs.Forks.{Finds, Link, LinkAt, Shape, put-fork, Begun}
+use Rattle.tokens.proofs.ForkLaws.{leads-on, link-there, link-taken, start-there, leads-there}
+use Rattle.tokens.specs.Forks.{ButRows, ROOTS, STARTS-AT, FORKS-AT, letter-at, turn, link, start, Leads, here, goes}
+use Rattle.tokens.specs.Forks.{Finds, Link, LinkAt, Shape, put-fork}
+
+-- a link that is a token's ordinal
+pub token-link : {n m x : ℕ} (f : ℕ) → (x ≤ n - 1) × (x < TOKENS) → Link n m f x
+token-link f h = record { leaf = λ y. h .0; above = λ y. absurd (omega arith); asks = λ y. absurd (omega arith); below = λ y. absurd (omega arith) }
 
 module _ {w v : List ℕ} {n at : ℕ} (place bit t : ℕ) (room : TABLE ≤ length w) (g : Shape w n) (some : 0 < n) (few : n < TOKENS)
     (l : LinkAt (getD w FORKS-AT 0) at) (leaf : getD w at 0 < TOKENS) (two : t < 2) (is : v ≡ put-fork w at n place bit t) where
@@ -27,7 +30,7 @@ module _ {w v : List ℕ} {n at : ℕ} (place bit t : ℕ) (room : TABLE ≤ len
   unfolding m
   f = TOKENS + m
 
-  inside : f < 2 * TOKENS
+  inside : f < 2 * TOKENS + ROOTS
   unfolding f m
   inside = omega (arith, g .few)
 
@@ -162,22 +165,20 @@ module _ {w v : List ℕ} {n at : ℕ} (place bit t : ℕ) (room : TABLE ≤ len
       let q = ap (link v s) z ∙ link-kept s (getD w a 0) x below in
       goes {a = a} (omega (arith, z)) (subst (λ (b : ℕ). Leads v s b e) (sym q) (leads-kept (link-taken w s (getD w a 0) x below) y))
 
-  from-start : {s : Spelling} {e : ℕ} → Leads w s (link w s TOKENS) e → Leads v s (link v s TOKENS) e
-  unfolding f m
-  from-start {s} {e} y =
-      let h : TOKENS < TOKENS + m = omega (arith, g .some) in
-      subst (λ (b : ℕ). Leads v s b e) (sym (link-kept s TOKENS (omega arith) h)) (leads-kept (link-taken w s TOKENS (omega arith) h) y)
+  from-start : {s : Spelling} {e : ℕ} → Leads w s (start s) e → Leads v s (start s) e
+  unfolding m
+  from-start {s} y = leads-kept (start-there g (length s)) y
 
   -- behind the new fork
   new-turn : (s : Spelling) → link v s (getD v at 0) ≡ 4 * f + 2 + (letter-at s place / bit) % 2
   unfolding turn
   new-turn s = rw (at-is, place-is, bit-is)
 
-  through : {s : Spelling} → Leads w s (link w s TOKENS) at → (i : ℕ) → 4 * f + 2 + (letter-at s place / bit) % 2 ≡ i
-      → Leads v s (link v s TOKENS) i
+  through : {s : Spelling} → Leads w s (start s) at → (i : ℕ) → 4 * f + 2 + (letter-at s place / bit) % 2 ≡ i
+      → Leads v s (start s) i
   unfolding f
   through {s} y i e =
-      subst (λ (b : ℕ). Leads v s (link v s TOKENS) b) (new-turn s ∙ e) (leads-on (from-start y) (omega (arith, at-is)))
+      subst (λ (b : ℕ). Leads v s (start s) b) (new-turn s ∙ e) (leads-on (from-start y) (omega (arith, at-is)))
 
   -- a token that had a way has one, if the fork turns it as its link's token
   pub finds-kept : {s : Spelling} {r : ℕ} → Finds w s r → (r ≡ getD w at 0 → (letter-at s place / bit) % 2 ≡ t) → Finds v s r
@@ -189,14 +190,14 @@ module _ {w v : List ℕ} {n at : ℕ} (place bit t : ℕ) (room : TABLE ≤ len
           let z = sym (a .leaf) ∙ ap (λ (i : ℕ). getD w i 0) e in
           record {
             at = 4 * f + 2 + t;
-            leads = through (subst (Leads w s (link w s TOKENS)) e (a .leads)) (4 * f + 2 + t) (ap (λ (i : ℕ). 4 * f + 2 + i) (h z));
+            leads = through (subst (Leads w s (start s)) e (a .leads)) (4 * f + 2 + t) (ap (λ (i : ℕ). 4 * f + 2 + i) (h z));
             leaf = leaf-is ∙ sym z;
             small = a .small;
           }
 
       straight : (a .at ≡ at → ⊥) → Finds v s r
       straight d =
-          let k = leads-there g (link-taken w s TOKENS (omega arith) (omega (arith, g .some))) (a .leads) in
+          let k = leads-there g (start-there g (length s)) (a .leads) in
           record {
             at = a .at;
             leads = from-start (a .leads);
@@ -205,7 +206,7 @@ module _ {w v : List ℕ} {n at : ℕ} (place bit t : ℕ) (room : TABLE ≤ len
           }
 
   -- and the new token has one
-  pub finds-new : {s : Spelling} → Leads w s (link w s TOKENS) at → ((letter-at s place / bit) % 2 ≡ t → ⊥) → Finds v s n
+  pub finds-new : {s : Spelling} → Leads w s (start s) at → ((letter-at s place / bit) % 2 ≡ t → ⊥) → Finds v s n
   finds-new {s} y d =
       let h : (letter-at s place / bit) % 2 < 2 = mod-lt (letter-at s place / bit) (omega arith) in
       record { at = 4 * f + 3 - t; leads = through y (4 * f + 3 - t) (omega arith); leaf = new-is; small = few }
@@ -215,7 +216,7 @@ module _ {w v : List ℕ} {n at : ℕ} (place bit t : ℕ) (room : TABLE ≤ len
   pub shape-grown : 0 < bit → Shape v (n + 1)
   unfolding f m
   shape-grown b = record {
-    some = omega (arith, forks-is);
+    some = omega (arith, forks-is, g .some);
     few = omega (arith, forks-is, g .few);
     bits = λ x h u.
         ⊎-elim (λ e. rw (kept (4 * x + 1) (omega arith) (λ d. omega (arith, l .is, l .two))) (g .bits x h e))
@@ -227,12 +228,13 @@ module _ {w v : List ℕ} {n at : ℕ} (place bit t : ℕ) (room : TABLE ≤ len
       old : (x side : ℕ) → TOKENS ≤ x → x < f → side < 2 → Link (n + 1) (m + 1) x (getD v (4 * x + 2 + side) 0)
       old x side h u s = ⊎-elim
           (λ e. let z = ap (λ (i : ℕ). getD v i 0) (eqb-true (4 * x + 2 + side) at e) ∙ at-is in
-          record { leaf = λ y. omega arith; above = λ y. omega arith; below = λ y. omega arith })
+          record { leaf = λ y. omega arith; above = λ y. omega arith; asks = λ y. omega (arith, g .some); below = λ y. omega arith })
           (λ e. let z = kept (4 * x + 2 + side) (omega arith) (eqb-false (4 * x + 2 + side) at e) in
           let k = g .links x side h u s in
           record {
             leaf = λ y. omega (arith, k .leaf (omega arith));
             above = λ y. omega (arith, k .above (omega arith));
+            asks = λ y. omega (arith, k .asks (omega arith));
             below = λ y. omega (arith, k .below (omega arith));
           })
           (outcome (eqb (4 * x + 2 + side) at))
@@ -242,74 +244,8 @@ module _ {w v : List ℕ} {n at : ℕ} (place bit t : ℕ) (room : TABLE ≤ len
           (λ d. let i : 4 * x + 2 + side ≡ 4 * f + 2 + t = omega (arith, eqb-true side t d) in
           let z = ap (λ (i : ℕ). getD v i 0) i ∙ leaf-is in
           let k = link-there g l .leaf leaf in
-          record { leaf = λ y. omega arith; above = λ y. absurd (omega arith); below = λ y. absurd (omega arith) })
+          token-link x (omega arith, omega arith))
           (λ d. let i : 4 * x + 2 + side ≡ 4 * f + 3 - t = omega (arith, eqb-false side t d) in
           let z = ap (λ (i : ℕ). getD v i 0) i ∙ new-is in
-          record { leaf = λ y. omega arith; above = λ y. absurd (omega arith); below = λ y. absurd (omega arith) })
+          token-link x (omega arith, omega arith))
           (outcome (eqb side t))
-
--- ---- the first fork
-
-pub begun : (w : List ℕ) → TABLE ≤ length w
-    → Begun w (set (set (set (set (set w ROWS-AT 0) (ROWS-AT + 1) 1) (ROWS-AT + 2) 0) (ROWS-AT + 3) 0) FORKS-AT 1)
-begun w room = record {
-  rest =
-      but-inside FORKS-AT 1 (omega arith) (omega arith) (but-inside (ROWS-AT + 3) 0 (omega arith) (omega arith)
-      (but-inside (ROWS-AT + 2) 0 (omega arith) (omega arith) (but-inside (ROWS-AT + 1) 1 (omega arith) (omega arith)
-      (but-inside ROWS-AT 0 (omega arith) (omega arith) (but-self w)))));
-  shape = record {
-    some = omega (arith, forks);
-    few = omega (arith, forks);
-    bits = λ f h l. let z : f ≡ TOKENS = omega (arith, forks) in rw (z, bit) (omega arith);
-    links = λ f side h l t. let z : f ≡ TOKENS = omega (arith, forks) in rw (forks, z, both side t)
-        record { leaf = λ x. omega arith; above = λ x. absurd (omega arith); below = λ x. absurd (omega arith) };
-  };
-}
-  where
-    v₁ : List ℕ
-    v₁ = set w ROWS-AT 0
-
-    v₂ : List ℕ
-    v₂ = set v₁ (ROWS-AT + 1) 1
-
-    v₃ : List ℕ
-    v₃ = set v₂ (ROWS-AT + 2) 0
-
-    v₄ : List ℕ
-    v₄ = set v₃ (ROWS-AT + 3) 0
-
-    v : List ℕ
-    v = set v₄ FORKS-AT 1
-
-    long₁ : length v₁ ≡ length w
-    long₁ = length-set w ROWS-AT 0
-
-    long₂ : length v₂ ≡ length w
-    long₂ = length-set v₁ (ROWS-AT + 1) 1 ∙ long₁
-
-    long₃ : length v₃ ≡ length w
-    long₃ = length-set v₂ (ROWS-AT + 2) 0 ∙ long₂
-
-    long₄ : length v₄ ≡ length w
-    long₄ = length-set v₃ (ROWS-AT + 3) 0 ∙ long₃
-
-    forks : getD v FORKS-AT 0 ≡ 1
-    forks = getD-set-same v₄ FORKS-AT 1 0 (omega (arith, long₄))
-
-    bit : getD v (4 * TOKENS + 1) 0 ≡ 1
-    bit =
-        getD-set-other v₄ FORKS-AT (ROWS-AT + 1) 1 0 (omega arith) ∙ getD-set-other v₃ (ROWS-AT + 3) (ROWS-AT + 1) 0 0 (omega arith)
-        ∙ getD-set-other v₂ (ROWS-AT + 2) (ROWS-AT + 1) 0 0 (omega arith) ∙ getD-set-same v₁ (ROWS-AT + 1) 1 0 (omega (arith, long₁))
-
-    low : getD v (4 * TOKENS + 2 + 0) 0 ≡ 0
-    low =
-        getD-set-other v₄ FORKS-AT (ROWS-AT + 2) 1 0 (omega arith) ∙ getD-set-other v₃ (ROWS-AT + 3) (ROWS-AT + 2) 0 0 (omega arith)
-        ∙ getD-set-same v₂ (ROWS-AT + 2) 0 0 (omega (arith, long₂))
-
-    high : getD v (4 * TOKENS + 2 + 1) 0 ≡ 0
-    high = getD-set-other v₄ FORKS-AT (ROWS-AT + 3) 1 0 (omega arith) ∙ getD-set-same v₃ (ROWS-AT + 3) 0 0 (omega (arith, long₃))
-
-    both : (side : ℕ) → side < 2 → getD v (4 * TOKENS + 2 + side) 0 ≡ 0
-    both side t =
-        ⊎-elim (λ e. let z : side ≡ 0 = omega arith in ap (λ (i : ℕ). getD v (4 * TOKENS + 2 + i) 0) z ∙ low)
-        (λ e. let z : side ≡ 1 = omega arith in ap (λ (i : ℕ). getD v (4 * TOKENS + 2 + i) 0) z ∙ high) (either side 1)

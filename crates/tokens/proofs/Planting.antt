@@ -1,6 +1,7 @@
 -- A spelling sought among tokens that can be found: the token at its way's end is the first that has it, or none has; and with the
 -- fork that it gets then it can be found, too.
 use lib.ListN.{length, getD}
+use lib.Seq.{slice, length-slice}
 use mathlib.Core.List.{List}
 use mathlib.Core.Logic.{⊎-elim}
 use mathlib.Core.Path.{_≡_, refl, sym, _∙_, ap, subst}
@@ -11,49 +12,39 @@ use Rattle.language.proofs.Text.Choices.{either}
 use Rattle.language.specs.Sizes.{TOKENS, TABLE}
 use Rattle.language.specs.Tokens.{Spelling}
 use Rattle.tokens.proofs.Agreeing.{but-self}
-use Rattle.tokens.proofs.ForkLaws.{turn-two, leads-on, finds-one, link-there, link-taken, shape-more}
+use Rattle.tokens.proofs.ForkLaws.{leads-on, finds-one, link-there, link-taken, start-there, shape-more}
 use Rattle.tokens.proofs.NewFork.{fork-rest, fork-starts, finds-kept, finds-new, shape-grown}
-use Rattle.tokens.specs.Forks.{FORKS-AT, letter-at, turn, link, Leads, here, Finds, Link, LinkAt, Shape}
+use Rattle.tokens.specs.Forks.{ROOTS, STARTS-AT, FORKS-AT, letter-at, link, start-at, start, Leads, here, Finds, Link, LinkAt, Shape}
 use Rattle.tokens.specs.Forks.{Ends, Askable, Seekable, Forked, Found, Sought, Planted}
 
 -- ---- a way
 
 -- the way of a spelling leads to the link at this word, which is x
 pub record Way (w : List ℕ) (s : Spelling) (at x : ℕ) : Type 0 where
-  pub leads : Leads w s (link w s TOKENS) at
+  pub leads : Leads w s (start s) at
   pub link-at : LinkAt (getD w FORKS-AT 0) at
   pub is : x ≡ getD w at 0
 
 module _ {t w : List ℕ} {n p q : ℕ} (k : Seekable t w n p q) where
-  first-there : TOKENS < TOKENS + getD w FORKS-AT 0
-  first-there = omega (arith, k .shape .some)
-
-  fork-inside : (f : ℕ) → f < TOKENS + getD w FORKS-AT 0 → f < 2 * TOKENS
+  fork-inside : (f : ℕ) → f < TOKENS + getD w FORKS-AT 0 → f < 2 * TOKENS + ROOTS
   fork-inside f h = omega (arith, k .shape .few, k .few)
 
-  -- it begins at the first fork
-  pub first-askable : Askable t w TOKENS p q
-  first-askable = record {
-    room = k .room;
-    inside = fork-inside TOKENS first-there;
-    bit = k .shape .bits TOKENS (omega arith) first-there;
-    order = k .order;
-    ends = k .ends;
-  }
-
-  pub way-first : {s : Spelling} {at x : ℕ} → at ≡ link w s TOKENS → x ≡ getD w at 0 → Way w s at x
-  way-first {s} {at} e f = record {
-    leads = subst (Leads w s (link w s TOKENS)) (sym e) here;
-    link-at = subst (LinkAt (getD w FORKS-AT 0)) (sym e) (link-taken w s TOKENS (omega arith) first-there);
-    is = f;
-  }
+  -- it begins by the length
+  pub way-first : {at x : ℕ} → at ≡ start-at (q - p) → x ≡ getD w at 0 → Way w (slice p q t) at x
+  way-first {at} e f =
+      let z : at ≡ start (slice p q t) = e ∙ ap start-at (sym (length-slice p q t (k .ends))) in
+      record {
+        leads = subst (Leads w (slice p q t) (start (slice p q t))) (sym z) here;
+        link-at = subst (LinkAt (getD w FORKS-AT 0)) (sym e) (start-there (k .shape) (q - p));
+        is = f;
+      }
 
   -- the word lies among those of forks
-  pub link-inside : {at : ℕ} → LinkAt (getD w FORKS-AT 0) at → at < 8 * TOKENS
+  pub link-inside : {at : ℕ} → LinkAt (getD w FORKS-AT 0) at → at < STARTS-AT
   link-inside l = omega (arith, l .is, l .two, fork-inside (l .fork) (l .high))
 
-  pub first-inside : (s : Spelling) {at : ℕ} → at ≡ link w s TOKENS → at < 8 * TOKENS
-  first-inside s e = link-inside (subst (LinkAt (getD w FORKS-AT 0)) (sym e) (link-taken w s TOKENS (omega arith) first-there))
+  pub first-inside : {at : ℕ} → at ≡ start-at (q - p) → at < STARTS-AT
+  first-inside e = link-inside (subst (LinkAt (getD w FORKS-AT 0)) (sym e) (start-there (k .shape) (q - p)))
 
   module _ {s : Spelling} {at x : ℕ} (y : Way w s at x) where
     module _ (h : TOKENS ≤ x) where
@@ -62,21 +53,28 @@ module _ {t w : List ℕ} {n p q : ℕ} (k : Seekable t w n p q) where
 
       pub way-askable : Askable t w x p q
       way-askable =
-          record { room = k .room; inside = fork-inside x below; bit = k .shape .bits x h below; order = k .order; ends = k .ends }
+          let asks = link-there (k .shape) (y .link-at) .asks (omega (arith, y .is)) in
+          record {
+            room = k .room;
+            inside = fork-inside x below;
+            bit = k .shape .bits x (omega (arith, asks, y .is)) below;
+            order = k .order;
+            ends = k .ends;
+          }
 
       module _ {a : ℕ} (e : a ≡ link w s x) where
         pub next-link : LinkAt (getD w FORKS-AT 0) a
         next-link = subst (LinkAt (getD w FORKS-AT 0)) (sym e) (link-taken w s x h below)
 
         -- it goes on to words further on
-        pub way-less : 8 * TOKENS - a < 8 * TOKENS - at
+        pub way-less : STARTS-AT - a < STARTS-AT - at
         way-less =
             let l = y .link-at in
             omega (arith, e, l .is, l .two, link-inside next-link, y .is, link-there (k .shape) l .above (omega (arith, y .is)))
 
         pub way-on : {z : ℕ} → z ≡ getD w a 0 → Way w s a z
         way-on f = record {
-          leads = subst (Leads w s (link w s TOKENS)) (sym (e ∙ ap (link w s) (y .is))) (leads-on (y .leads) (omega (arith, y .is)));
+          leads = subst (Leads w s (start s)) (sym (e ∙ ap (link w s) (y .is))) (leads-on (y .leads) (omega (arith, y .is)));
           link-at = next-link;
           is = f;
         }
@@ -114,8 +112,7 @@ module _ {sp : ℕ → Spelling} {w : List ℕ} {s : Spelling} where
   -- the first token of all
   pub planted-first : Shape w 0 → Planted sp w w 0 s
   planted-first g =
-      let root = g .links TOKENS (turn w s TOKENS) (omega arith) (omega (arith, g .some)) (turn-two w s TOKENS) in
-      let x : getD w (link w s TOKENS) 0 ≡ 0 = none root in
+      let x : getD w (start s) 0 ≡ 0 = none (link-there g (start-there g (length s))) in
       record {
         rest = but-self w;
         starts = λ i h l. refl;
@@ -124,12 +121,12 @@ module _ {sp : ℕ → Spelling} {w : List ℕ} {s : Spelling} where
         first = 0;
         within = omega arith;
         alike = λ h. absurd (omega arith);
-        finds = record { at = link w s TOKENS; leads = here; leaf = x; small = omega arith };
+        finds = record { at = start s; leads = here; leaf = x; small = omega arith };
       }
     where
-      none : {x : ℕ} → Link 0 (getD w FORKS-AT 0) TOKENS x → x ≡ 0
-      none {x} k =
-          ⊎-elim (λ h. omega (arith, k .leaf h)) (λ h. absurd (omega (arith, g .few, k .above h, k .below h))) (either x TOKENS)
+      none : {f x : ℕ} → Link 0 (getD w FORKS-AT 0) f x → x ≡ 0
+      none {x = x} k =
+          ⊎-elim (λ h. omega (arith, k .leaf h)) (λ h. absurd (omega (arith, g .few, k .asks h, k .below h))) (either x TOKENS)
 
   module _ {n : ℕ} (g : Sought sp w n s) where
     -- one that is spelled like one before it

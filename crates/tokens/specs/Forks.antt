@@ -1,6 +1,6 @@
 -- How a name is found among the tokens before it. While tokens are written, the words behind theirs hold forks. A fork
 -- asks for one bit of one letter of a spelling, and has two links; a link leads to a fork or is a token's ordinal. A
--- spelling takes one way from the first fork on, which ends at the one token that can be spelled so.
+-- spelling takes one way, which ends at the one token that can be spelled so.
 use lib.Dec.{ltb}
 use lib.ListN.{length, getD, set}
 use mathlib.Core.Bool.{Bool, true, false, cond}
@@ -9,7 +9,7 @@ use mathlib.Core.Path.{_≡_}
 use Prim.Native.Nat.{ℕ, _+_, _*_, _-_, _/_, _%_, _≤_, _<_}
 use Rattle.language.specs.Sizes.{TOKENS, TABLE}
 use Rattle.language.specs.Tokens.{Spelling, same, NAME}
-use Rattle.layout.specs.Table.{ROWS-AT, FUNCTIONS-AT, VARIABLES-AT}
+use Rattle.layout.specs.Table.{ROWS-AT, VARIABLES-AT}
 use Rattle.tokens.specs.declared.forks.Parting as parting
 use Rattle.tokens.specs.declared.forks.Parting.the-variants.{Same, At}
 
@@ -20,13 +20,18 @@ pub record ButRows (v w : List ℕ) : Type 0 where
   pub long : length v ≡ length w
   pub words : (i : ℕ) → (ROWS-AT ≤ i → i < VARIABLES-AT → ⊥) → getD v i 0 ≡ getD w i 0
 
--- Fork f, from TOKENS on, has four words where token f would have them: a place, a bit, and two links. Behind them is a
--- word for each token, for whoever has to know where the spelling of a token stands, and then how many forks there are.
+-- Fork f, from TOKENS on, has four words where token f would have them: a place, a bit, and two links. The first of them
+-- ask nothing: at the first link of each begins a way, for the spellings of one length, and those that are longer.
+abbrev pub ROOTS : ℕ
+ROOTS = 256
+
+-- Behind the forks is a word for each token, for whoever has to know where its spelling stands, and then how many forks
+-- there are.
 abbrev pub STARTS-AT : ℕ
-STARTS-AT = 8 * TOKENS
+STARTS-AT = 8 * TOKENS + 4 * ROOTS
 
 abbrev pub FORKS-AT : ℕ
-FORKS-AT = FUNCTIONS-AT
+FORKS-AT = 9 * TOKENS + 4 * ROOTS
 
 -- two tables have the same forks
 pub record SameForks (v w : List ℕ) : Type 0 where
@@ -46,6 +51,16 @@ turn w s f = (letter-at s (getD w (4 * f) 0) / getD w (4 * f + 1) 0) % 2
 abbrev pub link : List ℕ → Spelling → ℕ → ℕ
 link w s f = 4 * f + 2 + turn w s f
 
+-- where the way of a spelling of so many bytes begins
+unfoldable pub root-of : ℕ → ℕ
+root-of n = cond (ltb n (ROOTS - 1)) n (ROOTS - 1)
+
+abbrev pub start-at : ℕ → ℕ
+start-at n = 4 * (TOKENS + root-of n) + 2
+
+abbrev pub start : Spelling → ℕ
+start s = start-at (length s)
+
 -- from the link at word a the way of a spelling leads to that at word e
 pub data Leads (w : List ℕ) (s : Spelling) : ℕ → ℕ → Type 0 where
   here : {a : ℕ} → Leads w s a a
@@ -54,16 +69,17 @@ pub data Leads (w : List ℕ) (s : Spelling) : ℕ → ℕ → Type 0 where
 -- the way of a spelling ends at token r
 pub record Finds (w : List ℕ) (s : Spelling) (r : ℕ) : Type 0 where
   pub at : ℕ
-  pub leads : Leads w s (link w s TOKENS) at
+  pub leads : Leads w s (start s) at
   pub leaf : getD w at 0 ≡ r
   pub small : r < TOKENS
 
 -- ---- the forks of a table
 
--- x is a link of fork f: an ordinal of one of n tokens, or one of m forks behind f
+-- x is a link of fork f: an ordinal of one of n tokens, or one of m forks behind f that asks
 pub record Link (n m f x : ℕ) : Type 0 where
   pub leaf : x < TOKENS → x ≤ n - 1
   pub above : TOKENS ≤ x → f < x
+  pub asks : TOKENS ≤ x → TOKENS + ROOTS ≤ x
   pub below : TOKENS ≤ x → x < TOKENS + m
 
 -- at word a lies a link of one of m forks
@@ -77,22 +93,22 @@ pub record LinkAt (m a : ℕ) : Type 0 where
 
 -- the forks of a table with n tokens
 pub record Shape (w : List ℕ) (n : ℕ) : Type 0 where
-  pub some : 0 < getD w FORKS-AT 0
-  pub few : getD w FORKS-AT 0 ≤ 1 + (n - 1)
-  pub bits : (f : ℕ) → TOKENS ≤ f → f < TOKENS + getD w FORKS-AT 0 → 0 < getD w (4 * f + 1) 0
+  pub some : ROOTS ≤ getD w FORKS-AT 0
+  pub few : getD w FORKS-AT 0 ≤ ROOTS + (n - 1)
+  pub bits : (f : ℕ) → TOKENS + ROOTS ≤ f → f < TOKENS + getD w FORKS-AT 0 → 0 < getD w (4 * f + 1) 0
   pub links : (f side : ℕ) → TOKENS ≤ f → f < TOKENS + getD w FORKS-AT 0 → side < 2
       → Link n (getD w FORKS-AT 0) f (getD w (4 * f + 2 + side) 0)
 
 -- the way of a spelling ends with the link at this word
 pub record Ends (w : List ℕ) (s : Spelling) (at : ℕ) : Type 0 where
-  pub leads : Leads w s (link w s TOKENS) at
+  pub leads : Leads w s (start s) at
   pub link-at : LinkAt (getD w FORKS-AT 0) at
   pub leaf : getD w at 0 < TOKENS
 
 -- what can be asked of fork f by the bytes from p up to q of a text t
 pub record Askable (t w : List ℕ) (f p q : ℕ) : Type 0 where
   pub room : TABLE ≤ length w
-  pub inside : f < 2 * TOKENS
+  pub inside : f < 2 * TOKENS + ROOTS
   pub bit : 0 < getD w (4 * f + 1) 0
   pub order : p ≤ q
   pub ends : q ≤ length t
@@ -197,7 +213,7 @@ pub record Foretold (sp : ℕ → Spelling) (w v : List ℕ) (n kind : ℕ) (s :
   pub name : kind ≡ NAME → Planted sp w v n s
   pub other : (kind ≡ NAME → ⊥) → v ≡ w
 
--- no token yet, and one fork whose links are both the first that comes
+-- no token yet, and the forks at which ways begin; their links are all the token that comes first
 pub record Begun (w v : List ℕ) : Type 0 where
   pub rest : ButRows v w
   pub shape : Shape v 0

@@ -2,37 +2,48 @@
 // room for: so a name is not compared with every token before it, but led to the one that it can be. While tokens are
 // written, the words behind theirs are free, and hold forks. A fork asks for one bit of one letter, and its two links
 // lead on; a name that ends at a token that is spelled otherwise gets a fork of its own there, by a letter that tells
-// the two apart. The forks on a way ask for different bits, so it is no longer than the bits of the names.
+// the two apart. A way begins by a name's length, and its forks ask for different bits: so it is no longer than the
+// bits of the name, or, where the name is very long, than there are such names.
 ghost use mathlib.Core.Path.{_≡_};
 ghost use Prim.Native.Nat.{_/_, _%_, _≤_, _<_};
 ghost use lib.ListN.{length};
 ghost use lib.Seq.{slice};
 ghost use Rattle.language.specs.Sizes.{TABLE};
 ghost use Rattle.tokens.specs.Forks as Forks;
-ghost use Rattle.tokens.specs.Forks.{letter-at, Askable, Seekable, Ends, IsParting, Apart, Forkable, Forked};
-ghost use Rattle.tokens.specs.Forks.{Hangable, Hung, Begun};
+ghost use Rattle.tokens.specs.Forks.{start-at, letter-at, Askable, Seekable, Ends, IsParting, Apart};
+ghost use Rattle.tokens.specs.Forks.{Forkable, Forked, Hangable, Hung, Begun};
 ghost use Rattle.tokens.specs.Shown.{text-of};
 use crate::view::View;
 use crate::view::byte;
 use language::TOKENS;
-use layout::FUNCTIONS_AT;
 use layout::ROWS_AT;
+use layout::memory::clear;
+
+// The first forks ask nothing: each is where the ways of names of one length begin, the last for all that are longer.
+const ROOTS: usize = 256;
 
 // Forks begin where rows do, up to here; a word for each token follows, and then how many forks there are.
-pub const STARTS_AT: usize = 8 * TOKENS;
+pub const STARTS_AT: usize = 8 * TOKENS + 4 * ROOTS;
 
-const FORKS_AT: usize = FUNCTIONS_AT;
+const FORKS_AT: usize = 9 * TOKENS + 4 * ROOTS;
 
-// One fork, at which every way begins. Both its links are token 0, which is to come.
+// The forks at which ways begin. Their links are all token 0, which is to come.
 pub fn begin(table: &mut [u32])
     requires { ⌜ TABLE ≤ length (now table) ⌝ }
     ensures { λ _. ⌜ Begun (now (table .entry)) (now (table .exit)) ⌝ }
 {
-    table[ROWS_AT] = 0;
-    table[ROWS_AT + 1] = 1;
-    table[ROWS_AT + 2] = 0;
-    table[ROWS_AT + 3] = 0;
-    table[FORKS_AT] = 1;
+    clear(table, ROWS_AT, ROWS_AT + 4 * ROOTS);
+    table[FORKS_AT] = ROOTS as u32;
+}
+
+// The word with the link at which the ways of names of so many bytes begin.
+fn start(size: usize) -> usize
+    ensures { λ r. ⌜ r ≡ start-at size ⌝ }
+{
+    if size < ROOTS - 1 {
+        return 4 * (TOKENS + size) + 2;
+    }
+    4 * (TOKENS + (ROOTS - 1)) + 2
 }
 
 // One more than a byte of those from p up to q; 0 past the last.
@@ -81,7 +92,7 @@ pub fn way_end(
     ensures { λ r.
         ⌜ Ends (now (table .entry)) (slice p q (text-of (first .entry) (second .entry) view)) r ⌝ }
 {
-    let mut at = link(first, second, view, table, TOKENS, p, q);
+    let mut at = start(q - p);
     let mut to = table[at] as usize;
     while TOKENS <= to {
         at = link(first, second, view, table, to, p, q);

@@ -1,13 +1,12 @@
 -- `way_end` goes from fork to fork, each behind the one before it.
-use lib.ListN.{getD}
 use lib.Seq.{slice}
 use mathlib.Core.Path.{refl}
 use native.Mathlib.Omega.{arith}
-use Prim.Native.Nat.{_*_, _-_}
-use borrow.Author.Needs.{needs}
-use Rattle.language.specs.Sizes.{TOKENS}
-use Rattle.tokens.proofs.Planting.{Way, first-askable, way-first, link-inside, first-inside, way-askable, next-link, way-less, way-on, way-ends}
+use Prim.Native.Nat.{_-_}
+use Rattle.tokens.proofs.Planting.{Way, way-first, link-inside, first-inside, way-askable, next-link, way-less, way-on, way-ends}
+use Rattle.tokens.specs.Forks.{STARTS-AT}
 use Rattle.tokens.specs.Shown.{shown}
+use borrow.Author.Needs.{needs}
 use Rattle.tokens.proofs.forks.way_end.Statement.{statement}
 use Rattle.tokens.proofs.forks.way_end.Tie as tie
 
@@ -15,46 +14,43 @@ abbrev Inv-loop : tie.InvT-loop
 Inv-loop first second view table count p q at₀ to₀ at to = Way table (slice p q (shown first second view)) at to
 
 abbrev μ-loop : tie.MeasureT-loop
-μ-loop first second view table count p q at₀ to₀ at to = 8 * TOKENS - at
+μ-loop first second view table count p q at₀ to₀ at to = STARTS-AT - at
 
-link-requires : tie.Need-link-requires Inv-loop μ-loop
-link-requires c κs = first-askable (c .before .before .before .pre)
+sub-start : tie.Need-sub-start Inv-loop μ-loop
+sub-start c = search needs
+
+start-requires : tie.Need-start-requires Inv-loop μ-loop
+start-requires c κs = search needs
 
 mul-to : tie.Need-mul-to Inv-loop μ-loop
-mul-to c =
-    let s = c .before .before .before .before in
-    let a = s .args in
-    omega (arith, first-inside (s .pre) (slice (a .p) (a .q) (shown (a .first .now) (a .second .now) (a .view))) (c .link .ensures))
+mul-to c = omega (arith, first-inside (c .before .before .before .before .pre) (c .start .ensures))
 
 shared-slice-read-to : tie.Need-shared-slice-read-to Inv-loop μ-loop
-shared-slice-read-to c = let s = c .before .before .before .before .before in let a = s .args in omega (arith, first-inside (s .pre) (slice (a .p) (a .q) (shown (a .first .now) (a .second .now) (a .view))) (c .before .link .ensures), s .pre .room)
+shared-slice-read-to c = let s = c .before .before .before .before .before in omega (arith, first-inside (s .pre) (c .before .start .ensures), s .pre .room)
 
 cast-to : tie.Need-cast-to Inv-loop μ-loop
-cast-to c = omega (arith, c .shared-slice-known4 .given (c .before .link .result))
+cast-to c = omega (arith, c .shared-slice-known4 .given (c .before .start .result))
 
 loop-holds : tie.Need-loop-holds Inv-loop μ-loop
-loop-holds c = let s = c .before .before .before .before .before in way-first (s .pre) (c .before .link .ensures) refl
+loop-holds c = way-first (c .before .before .before .before .before .pre) (c .before .start .ensures) refl
 
-link-requires-2 : tie.Need-link-requires-2 Inv-loop μ-loop
-link-requires-2 c κs = way-askable (c .before .before .before .before .before .before .before .pre) (c .before .loop .inv) (c .loop-test .taken)
+link-requires : tie.Need-link-requires Inv-loop μ-loop
+link-requires c κs = way-askable (c .before .before .before .before .before .before .before .pre) (c .before .loop .inv) (c .loop-test .taken)
 
 mul-to-2 : tie.Need-mul-to-2 Inv-loop μ-loop
-mul-to-2 c =
-    let l = c .before .before .loop in
-    let s = c .before .before .before .before .before .before .before .before in
-    omega (arith, link-inside (s .pre) (next-link (s .pre) (l .inv) (c .before .loop-test .taken) (c .link2 .ensures)))
+mul-to-2 c = let l = c .before .before .loop in let s = c .before .before .before .before .before .before .before .before in omega (arith, link-inside (s .pre) (next-link (s .pre) (l .inv) (c .before .loop-test .taken) (c .link .ensures)))
 
 shared-slice-read-to-2 : tie.Need-shared-slice-read-to-2 Inv-loop μ-loop
-shared-slice-read-to-2 c = let l = c .before .before .before .loop in let s = c .before .before .before .before .before .before .before .before .before in omega (arith, link-inside (s .pre) (next-link (s .pre) (l .inv) (c .before .before .loop-test .taken) (c .before .link2 .ensures)), s .pre .room)
+shared-slice-read-to-2 c = let l = c .before .before .before .loop in let s = c .before .before .before .before .before .before .before .before .before in omega (arith, link-inside (s .pre) (next-link (s .pre) (l .inv) (c .before .before .loop-test .taken) (c .before .link .ensures)), s .pre .room)
 
 cast-to-2 : tie.Need-cast-to-2 Inv-loop μ-loop
-cast-to-2 c = omega (arith, c .shared-slice-known5 .given (c .before .link2 .result))
+cast-to-2 c = omega (arith, c .shared-slice-known5 .given (c .before .link .result))
 
 loop-less : tie.Need-loop-less Inv-loop μ-loop
-loop-less c = let l = c .before .before .before .loop in let s = c .before .before .before .before .before .before .before .before .before in way-less (s .pre) (l .inv) (c .before .before .loop-test .taken) (c .before .link2 .ensures)
+loop-less c = let l = c .before .before .before .loop in let s = c .before .before .before .before .before .before .before .before .before in way-less (s .pre) (l .inv) (c .before .before .loop-test .taken) (c .before .link .ensures)
 
 loop-again : tie.Need-loop-again Inv-loop μ-loop
-loop-again c = let l = c .before .before .before .loop in let s = c .before .before .before .before .before .before .before .before .before in way-on (s .pre) (l .inv) (c .before .before .loop-test .taken) (c .before .link2 .ensures) refl
+loop-again c = let l = c .before .before .before .loop in let s = c .before .before .before .before .before .before .before .before .before in way-on (s .pre) (l .inv) (c .before .before .loop-test .taken) (c .before .link .ensures) refl
 
 returns : tie.Need-returns Inv-loop μ-loop
 returns c = way-ends (c .before .before .before .before .before .before .before .pre) (c .before .loop .inv) (c .loop-test .left)
@@ -65,12 +61,13 @@ way-end-spec =
     (tie.spec
     Inv-loop
     μ-loop
-    link-requires
+    sub-start
+    start-requires
     mul-to
     shared-slice-read-to
     cast-to
     loop-holds
-    link-requires-2
+    link-requires
     mul-to-2
     shared-slice-read-to-2
     cast-to-2
