@@ -20,8 +20,8 @@ pub record ButRows (v w : List ℕ) : Type 0 where
   pub long : length v ≡ length w
   pub words : (i : ℕ) → (ROWS-AT ≤ i → i < VARIABLES-AT → ⊥) → getD v i 0 ≡ getD w i 0
 
--- Fork f, from TOKENS on, has four words where token f would have them: a place, a bit, and two links. The first of them
--- ask nothing: at the first link of each begins a way, for the spellings of one length, and those that are longer.
+-- Fork f, from TOKENS on, has four words where token f would have them: a place, a bit, and two links. The first of
+-- them ask nothing: at the first link of each begins a way, for the spellings of one length, and those that are longer.
 abbrev pub ROOTS : ℕ
 ROOTS = 256
 

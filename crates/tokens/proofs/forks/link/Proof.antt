@@ -52,7 +52,9 @@ add-result-2 c = search needs
 
 returns : tie.Need-returns
 unfolding turn
-returns c = let s = c .before .before .before .before .before .before in let a = s .args in ap (λ (x : ℕ). 4 * a .fork + 2 + (x / getD (a .table .now) (4 * a .fork + 1) 0) % 2) (c .letter .ensures .0)
+returns c =
+    let here = c .before .before .before .before .before .before in
+    let s = here in let a = s .args in ap (λ (x : ℕ). 4 * a .fork + 2 + (x / getD (a .table .now) (4 * a .fork + 1) 0) % 2) (c .letter .ensures .0)
 
 pub link-spec : {M : Type 1} → statement M
 link-spec =
