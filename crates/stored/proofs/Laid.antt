@@ -97,7 +97,8 @@ module _ {voc : Vocabulary} (laws : Laws voc) {t : List ℕ} {n : ℕ} {ts : Lis
     end-is i h =
         let z = lay-holds ts w₀ room i h in
         let e = lone-place laws (lone-at laws (g .tokens) i h) in
-        ap (λ (x : ℕ). x / SPANS) (laid .words (4 * i + 1) (λ a b. omega arith)) ∙ end-held z (omega arith) ∙ rw e (zero-add (length (getD ts i past .spelling)))
+        ap (λ (x : ℕ). x / SPANS) (laid .words (4 * i + 1) (λ a b. omega arith)) ∙ end-held z (omega arith) ∙ rw e
+        (zero-add (length (getD ts i past .spelling)))
 
     -- so where its line begins
     pub from-is : (i : ℕ) → i ≤ length ts → line-from w i ≡ 5 + (spelled-bytes (take i ts) * 2 + i)

@@ -26,7 +26,8 @@ pub record Written (t w v : List ℕ) (count kind worth p q : ℕ) : Type 0 wher
   pub is : TableWorth t w count kind p q worth worth-there
   pub grown : List ℕ
   pub forks : Foretold (digits-of t w) w grown count kind (slice p q t)
-  pub table : v ≡ put-token (set grown (STARTS-AT + count) p) count kind 0 ((q - p) / 2) (worth-there / HALF) (worth-there % HALF)
+  pub table : v
+      ≡ put-token (set grown (STARTS-AT + count) p) count kind 0 ((q - p) / 2) (worth-there / HALF) (worth-there % HALF)
 
 pub record Kept (t w v : List ℕ) (count bytes kind worth p q : ℕ) : Type 0 where
   pub written : count < TOKENS → bytes ≤ SOURCE → Written t w v count kind worth p q

@@ -20,13 +20,13 @@ pub record ButRows (v w : List ℕ) : Type 0 where
   pub long : length v ≡ length w
   pub words : (i : ℕ) → (ROWS-AT ≤ i → i < VARIABLES-AT → ⊥) → getD v i 0 ≡ getD w i 0
 
--- Fork f, from TOKENS on, has four words where token f would have them: a place, a bit, and two links. The first of them
--- ask nothing: at the first link of each begins a way, for the spellings of one length, and those that are longer.
+-- Fork f, from TOKENS on, has four words where token f would have them: a place, a bit, and two links. The first forks
+-- ask nothing: at the first link of each begin the ways of the spellings of one length, at the last also of longer ones.
 abbrev pub ROOTS : ℕ
 ROOTS = 256
 
--- Behind the forks is a word for each token, for whoever has to know where its spelling stands, and then how many forks
--- there are.
+-- Behind the forks is a word for each token, for whoever has to know where its spelling stands, and then the number of
+-- forks.
 abbrev pub STARTS-AT : ℕ
 STARTS-AT = 8 * TOKENS + 4 * ROOTS
 

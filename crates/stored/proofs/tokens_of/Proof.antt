@@ -95,7 +95,10 @@ add-t23 c =
     omega (arith, at-loop .loop .inv .here, at-loop .loop .inv .inside, start .good)
 
 same-length : tie.Need-same-length Inv-loop μ-loop
-same-length c = reached-length (c .before .before .before .before .before .before .before .before .begin .ensures .rest) (c .before .before .before .before .before .loop .inv)
+same-length c =
+    let at-loop = c .before .before .before .before .before in
+    let at-begin = at-loop .before .before .before in
+    reached-length (at-begin .begin .ensures .rest) (at-loop .loop .inv)
 
 returns : tie.Need-returns Inv-loop μ-loop
 returns c =
@@ -111,19 +114,27 @@ same-length-2 : tie.Need-same-length-2 Inv-loop μ-loop
 same-length-2 c = reached-length (c .before .before .before .before .before .begin .ensures .rest) (c .before .before .loop .inv)
 
 returns-2 : tie.Need-returns-2 Inv-loop μ-loop
-returns-2 c = reached-miscounted (c .before .before .before .before .before .begin .ensures .rest) (c .before .before .loop .inv) (c .before .loop-test .left) (c .if1 .taken)
+returns-2 c =
+    let at-begin = c .before .before .before .before .before in
+    reached-miscounted (at-begin .begin .ensures .rest) (c .before .before .loop .inv) (c .before .loop-test .left) (c .if1 .taken)
 
 same-length-3 : tie.Need-same-length-3 Inv-loop μ-loop
 same-length-3 c = reached-length (c .before .before .before .before .before .before .begin .ensures .rest) (c .before .before .before .loop .inv)
 
 returns-3 : tie.Need-returns-3 Inv-loop μ-loop
-returns-3 c = reached-long (c .before .before .before .before .before .before .begin .ensures .rest) (c .before .before .before .loop .inv) (c .before .before .loop-test .left) (c .before .if1 .left) (c .if2 .taken)
+returns-3 c =
+    let at-loop = c .before .before .before in
+    let at-begin = at-loop .before .before .before in
+    reached-long (at-begin .begin .ensures .rest) (at-loop .loop .inv) (c .before .before .loop-test .left) (c .before .if1 .left) (c .if2 .taken)
 
 same-length-4 : tie.Need-same-length-4 Inv-loop μ-loop
 same-length-4 c = reached-length (c .before .before .before .before .before .before .begin .ensures .rest) (c .before .before .before .loop .inv)
 
 returns-4 : tie.Need-returns-4 Inv-loop μ-loop
-returns-4 c = reached-whole (c .before .before .before .before .before .before .begin .ensures .rest) (c .before .before .before .loop .inv) (c .before .before .loop-test .left) (c .before .if1 .left) (c .if2 .left)
+returns-4 c =
+    let at-loop = c .before .before .before in
+    let at-begin = at-loop .before .before .before in
+    reached-whole (at-begin .begin .ensures .rest) (at-loop .loop .inv) (c .before .before .loop-test .left) (c .before .if1 .left) (c .if2 .left)
 
 pub tokens-of-spec : {M : Type 1} → statement M
 tokens-of-spec =

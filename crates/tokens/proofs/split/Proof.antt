@@ -29,15 +29,25 @@ abbrev μ-loop : tie.MeasureT-loop
 
 -- the text, from the loop's head
 abbrev text : tie.At-loop Inv-loop μ-loop → List ℕ
-text h = let a = h .before .before .before .before .before .before .before .before .before .before .args in shown (a .first .now) (a .second .now) (a .view)
+text h =
+    let earlier = h .before .before .before .before .before .before .before in
+    let start = earlier .before .before .before in
+    let a = start .args in
+    shown (a .first .now) (a .second .now) (a .view)
 
 -- the words and marks
 abbrev voc : tie.At-loop Inv-loop μ-loop → Vocabulary
-voc h = meant (h .before .before .before .before .before .before .before .before .before .before .args .edition)
+voc h =
+    let earlier = h .before .before .before .before .before .before .before in
+    let start = earlier .before .before .before in
+    meant (start .args .edition)
 
 -- it is not too long
 short : (h : tie.At-loop Inv-loop μ-loop) → length (text h) ≤ SOURCE
-short h = subst (λ n. n ≤ SOURCE) (h .before .before .before .before .before .before .len .ensures) (h .before .before .before .before .before .if1 .left)
+short h =
+    let at-if1 = h .before .before .before .before .before in
+    let at-len = at-if1 .before in
+    subst (λ n. n ≤ SOURCE) (at-len .len .ensures) (at-if1 .if1 .left)
 
 -- the token that stands there: its kind, its end and what it is worth
 abbrev Held : tie.After-kind Inv-loop μ-loop → Type 0
@@ -67,12 +77,16 @@ begin-requires c κs = c .before .before .before .before .before .before .pre
 
 loop-holds : tie.Need-loop-holds Inv-loop μ-loop
 loop-holds c =
-    let a = c .before .before .before .before .before .before .before .before .before .args in
-    reached-none (shown (a .first .now) (a .second .now) (a .view)) _ (omega (arith, c .before .before .begin .ensures .rest .long, c .before .before .before .before .before .before .before .before .before .pre))
+    let earlier = c .before .before .before .before .before .before .before in
+    let start = earlier .before .before in
+    let a = start .args in
+    reached-none (shown (a .first .now) (a .second .now) (a .view)) _ (omega (arith, c .before .before .begin .ensures .rest .long, start .pre))
     (c .before .before .begin .ensures .shape)
 
 piece-at-requires : tie.Need-piece-at-requires Inv-loop μ-loop
-piece-at-requires c κs = subst (λ n. c .before .loop .at < n) (c .before .before .before .before .before .before .before .len .ensures) (c .loop-test .taken)
+piece-at-requires c κs =
+    let at-len = c .before .before .before .before .before .before .before in
+    subst (λ n. c .before .loop .at < n) (at-len .len .ensures) (c .loop-test .taken)
 
 enum-known-end : tie.Need-enum-known-end Inv-loop μ-loop
 enum-known-end c = search needs
@@ -99,7 +113,10 @@ enum-known-kind : tie.Need-enum-known-kind Inv-loop μ-loop
 enum-known-kind c = search needs
 
 same-length : tie.Need-same-length Inv-loop μ-loop
-same-length c = reached-length (c .before .before .before .before .before .before .loop .inv) ∙ c .before .before .before .before .before .before .before .before .before .begin .ensures .rest .long
+same-length c =
+    let at-loop = c .before .before .before .before .before .before in
+    let at-begin = at-loop .before .before .before in
+    reached-length (at-loop .loop .inv) ∙ at-begin .begin .ensures .rest .long
 
 returns-2 : tie.Need-returns-2 Inv-loop μ-loop
 returns-2 c =
@@ -124,30 +141,49 @@ low-requires : tie.Need-low-requires Inv-loop μ-loop
 low-requires c κs = search needs
 
 cast-put : tie.Need-cast-put Inv-loop μ-loop
-cast-put c = let k = c .before .before .before .before .before .before .before .before .before in omega (arith, bounds k, short (k .before .before .before .before))
+cast-put c =
+    let earlier = c .before .before .before .before .before .before .before in
+    let here = earlier .before .before in
+    let k = here in
+    omega (arith, bounds k, short (k .before .before .before .before))
 
 cast-put-2 : tie.Need-cast-put-2 Inv-loop μ-loop
-cast-put-2 c = let k = c .before .before .before .before .before .before .before .before .before in omega (arith, bounds k .1, short (k .before .before .before .before))
+cast-put-2 c =
+    let earlier = c .before .before .before .before .before .before .before in
+    let here = earlier .before .before in
+    let k = here in
+    omega (arith, bounds k .1, short (k .before .before .before .before))
 
 put-requires : tie.Need-put-requires Inv-loop μ-loop
 put-requires c κs =
-    let k = c .before .before .before .before .before .before .before .before .before in
+    let at-table-worth = c .before .before .before .before .before in
+    let at-if2 = at-table-worth .before .before in
+    let here = at-if2 .before .before in
+    let k = here in
     let h = k .before .before .before .before in
     let l = h .loop in
     let small = short h in
     let b = bounds k in
-    let long = foretold-rest (c .before .before .before .before .before .table-worth .ensures .1) .long in (
+    let long = foretold-rest (at-table-worth .table-worth .ensures .1) .long in (
       omega (arith, long, reached-length (l .inv), l .inv .room),
-      omega (arith, l .inv .few, c .before .before .before .before .before .before .before .if2 .left),
+      omega (arith, l .inv .few, at-if2 .if2 .left),
       omega (arith, b .0, b .1),
       omega (arith, b .1),
     )
 
 add-count : tie.Need-add-count Inv-loop μ-loop
-add-count c = let k = c .before .before .before .before .before .before .before .before .before .before .before .before in omega (arith, k .before .before .before .before .loop .inv .few)
+add-count c =
+    let earlier = c .before .before .before .before .before .before .before in
+    let here = earlier .before .before .before .before .before in
+    let k = here in
+    omega (arith, k .before .before .before .before .loop .inv .few)
 
 loop-less-2 : tie.Need-loop-less-2 Inv-loop μ-loop
-loop-less-2 c = let k = c .before .before .before .before .before .before .before .before .before .before .before .before in omega (arith, bounds k .0, k .before .before .before .loop-test .taken)
+loop-less-2 c =
+    let earlier = c .before .before .before .before .before .before .before in
+    let here = earlier .before .before .before .before .before in
+    let k = here in
+    omega (arith, bounds k .0, k .before .before .before .loop-test .taken)
 
 loop-again-2 : tie.Need-loop-again-2 Inv-loop μ-loop
 loop-again-2 c =
@@ -166,7 +202,10 @@ enum-known-flaw : tie.Need-enum-known-flaw Inv-loop μ-loop
 enum-known-flaw c = search needs
 
 same-length-2 : tie.Need-same-length-2 Inv-loop μ-loop
-same-length-2 c = reached-length (c .before .before .before .before .before .loop .inv) ∙ c .before .before .before .before .before .before .before .before .begin .ensures .rest .long
+same-length-2 c =
+    let at-loop = c .before .before .before .before .before in
+    let at-begin = at-loop .before .before .before in
+    reached-length (at-loop .loop .inv) ∙ at-begin .begin .ensures .rest .long
 
 returns-3 : tie.Need-returns-3 Inv-loop μ-loop
 returns-3 c =

@@ -34,7 +34,9 @@ slice-read-from : tie.Need-slice-read-from
 slice-read-from c = search needs
 
 cast-from : tie.Need-cast-from
-cast-from c = let s = c .before .before .before .before .before .before .before in omega (arith, c .slice-known3 .given (STARTS-AT + getD (s .args .table .now) (c .before .before .way-end .result) 0))
+cast-from c =
+    let s = c .before .before .before .before .before .before .before in
+    omega (arith, c .slice-known3 .given (STARTS-AT + getD (s .args .table .now) (c .before .before .way-end .result) 0))
 
 end-requires : tie.Need-end-requires
 end-requires c κs = search needs
@@ -46,22 +48,52 @@ mul-to : tie.Need-mul-to
 mul-to c = search needs
 
 add-to : tie.Need-add-to
-add-to c = let s = c .before .before .before .before .before .before .before .before .before in let end = c .before .before .before .before .way-end .ensures in let some : 0 < s .args .count = omega (arith, c .before .before .before .before .before .before .if1 .left) in omega (arith, line-near (s .pre) end some refl refl (c .end .ensures), s .pre .near)
+add-to c =
+    let at-way-end = c .before .before .before .before in
+    let at-if1 = at-way-end .before .before in
+    let s = at-if1 .before .before .before in
+    let end = at-way-end .way-end .ensures in
+    let some : 0 < s .args .count = omega (arith, at-if1 .if1 .left) in
+    omega (arith, line-near (s .pre) end some refl refl (c .end .ensures), s .pre .near)
 
 hang-requires : tie.Need-hang-requires
-hang-requires c κs = let s = c .before .before .before .before .before .before .before .before .before .before in let end = c .before .before .before .before .before .way-end .ensures in let some : 0 < s .args .count = omega (arith, c .before .before .before .before .before .before .before .if1 .left) in hangable (s .pre) end some refl refl (c .before .end .ensures) refl
+hang-requires c κs =
+    let at-way-end = c .before .before .before .before .before in
+    let at-if1 = at-way-end .before .before in
+    let s = at-if1 .before .before .before in
+    let end = at-way-end .way-end .ensures in
+    let some : 0 < s .args .count = omega (arith, at-if1 .if1 .left) in
+    hangable (s .pre) end some refl refl (c .before .end .ensures) refl
 
 same-length : tie.Need-same-length
 same-length c = search needs
 
 returns-2 : tie.Need-returns-2
-returns-2 c = let s = c .before .before .before .before .before .before .before .before .before .before .before .before .before .before in let end = c .before .before .before .before .before .before .before .before .before .way-end .ensures in let some : 0 < s .args .count = omega (arith, c .before .before .before .before .before .before .before .before .before .before .before .if1 .left) in hung-found (s .pre) end some refl refl (c .before .before .before .before .before .end .ensures) refl (c .before .before .before .hang .ensures) (c .if2 .taken)
+returns-2 c =
+    let at-hang = c .before .before .before in
+    let at-end = at-hang .before .before in
+    let at-way-end = at-end .before .before .before .before in
+    let at-if1 = at-way-end .before .before in
+    let s = at-if1 .before .before .before in
+    let end = at-way-end .way-end .ensures in
+    let some : 0 < s .args .count = omega (arith, at-if1 .if1 .left) in
+    hung-found (s .pre) end some refl refl (at-end .end .ensures) refl
+    (at-hang .hang .ensures) (c .if2 .taken)
 
 same-length-2 : tie.Need-same-length-2
 same-length-2 c = search needs
 
 returns-3 : tie.Need-returns-3
-returns-3 c = let s = c .before .before .before .before .before .before .before .before .before .before .before .before .before .before in let end = c .before .before .before .before .before .before .before .before .before .way-end .ensures in let some : 0 < s .args .count = omega (arith, c .before .before .before .before .before .before .before .before .before .before .before .if1 .left) in hung-none (s .pre) end some refl refl (c .before .before .before .before .before .end .ensures) refl (c .before .before .before .hang .ensures) (c .if2 .left)
+returns-3 c =
+    let at-hang = c .before .before .before in
+    let at-end = at-hang .before .before in
+    let at-way-end = at-end .before .before .before .before in
+    let at-if1 = at-way-end .before .before in
+    let s = at-if1 .before .before .before in
+    let end = at-way-end .way-end .ensures in
+    let some : 0 < s .args .count = omega (arith, at-if1 .if1 .left) in
+    hung-none (s .pre) end some refl refl (at-end .end .ensures) refl
+    (at-hang .hang .ensures) (c .if2 .left)
 
 pub first-alike-spec : {M : Type 1} → statement M
 first-alike-spec =

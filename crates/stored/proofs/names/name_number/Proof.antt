@@ -22,7 +22,13 @@ same-length : tie.Need-same-length
 same-length c = c .before .before .before .before .before .before .first-alike .ensures .1 .rest .long
 
 returns : tie.Need-returns
-returns c = let a = c .before .before .before .before .before .before .before .before .before .before .args in let told-so = putchar-told (told (slice (a .p) (a .q) (a .stored .now))) (c .before .before .before .len .ensures) (c .before .spells .ensures) (c .if1 .taken) in (numbered-putchar told-so, c .before .before .before .before .before .before .first-alike .ensures .1)
+returns c =
+    let at-len = c .before .before .before in
+    let at-first-alike = at-len .before .before .before in
+    let start = at-first-alike .before .before .before .before in
+    let a = start .args in
+    let told-so = putchar-told (told (slice (a .p) (a .q) (a .stored .now))) (at-len .len .ensures) (c .before .spells .ensures) (c .if1 .taken) in
+    (numbered-putchar told-so, at-first-alike .first-alike .ensures .1)
 
 cast-result : tie.Need-cast-result
 cast-result c = search needs
@@ -31,7 +37,13 @@ same-length-2 : tie.Need-same-length-2
 same-length-2 c = c .before .before .before .before .before .before .first-alike .ensures .1 .rest .long
 
 returns-2 : tie.Need-returns-2
-returns-2 c = let a = c .before .before .before .before .before .before .before .before .before .before .args in let told-so = putchar-told (told (slice (a .p) (a .q) (a .stored .now))) (c .before .before .before .len .ensures) (c .before .spells .ensures) (c .if1 .left) in (numbered-first told-so (c .before .before .before .before .before .before .first-alike .ensures .0), c .before .before .before .before .before .before .first-alike .ensures .1)
+returns-2 c =
+    let at-len = c .before .before .before in
+    let at-first-alike = at-len .before .before .before in
+    let start = at-first-alike .before .before .before .before in
+    let a = start .args in
+    let told-so = putchar-told (told (slice (a .p) (a .q) (a .stored .now))) (at-len .len .ensures) (c .before .spells .ensures) (c .if1 .left) in
+    (numbered-first told-so (at-first-alike .first-alike .ensures .0), at-first-alike .first-alike .ensures .1)
 
 pub name-number-spec : {M : Type 1} → statement M
 name-number-spec =

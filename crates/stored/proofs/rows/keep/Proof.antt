@@ -26,7 +26,11 @@ sub-size : tie.Need-sub-size
 sub-size c = search needs
 
 cast-table : tie.Need-cast-table
-cast-table c = omega (arith, c .before .before .before .before .before .before .before .before .before .before .pre .near (c .before .before .before .before .before .before .before .if1 .left) (c .before .before .before .before .before .before .if2 .left))
+cast-table c =
+    let at-if2 = c .before .before .before .before .before .before in
+    let at-if1 = at-if2 .before in
+    let start = at-if1 .before .before .before in
+    omega (arith, start .pre .near (at-if1 .if1 .left) (at-if2 .if2 .left))
 
 add-table : tie.Need-add-table
 add-table c = search needs
@@ -35,19 +39,40 @@ mul-table : tie.Need-mul-table
 mul-table c = search needs
 
 slice-write-table : tie.Need-slice-write-table
-slice-write-table c = omega (arith, foretold-rest (c .before .before .before .before .table-worth .ensures .1) .long, c .before .before .before .before .before .before .before .before .before .before .pre .room, c .before .before .before .before .before .before .before .if1 .left)
+slice-write-table c =
+    let at-table-worth = c .before .before .before .before in
+    let at-if1 = at-table-worth .before .before .before in
+    let start = at-if1 .before .before .before in
+    omega (arith, foretold-rest (at-table-worth .table-worth .ensures .1) .long, start .pre .room, at-if1 .if1 .left)
 
 cast-put : tie.Need-cast-put
 cast-put c = search needs
 
 put-requires : tie.Need-put-requires
-put-requires c κs = let s = c .before .before .before .before .before .before .before .before .before .before .before .pre in let long = foretold-rest (c .before .before .before .before .before .table-worth .ensures .1) .long in (simp length-set (omega (arith, long, s .room)), c .before .before .before .before .before .before .before .before .if1 .left, omega arith, omega (arith, s .some, c .before .before .before .before .before .before .before .if2 .left))
+put-requires c κs =
+    let at-table-worth = c .before .before .before .before .before in
+    let at-if2 = at-table-worth .before .before in
+    let at-if1 = at-if2 .before in
+    let start = at-if1 .before .before .before in
+    let s = start .pre in
+    let long = foretold-rest (at-table-worth .table-worth .ensures .1) .long in
+    (simp length-set (omega (arith, long, s .room)), at-if1 .if1 .left, omega arith, omega (arith, s .some, at-if2 .if2 .left))
 
 same-length : tie.Need-same-length
-same-length c = kept-long-table _ _ _ _ _ _ _ _ (foretold-rest (c .before .before .before .before .before .before .before .before .table-worth .ensures .1)) (c .before .before .put .ensures)
+same-length c =
+    let earlier = c .before .before .before .before .before .before .before in
+    let at-table-worth = earlier .before in
+    kept-long-table _ _ _ _ _ _ _ _ (foretold-rest (at-table-worth .table-worth .ensures .1)) (c .before .before .put .ensures)
 
 returns-3 : tie.Need-returns-3
-returns-3 c = kept-written (c .before .before .before .before .before .before .before .before .before .before .before .if1 .left) (c .before .before .before .before .before .before .before .before .before .before .if2 .left) (c .before .before .before .before .before .before .before .before .table-worth .ensures .0) (c .before .before .before .before .before .before .before .before .table-worth .ensures .1) (c .before .before .before .before .before .high .ensures) (c .before .before .before .before .low .ensures) (c .before .before .put .ensures)
+returns-3 c =
+    let at-low = c .before .before .before .before in
+    let at-high = at-low .before in
+    let at-table-worth = at-high .before .before .before in
+    let at-if2 = at-table-worth .before .before in
+    let at-if1 = at-if2 .before in
+    kept-written (at-if1 .if1 .left) (at-if2 .if2 .left) (at-table-worth .table-worth .ensures .0) (at-table-worth .table-worth .ensures .1)
+    (at-high .high .ensures) (at-low .low .ensures) (c .before .before .put .ensures)
 
 pub keep-spec : {M : Type 1} → statement M
 keep-spec =

@@ -53,7 +53,10 @@ mul-table-4 : tie.Need-mul-table-4
 mul-table-4 c = search needs
 
 slice-write-table-2 : tie.Need-slice-write-table-2
-slice-write-table-2 c = let s = c .before .before .before .before in let few = s .pre .shape .few in simp length-set (omega arith)
+slice-write-table-2 c =
+    let s = c .before .before .before .before in
+    let few = s .pre .shape .few in
+    simp length-set (omega arith)
 
 mul-table-5 : tie.Need-mul-table-5
 mul-table-5 c = search needs
@@ -68,7 +71,10 @@ mul-table-6 : tie.Need-mul-table-6
 mul-table-6 c = search needs
 
 slice-write-table-3 : tie.Need-slice-write-table-3
-slice-write-table-3 c = let s = c .before .before .before .before in let few = s .pre .shape .few in simp length-set (omega arith)
+slice-write-table-3 c =
+    let s = c .before .before .before .before in
+    let few = s .pre .shape .few in
+    simp length-set (omega arith)
 
 cast-table-2 : tie.Need-cast-table-2
 cast-table-2 c = search needs
@@ -86,7 +92,10 @@ mul-table-8 : tie.Need-mul-table-8
 mul-table-8 c = search needs
 
 slice-write-table-4 : tie.Need-slice-write-table-4
-slice-write-table-4 c = let s = c .before .before .before .before in let few = s .pre .shape .few in simp length-set (omega arith)
+slice-write-table-4 c =
+    let s = c .before .before .before .before in
+    let few = s .pre .shape .few in
+    simp length-set (omega arith)
 
 cast-table-3 : tie.Need-cast-table-3
 cast-table-3 c = search needs
@@ -95,13 +104,19 @@ mul-table-9 : tie.Need-mul-table-9
 mul-table-9 c = search needs
 
 slice-write-table-5 : tie.Need-slice-write-table-5
-slice-write-table-5 c = let s = c .before .before .before .before in let few = s .pre .shape .few in simp length-set (omega arith)
+slice-write-table-5 c =
+    let s = c .before .before .before .before in
+    let few = s .pre .shape .few in
+    simp length-set (omega arith)
 
 add-table-5 : tie.Need-add-table-5
 add-table-5 c = search needs
 
 slice-write-table-6 : tie.Need-slice-write-table-6
-slice-write-table-6 c = let s = c .before .before .before .before in let few = s .pre .shape .few in simp length-set (omega arith)
+slice-write-table-6 c =
+    let s = c .before .before .before .before in
+    let few = s .pre .shape .few in
+    simp length-set (omega arith)
 
 same-length : tie.Need-same-length
 same-length c = simp length-set

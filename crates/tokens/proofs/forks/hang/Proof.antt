@@ -21,19 +21,44 @@ letter-requires : tie.Need-letter-requires
 letter-requires c κs = let k = c .before .before .before .before .before .before .before .pre in (k .order, k .inside)
 
 letter-requires-2 : tie.Need-letter-requires-2
-letter-requires-2 c κs = let k = c .before .before .before .before .before .before .before .before .pre in (k .order-new, k .inside-new)
+letter-requires-2 c κs =
+    let earlier = c .before .before .before .before .before .before .before in
+    let start = earlier .before in
+    let k = start .pre in
+    (k .order-new, k .inside-new)
 
 fork-requires : tie.Need-fork-requires
-fork-requires c κs = let s = c .before .before .before .before .before .before .before .before .before .before in let a = s .args in let t = shown (a .first .now) (a .second .now) (a .view) in let x = subst (IsParting (slice (a .a) (a .b) t) (slice (a .p) (a .q) t)) (c .before .before .before .before .i .given .1) (c .before .before .before .before .before .before .compare .ensures) in forkable (s .pre) x (c .before .before .letter .ensures .0) (c .before .before .letter .ensures .1) (c .before .letter2 .ensures .0) (c .before .letter2 .ensures .1)
+fork-requires c κs =
+    let at-i = c .before .before .before .before in
+    let at-compare = at-i .before .before in
+    let s = at-compare .before .before .before .before in
+    let a = s .args in
+    let t = shown (a .first .now) (a .second .now) (a .view) in
+    let x = subst (IsParting (slice (a .a) (a .b) t) (slice (a .p) (a .q) t)) (at-i .i .given .1) (at-compare .compare .ensures) in
+    forkable (s .pre) x (c .before .before .letter .ensures .0) (c .before .before .letter .ensures .1) (c .before .letter2 .ensures .0)
+    (c .before .letter2 .ensures .1)
 
 returns : tie.Need-returns
-returns c = let s = c .before .before .before .before .before .before in let a = s .args in let t = shown (a .first .now) (a .second .now) (a .view) in hung-same (subst (IsParting (slice (a .a) (a .b) t) (slice (a .p) (a .q) t)) (c .enum-told .given .1) (c .before .before .compare .ensures))
+returns c =
+    let s = c .before .before .before .before .before .before in
+    let a = s .args in
+    let t = shown (a .first .now) (a .second .now) (a .view) in
+    hung-same (subst (IsParting (slice (a .a) (a .b) t) (slice (a .p) (a .q) t)) (c .enum-told .given .1) (c .before .before .compare .ensures))
 
 same-length : tie.Need-same-length
 same-length c = search needs
 
 returns-2 : tie.Need-returns-2
-returns-2 c = let s = c .before .before .before .before .before .before .before .before .before .before .before .before .before in let a = s .args in let t = shown (a .first .now) (a .second .now) (a .view) in let x = subst (IsParting (slice (a .a) (a .b) t) (slice (a .p) (a .q) t)) (c .before .before .before .before .before .before .before .i .given .1) (c .before .before .before .before .before .before .before .before .before .compare .ensures) in hung-fork x (c .before .before .before .before .before .letter .ensures .0) (c .before .before .before .before .letter2 .ensures .0) (c .before .before .fork .ensures)
+returns-2 c =
+    let at-letter2 = c .before .before .before .before in
+    let at-letter = at-letter2 .before in
+    let at-i = at-letter .before .before in
+    let at-compare = at-i .before .before in
+    let s = at-compare .before .before .before .before in
+    let a = s .args in
+    let t = shown (a .first .now) (a .second .now) (a .view) in
+    let x = subst (IsParting (slice (a .a) (a .b) t) (slice (a .p) (a .q) t)) (at-i .i .given .1) (at-compare .compare .ensures) in
+    hung-fork x (at-letter .letter .ensures .0) (at-letter2 .letter2 .ensures .0) (c .before .before .fork .ensures)
 
 pub hang-spec : {M : Type 1} → statement M
 hang-spec =

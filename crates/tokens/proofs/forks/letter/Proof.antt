@@ -10,7 +10,11 @@ sub-if1 : tie.Need-sub-if1
 sub-if1 c = search needs
 
 returns : tie.Need-returns
-returns c = let s = c .before .before .before in let a = s .args in let t = shown (a .first .now) (a .second .now) (a .view) in (letter-none t (a .p) (a .q) (a .i) (s .pre .1) (c .if1 .taken), omega arith)
+returns c =
+    let s = c .before .before .before in
+    let a = s .args in
+    let t = shown (a .first .now) (a .second .now) (a .view) in
+    (letter-none t (a .p) (a .q) (a .i) (s .pre .1) (c .if1 .taken), omega arith)
 
 add-byte : tie.Need-add-byte
 add-byte c = search needs
@@ -25,7 +29,11 @@ add-result : tie.Need-add-result
 add-result c = search needs
 
 returns-2 : tie.Need-returns-2
-returns-2 c = let s = c .before .before .before .before in let a = s .args in let t = shown (a .first .now) (a .second .now) (a .view) in (letter-some t (a .p) (a .q) (a .i) (s .pre .1) (c .before .if1 .left) (c .byte .ensures), omega arith)
+returns-2 c =
+    let s = c .before .before .before .before in
+    let a = s .args in
+    let t = shown (a .first .now) (a .second .now) (a .view) in
+    (letter-some t (a .p) (a .q) (a .i) (s .pre .1) (c .before .if1 .left) (c .byte .ensures), omega arith)
 
 pub letter-spec : {M : Type 1} → statement M
 letter-spec =

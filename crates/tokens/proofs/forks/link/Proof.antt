@@ -18,7 +18,9 @@ shared-slice-read-place : tie.Need-shared-slice-read-place
 shared-slice-read-place c = search needs
 
 cast-place : tie.Need-cast-place
-cast-place c = let s = c .before .before .before .before in omega (arith, c .shared-slice-known4 .given (4 * s .args .fork))
+cast-place c =
+    let s = c .before .before .before .before in
+    omega (arith, c .shared-slice-known4 .given (4 * s .args .fork))
 
 mul-bit : tie.Need-mul-bit
 mul-bit c = search needs
@@ -52,7 +54,10 @@ add-result-2 c = search needs
 
 returns : tie.Need-returns
 unfolding turn
-returns c = let s = c .before .before .before .before .before .before in let a = s .args in ap (λ (x : ℕ). 4 * a .fork + 2 + (x / getD (a .table .now) (4 * a .fork + 1) 0) % 2) (c .letter .ensures .0)
+returns c =
+    let s = c .before .before .before .before .before .before in
+    let a = s .args in
+    ap (λ (x : ℕ). 4 * a .fork + 2 + (x / getD (a .table .now) (4 * a .fork + 1) 0) % 2) (c .letter .ensures .0)
 
 pub link-spec : {M : Type 1} → statement M
 link-spec =

@@ -26,7 +26,9 @@ mul-to : tie.Need-mul-to Inv-loop μ-loop
 mul-to c = omega (arith, first-inside (c .before .before .before .before .pre) (c .start .ensures))
 
 shared-slice-read-to : tie.Need-shared-slice-read-to Inv-loop μ-loop
-shared-slice-read-to c = let s = c .before .before .before .before .before in omega (arith, first-inside (s .pre) (c .before .start .ensures), s .pre .room)
+shared-slice-read-to c =
+    let s = c .before .before .before .before .before in
+    omega (arith, first-inside (s .pre) (c .before .start .ensures), s .pre .room)
 
 cast-to : tie.Need-cast-to Inv-loop μ-loop
 cast-to c = omega (arith, c .shared-slice-known4 .given (c .before .start .result))
@@ -38,19 +40,35 @@ link-requires : tie.Need-link-requires Inv-loop μ-loop
 link-requires c κs = way-askable (c .before .before .before .before .before .before .before .pre) (c .before .loop .inv) (c .loop-test .taken)
 
 mul-to-2 : tie.Need-mul-to-2 Inv-loop μ-loop
-mul-to-2 c = let l = c .before .before .loop in let s = c .before .before .before .before .before .before .before .before in omega (arith, link-inside (s .pre) (next-link (s .pre) (l .inv) (c .before .loop-test .taken) (c .link .ensures)))
+mul-to-2 c =
+    let earlier = c .before .before .before .before .before .before .before in
+    let here = earlier .before in
+    let l = c .before .before .loop in
+    let s = here in
+    omega (arith, link-inside (s .pre) (next-link (s .pre) (l .inv) (c .before .loop-test .taken) (c .link .ensures)))
 
 shared-slice-read-to-2 : tie.Need-shared-slice-read-to-2 Inv-loop μ-loop
-shared-slice-read-to-2 c = let l = c .before .before .before .loop in let s = c .before .before .before .before .before .before .before .before .before in omega (arith, link-inside (s .pre) (next-link (s .pre) (l .inv) (c .before .before .loop-test .taken) (c .before .link .ensures)), s .pre .room)
+shared-slice-read-to-2 c =
+    let at-loop = c .before .before .before in
+    let here = at-loop .before .before .before .before .before .before in
+    let l = at-loop .loop in
+    let s = here in
+    omega (arith, link-inside (s .pre) (next-link (s .pre) (l .inv) (c .before .before .loop-test .taken) (c .before .link .ensures)), s .pre .room)
 
 cast-to-2 : tie.Need-cast-to-2 Inv-loop μ-loop
 cast-to-2 c = omega (arith, c .shared-slice-known5 .given (c .before .link .result))
 
 loop-less : tie.Need-loop-less Inv-loop μ-loop
-loop-less c = let l = c .before .before .before .loop in let s = c .before .before .before .before .before .before .before .before .before in way-less (s .pre) (l .inv) (c .before .before .loop-test .taken) (c .before .link .ensures)
+loop-less c =
+    let at-loop = c .before .before .before in
+    let here = at-loop .before .before .before .before .before .before in
+    let l = at-loop .loop in let s = here in way-less (s .pre) (l .inv) (c .before .before .loop-test .taken) (c .before .link .ensures)
 
 loop-again : tie.Need-loop-again Inv-loop μ-loop
-loop-again c = let l = c .before .before .before .loop in let s = c .before .before .before .before .before .before .before .before .before in way-on (s .pre) (l .inv) (c .before .before .loop-test .taken) (c .before .link .ensures) refl
+loop-again c =
+    let at-loop = c .before .before .before in
+    let here = at-loop .before .before .before .before .before .before in
+    let l = at-loop .loop in let s = here in way-on (s .pre) (l .inv) (c .before .before .loop-test .taken) (c .before .link .ensures) refl
 
 returns : tie.Need-returns Inv-loop μ-loop
 returns c = way-ends (c .before .before .before .before .before .before .before .pre) (c .before .loop .inv) (c .loop-test .left)

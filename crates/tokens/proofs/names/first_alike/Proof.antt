@@ -24,7 +24,12 @@ cast-leaf : tie.Need-cast-leaf
 cast-leaf c = search needs
 
 place-requires : tie.Need-place-requires
-place-requires c κs = let s = c .before .before .before .before .before .before .before .before in let end = c .before .before .way-end .ensures in let some : 0 < s .args .count = omega (arith, c .before .before .before .before .if1 .left) in (s .pre .bytes .room, omega (arith, leaf-inside (s .pre) some end refl, s .pre .sought .small))
+place-requires c κs =
+    let at-if1 = c .before .before .before .before in
+    let s = at-if1 .before .before .before .before in
+    let end = c .before .before .way-end .ensures in
+    let some : 0 < s .args .count = omega (arith, at-if1 .if1 .left) in
+    (s .pre .bytes .room, omega (arith, leaf-inside (s .pre) some end refl, s .pre .sought .small))
 
 cast-from : tie.Need-cast-from
 cast-from c = search needs
@@ -36,19 +41,47 @@ cast-to : tie.Need-cast-to
 cast-to c = search needs
 
 hang-requires : tie.Need-hang-requires
-hang-requires c κs = let s = c .before .before .before .before .before .before .before .before .before .before .before .before in let end = c .before .before .before .before .before .before .way-end .ensures in let some : 0 < s .args .count = omega (arith, c .before .before .before .before .before .before .before .before .if1 .left) in hangable (s .pre) some end refl (c .before .before .before .place .ensures) (c .before .end .ensures) (omega arith)
+hang-requires c κs =
+    let at-place = c .before .before .before in
+    let at-way-end = at-place .before .before .before in
+    let at-if1 = at-way-end .before .before in
+    let s = at-if1 .before .before .before .before in
+    let end = at-way-end .way-end .ensures in
+    let some : 0 < s .args .count = omega (arith, at-if1 .if1 .left) in
+    hangable (s .pre) some end refl (at-place .place .ensures)
+    (c .before .end .ensures) (omega arith)
 
 same-length : tie.Need-same-length
 same-length c = search needs
 
 returns-2 : tie.Need-returns-2
-returns-2 c = let s = c .before .before .before .before .before .before .before .before .before .before .before .before .before .before .before .before in let end = c .before .before .before .before .before .before .before .before .before .before .way-end .ensures in let some : 0 < s .args .count = omega (arith, c .before .before .before .before .before .before .before .before .before .before .before .before .if1 .left) in hung-found (s .pre) some end refl (c .before .before .before .before .before .before .before .place .ensures) (c .before .before .before .before .before .end .ensures) (c .before .before .before .hang .ensures) (c .if2 .taken)
+returns-2 c =
+    let at-hang = c .before .before .before in
+    let at-end = at-hang .before .before in
+    let at-place = at-end .before .before in
+    let at-way-end = at-place .before .before .before in
+    let at-if1 = at-way-end .before .before in
+    let s = at-if1 .before .before .before .before in
+    let end = at-way-end .way-end .ensures in
+    let some : 0 < s .args .count = omega (arith, at-if1 .if1 .left) in
+    hung-found (s .pre) some end refl (at-place .place .ensures)
+    (at-end .end .ensures) (at-hang .hang .ensures) (c .if2 .taken)
 
 same-length-2 : tie.Need-same-length-2
 same-length-2 c = search needs
 
 returns-3 : tie.Need-returns-3
-returns-3 c = let s = c .before .before .before .before .before .before .before .before .before .before .before .before .before .before .before .before in let end = c .before .before .before .before .before .before .before .before .before .before .way-end .ensures in let some : 0 < s .args .count = omega (arith, c .before .before .before .before .before .before .before .before .before .before .before .before .if1 .left) in hung-none (s .pre) some end refl (c .before .before .before .before .before .before .before .place .ensures) (c .before .before .before .before .before .end .ensures) (c .before .before .before .hang .ensures) (c .if2 .left)
+returns-3 c =
+    let at-hang = c .before .before .before in
+    let at-end = at-hang .before .before in
+    let at-place = at-end .before .before in
+    let at-way-end = at-place .before .before .before in
+    let at-if1 = at-way-end .before .before in
+    let s = at-if1 .before .before .before .before in
+    let end = at-way-end .way-end .ensures in
+    let some : 0 < s .args .count = omega (arith, at-if1 .if1 .left) in
+    hung-none (s .pre) some end refl (at-place .place .ensures)
+    (at-end .end .ensures) (at-hang .hang .ensures) (c .if2 .left)
 
 pub first-alike-spec : {M : Type 1} → statement M
 first-alike-spec =

@@ -17,22 +17,41 @@ slice-aggregate-spells : tie.Need-slice-aggregate-spells
 slice-aggregate-spells c = search needs
 
 spells-requires : tie.Need-spells-requires
-spells-requires c κs = let k = c .before .before .before .before .before .before .before .before .pre .bytes in (k .order, k .inside)
+spells-requires c κs =
+    let earlier = c .before .before .before .before .before .before .before in
+    let start = earlier .before in
+    let k = start .pre .bytes in
+    (k .order, k .inside)
 
 same-length : tie.Need-same-length
 same-length c = c .before .before .before .before .before .first-alike .ensures .1 .rest .long
 
 returns : tie.Need-returns
-returns c = let a = c .before .before .before .before .before .before .before .before .before .before .args in let t = shown (a .first .now) (a .second .now) (a .view) in let e = same-swap (slice (a .p) (a .q) t) PUTCHAR ∙ sym (c .before .spells .ensures) ∙ c .if1 .taken in (record { putchar = λ x. refl; first = λ x. absurd (clash e x) }, c .before .before .before .before .before .first-alike .ensures .1)
+returns c =
+    let at-first-alike = c .before .before .before .before .before in
+    let start = at-first-alike .before .before .before .before .before in
+    let a = start .args in
+    let t = shown (a .first .now) (a .second .now) (a .view) in
+    let e = same-swap (slice (a .p) (a .q) t) PUTCHAR ∙ sym (c .before .spells .ensures) ∙ c .if1 .taken in
+    (record { putchar = λ x. refl; first = λ x. absurd (clash e x) }, at-first-alike .first-alike .ensures .1)
 
 cast-result : tie.Need-cast-result
-cast-result c = omega (arith, c .before .before .before .before .before .first-alike .ensures .0 .within, c .before .before .before .before .before .before .before .before .before .before .pre .bytes .few)
+cast-result c =
+    let at-first-alike = c .before .before .before .before .before in
+    let start = at-first-alike .before .before .before .before .before in
+    omega (arith, at-first-alike .first-alike .ensures .0 .within, start .pre .bytes .few)
 
 same-length-2 : tie.Need-same-length-2
 same-length-2 c = c .before .before .before .before .before .first-alike .ensures .1 .rest .long
 
 returns-2 : tie.Need-returns-2
-returns-2 c = let a = c .before .before .before .before .before .before .before .before .before .before .args in let t = shown (a .first .now) (a .second .now) (a .view) in let e = same-swap (slice (a .p) (a .q) t) PUTCHAR ∙ sym (c .before .spells .ensures) ∙ c .if1 .left in (record { putchar = λ x. absurd (clash x e); first = λ x. c .before .before .before .before .before .first-alike .ensures .0 }, c .before .before .before .before .before .first-alike .ensures .1)
+returns-2 c =
+    let at-first-alike = c .before .before .before .before .before in
+    let start = at-first-alike .before .before .before .before .before in
+    let a = start .args in
+    let t = shown (a .first .now) (a .second .now) (a .view) in
+    let e = same-swap (slice (a .p) (a .q) t) PUTCHAR ∙ sym (c .before .spells .ensures) ∙ c .if1 .left in
+    (record { putchar = λ x. absurd (clash x e); first = λ x. at-first-alike .first-alike .ensures .0 }, at-first-alike .first-alike .ensures .1)
 
 pub name-number-spec : {M : Type 1} → statement M
 name-number-spec =
