@@ -6,7 +6,8 @@ use Rattle.language.specs.Shift.{shift-number, no-book, many-lines}
 use Rattle.numbers.specs.Meanings.{refusal-meant, stop-meant}
 use Rattle.numbers.specs.declared.Refusal.{Refusal}
 use Rattle.clerk.specs.declared.causes.Cause.{Cause}
-use Rattle.clerk.specs.declared.causes.Cause.the-variants.{Refused, Called, Stopped, Complete, NoWage, NoBook, ManyLines}
+use Rattle.clerk.specs.declared.causes.Cause.the-variants.{Refused, Called, Stopped, Complete, NoWage, NoBook}
+use Rattle.clerk.specs.declared.causes.Cause.the-variants.{ManyLines}
 
 -- 0 where the box has none
 abbrev pub cause-number : Cause → ℕ

@@ -1,5 +1,5 @@
--- The report of a shift for machines, read again: each value by its name. What is not there, or is no number that it can
--- be, is read as one that no shift can come to.
+-- The report of a shift for machines, read again: each value by its name. What is not there, or is no number that it
+-- can be, is read as one that no shift can come to.
 use lib.Dec.{eqb}
 use lib.IntN.{ℤ, pos}
 use mathlib.Core.Bool.{Bool, true, false, cond, _&&_, _||_}

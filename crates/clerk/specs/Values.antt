@@ -9,7 +9,8 @@ use Rattle.language.specs.Tokens.{spell}
 use Rattle.page.specs.Floats.{float-text, bits-text}
 use Rattle.page.specs.Text.{decimal-of}
 
--- a number in the words that f has for its distance from 0, and a dash before it where it is below; `negsuc n` is -(n + 1)
+-- a number in the words that f has for its distance from 0, and a dash before it where it is below; `negsuc n` is
+-- -(n + 1)
 unfoldable pub signed-by : (ℕ → List ℕ) → ℤ → List ℕ
 signed-by f (pos n) = f n
 signed-by f (negsuc n) = spell "-" ++ f (suc n)

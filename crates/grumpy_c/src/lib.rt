@@ -1,8 +1,5 @@
-// The C interface of the box. Functions that take a sheet take the number of an edition first. All return the paper's
-// number and write a report: number, place, type, and for run also value (64-bit two's complement; a float's bits),
-// units and bytes printed, for profile the count; for write and store bytes written in the type's stead; for two sheets
-// also the sheet, and where the line that is shown begins and ends in it; the places of a stored sheet are lines. A
-// report that is too short is answered like memory that is too short, and nothing is changed.
+// The C interface of the box; include/grumpy.h says what each report has. A report that is too short is answered like
+// memory that is too short, and nothing is changed.
 ghost use Prim.Native.Nat.{_≤_};
 ghost use lib.ListN.{length};
 ghost use Rattle.language.specs.Edition.{text-in, stored-in};

@@ -1,5 +1,6 @@
 -- The table of numbers (S068 to S090, R01.2, R03.5, R08.2, R09.6, R10.2, R10.4, R12.2, R12.9): what an answer tells,
--- and the number of it; 46 and 47, which only a shift has, are in Shift. 21 stood for too many nodes, which no reading has; it is not used again (R02.4).
+-- and the number of it; 46 and 47, which only a shift has, are in Shift. 21 stood for too many nodes, which no
+-- reading has; it is not used again (R02.4).
 use Prim.Native.Nat.{ℕ}
 use Rattle.language.specs.Text.{Flaw, strange-byte, open-comment, large-number, many-tokens, long-float}
 use Rattle.language.specs.Faults.{Reason, no-binding, no-function, wrong-number, wrong-argument}

@@ -113,7 +113,8 @@ module _ {q : Run} {t w o : List ℕ} {node : ℕ} {p : Spot} {s : Tally} (b : S
     -- it is not `putchar`
     pub start-nobody : {A : Type 0} → none ≡ callee t node → A
     start-nobody e =
-        call-empty q (b .κ) (b .d) (calling .i) (calling .x) σ (callee-of q (b .scene) (calling .head) (calling .named) (calling .calls) none e) refl empty-means
+        call-empty q (b .κ) (b .d) (calling .i) (calling .x) σ
+        (callee-of q (b .scene) (calling .head) (calling .named) (calling .calls) none e) refl empty-means
 
     module _ {row : ℕ} (who : some row ≡ callee t node) where
       one : Called q t row (b .d) [] σ (b .κ)

@@ -8,7 +8,7 @@ use native.Mathlib.Numerals.{add-one}
 use native.Mathlib.Decide.{ℕ-discrete}
 use lib.ListN.{length}
 use Rattle.language.specs.Tokens.{Token}
-use Rattle.language.specs.Trees.{Name, Param, Def, Exp, last, push, empty, nearest}
+use Rattle.language.specs.Trees.{Name, Param, Def, Exp, push, empty, nearest}
 use Rattle.language.specs.State as M
 use Rattle.language.specs.State.{stuck, then, as-int, only, when-some, want}
 use Rattle.language.specs.Meaning.{putchar, defined, Env, put, enter, invoke, eval}

@@ -21,7 +21,7 @@ use Rattle.machine.specs.declared.state.Tally.{Tally}
 use Rattle.numbers.specs.declared.Stop.{Stop}
 use Rattle.runner.specs.Phases.{UNARY, LEFT, ARGUMENT, waits, phase-of, operates}
 use Rattle.runner.specs.Waiting.{Run}
-use Rattle.runner.specs.Standing.{Begins, Starts, Good, charged, above, begun, given, over, Some, Goes, Heads, callee, Callable, Enters}
+use Rattle.runner.specs.Standing.{Begins, Starts, charged, above, begun, given, over, Some, Goes, Heads, callee, Callable, Enters}
 use Rattle.runner.specs.declared.state.Spot.{Spot}
 use Rattle.runner.specs.Standing.{Ending}
 use Rattle.runner.specs.declared.state.Next.{Next}

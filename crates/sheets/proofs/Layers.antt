@@ -18,7 +18,7 @@ use Rattle.numbers.specs.declared.Flaw.{Flaw}
 use Rattle.numbers.specs.declared.Reason.{Reason}
 use Rattle.numbers.specs.declared.Refusal.{Refusal}
 use Rattle.layout.specs.Table.{token-place, without-rows, without-variables}
-use Rattle.layout.specs.Names.{Stand, lay-tokens}
+use Rattle.layout.specs.Names.{Stand}
 use Rattle.layout.specs.Decode.{Holds}
 use Rattle.layout.specs.declared.Held.{Held}
 use Rattle.layout.proofs.HeldPrograms.{held}
@@ -28,6 +28,7 @@ use Rattle.layout.proofs.TokenLaws.{stand-same, lay-length}
 use Rattle.layout.proofs.VariablesWords.{length-zeros, length-without, zeros-before}
 use Rattle.layout.proofs.VariablesTrees.{holds-without}
 use Rattle.layout.proofs.Wiped.{wiped-tokens, wiped-program, wiped-without-rows, wiped-without-variables}
+use Rattle.tokens.proofs.Agreeing.{but-cleared}
 use Rattle.tokens.specs.Answer as Tokens
 use Rattle.tokens.proofs.OneAnswer.{split-stands}
 use Rattle.tokens.specs.declared.answer.Split as split
@@ -171,11 +172,11 @@ module _ {voc : Vocabulary} (laws : Laws voc) (source w w₁ : List ℕ) (long :
   whole-stands : {n : ℕ} (x : Tokens.Whole voc source w w₁ n) → Stand w₁ n (x .tokens)
   whole-stands {n} x = split-stands laws source w w₁ n (x .tokens) long x (x .splits)
 
-  laid-long : (ts : List Token) → w₁ ≡ lay-tokens ts w 0 ts → length w₁ ≡ length w
-  laid-long ts e = ap length e ∙ lay-length ts w 0 ts
+  laid-long : (ts : List Token) → Tokens.Laid ts w w₁ → length w₁ ≡ length w
+  laid-long ts e = e .long ∙ lay-length ts w 0 ts
 
-  laid-rest : (ts : List Token) → length ts ≤ TOKENS → w₁ ≡ lay-tokens ts w 0 ts → wiped w₁ ≡ wiped w
-  laid-rest ts h e = ap wiped e ∙ wiped-tokens ts ts w 0 (omega arith)
+  laid-rest : (ts : List Token) → length ts ≤ TOKENS → Tokens.Laid ts w w₁ → wiped w₁ ≡ wiped w
+  laid-rest ts h e = but-cleared e ∙ wiped-tokens ts ts w 0 (omega arith)
 
   -- the scanner's table can be given to the reader
   pub whole-standing : (r : split.Split) (n : ℕ) → Tokens.IsSplit voc source w w₁ r → r ≡ split.the-variants.Tokens n → Standing w₁ n

@@ -15,12 +15,14 @@ use Rattle.language.proofs.Text.Marks.{Laws}
 use Rattle.language.proofs.Types.FaultPlaces.{fault-inside}
 use Rattle.numbers.specs.Meanings.{refusal-meant}
 use Rattle.numbers.specs.declared.Refusal.{Refusal}
-use Rattle.layout.specs.Names.{Stand, lay-tokens}
+use Rattle.layout.specs.Names.{Stand}
 use Rattle.layout.proofs.TokenLaws.{lay-length}
 use Rattle.layout.proofs.Wiped.{wiped-tokens}
 use Rattle.stored.specs.Answer as Stored
 use Rattle.stored.proofs.Stands.{stored-stands}
 use Rattle.stored.specs.declared.Stored as stored
+use Rattle.tokens.proofs.Agreeing.{but-cleared}
+use Rattle.tokens.specs.Answer.{Laid}
 use Rattle.sheets.specs.Sheets.{wiped, Standing, OfTokens, Read, Near, lined-of, OfSource, Examined}
 use Rattle.sheets.specs.declared.Verdict.{Verdict}
 use Rattle.sheets.specs.declared.Seen.{Seen}
@@ -43,11 +45,11 @@ lined-proper v s e f = f ∙ ap lined-of (sym e)
 -- ---- a stored sheet
 
 module _ {voc : Vocabulary} (laws : Laws voc) (input w w₁ : List ℕ) (long : TABLE ≤ length w) where
-  laid-long : (ts : List Token) → w₁ ≡ lay-tokens ts w 0 ts → length w₁ ≡ length w
-  laid-long ts e = ap length e ∙ lay-length ts w 0 ts
+  laid-long : (ts : List Token) → Laid ts w w₁ → length w₁ ≡ length w
+  laid-long ts e = e .long ∙ lay-length ts w 0 ts
 
-  laid-rest : (ts : List Token) → length ts ≤ TOKENS → w₁ ≡ lay-tokens ts w 0 ts → wiped w₁ ≡ wiped w
-  laid-rest ts h e = ap wiped e ∙ wiped-tokens ts ts w 0 (omega arith)
+  laid-rest : (ts : List Token) → length ts ≤ TOKENS → Laid ts w w₁ → wiped w₁ ≡ wiped w
+  laid-rest ts h e = but-cleared e ∙ wiped-tokens ts ts w 0 (omega arith)
 
   module _ (r : stored.Stored) (n : ℕ) (y : Stored.IsStored voc input w w₁ r) (e : r ≡ stored.the-variants.Tokens n) where
     whole : Stored.Whole voc input w w₁ n

@@ -16,8 +16,8 @@ use language::TABLE;
 use language::WORK;
 use page::Number;
 
-// Bytes of a stored sheet that are read at the most: the form of every sheet has fewer, two for each of its bytes, an LF
-// for each token and the count's line.
+// Bytes of a stored sheet that are read at the most: the form of every sheet has fewer, two for each of its bytes, an
+// LF for each token and the count's line.
 const STORED: usize = 131072;
 
 // Writes the stored form of a whole sheet, if it passes. There is room for that of every sheet.

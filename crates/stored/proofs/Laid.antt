@@ -5,15 +5,16 @@ use mathlib.Core.List.{List, [], _∷_, _++_, append-assoc}
 use mathlib.Core.Path.{_≡_, refl, sym, ap, ap₂, _∙_}
 use native.Mathlib.Nat.{zero-add}
 use native.Mathlib.Omega.{arith}
-use Prim.Native.Nat.{ℕ, zero, suc, _+_, _*_, _≤_, _<_}
+use Prim.Native.Nat.{ℕ, zero, suc, _+_, _*_, _/_, _≤_, _<_}
 use Rattle.language.proofs.Stored.Digits.{hex-long}
 use Rattle.language.proofs.Stored.Lone.{lone-piece, piece-lone, one-lone}
 use Rattle.language.proofs.Text.Marks.{Laws}
+use Rattle.language.specs.Sizes.{TOKENS}
 use Rattle.language.specs.Stored.{hex, line, count-line, token-lines, spelled-bytes, Lone, AllLone, lone-none, lone-more, GoodLines}
 use Rattle.language.specs.Tokens.{Vocabulary, Token, past}
 use Rattle.layout.proofs.TokenLaws.{lay-holds, end-held}
-use Rattle.layout.specs.Names.{lay-tokens}
-use Rattle.layout.specs.Table.{token-end}
+use Rattle.layout.specs.Table.{SPANS, token-end}
+use Rattle.tokens.specs.Answer.{Laid}
 use Rattle.stored.specs.Names.{line-from, digits-of}
 
 -- ---- lengths
@@ -90,13 +91,14 @@ module _ {voc : Vocabulary} (laws : Laws voc) {t : List ℕ} {n : ℕ} {ts : Lis
       ∙ ap (λ (r : List ℕ). count-line n ++ (r ++ rest)) (lines-around ts i h)
       ∙ simp append-assoc
 
-  module _ (w₀ : List ℕ) {w : List ℕ} (room : 4 * length ts ≤ length w₀) (laid : w ≡ lay-tokens ts w₀ 0 ts) where
+  module _ (w₀ : List ℕ) {w : List ℕ} (room : 4 * length ts ≤ length w₀) (few : length ts ≤ TOKENS) (laid : Laid ts w₀ w) where
     -- the table tells how long each spelling is
     pub end-is : (i : ℕ) → i < length ts → token-end w i ≡ length (getD ts i past .spelling)
     end-is i h =
         let z = lay-holds ts w₀ room i h in
         let e = lone-place laws (lone-at laws (g .tokens) i h) in
-        ap (λ (v : List ℕ). token-end v i) laid ∙ end-held z (omega arith) ∙ rw e (zero-add (length (getD ts i past .spelling)))
+        ap (λ (x : ℕ). x / SPANS) (laid .words (4 * i + 1) (λ a b. omega arith)) ∙ end-held z (omega arith)
+        ∙ rw e (zero-add (length (getD ts i past .spelling)))
 
     -- so where its line begins
     pub from-is : (i : ℕ) → i ≤ length ts → line-from w i ≡ 5 + (spelled-bytes (take i ts) * 2 + i)

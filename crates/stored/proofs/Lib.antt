@@ -4,6 +4,7 @@ pub mod NameLaws
 pub mod RowLaws
 pub mod Laid
 pub mod Words
+pub mod Starts
 pub mod Reading
 pub mod Stands
 pub mod OneAnswer

@@ -1,22 +1,25 @@
--- Names compared by their lines: what the loop over the tokens of the table keeps.
-use borrow.Author.Count.{below-none, below-more}
-use lib.ListN.{length}
+-- Names compared by their lines: where lines begin, and the first that has the digits of another.
+use lib.ListN.{length, getD}
 use lib.Seq.{slice, take-length}
 use mathlib.Core.Bool.{Bool, true, false}
 use mathlib.Core.List.{List}
 use mathlib.Core.Logic.{⊎-elim}
-use mathlib.Core.Path.{_≡_, refl, sym, ap, ap₂, _∙_}
+use mathlib.Core.Path.{_≡_, refl, sym, ap, ap₂, subst, _∙_}
 use native.Mathlib.Numerals.{add-one}
 use native.Mathlib.Omega.{arith}
 use Prim.Native.Nat.{ℕ, zero, suc, _+_, _*_, _≤_, _<_}
 use Rattle.language.proofs.Text.Choices.{either, clash}
+use Rattle.language.proofs.Text.Tables.{same-one}
 use Rattle.language.specs.Sizes.{TOKENS}
 use Rattle.language.specs.Tokens.{Spelling, same}
 use Rattle.language.specs.Trees.{PUTCHAR}
 use Rattle.layout.specs.Table.{token-end}
-use Rattle.tokens.proofs.Compared.{same-swap}
+use Rattle.layout.proofs.TokenLaws.{same-self}
+use Rattle.tokens.proofs.Compared.{same-swap, unlike}
+use Rattle.tokens.proofs.Planting.{ends-finds, ends-inside, none-before, none-alike, planted-first, planted-same, planted-fork}
+use Rattle.tokens.specs.Forks.{STARTS-AT, Finds, Shape, Ends, Seekable, Hangable, Hung, Planted}
 use Rattle.tokens.specs.Shown.{told}
-use Rattle.stored.specs.Names.{line-from, digits-of, First, Numbered}
+use Rattle.stored.specs.Names.{line-from, digits-of, Searchable, First, Numbered}
 
 -- ---- where lines begin
 
@@ -36,42 +39,87 @@ module _ (w : List ℕ) where
   from-before (suc n) i h =
       ⊎-elim (λ l. omega (arith, from-before n i l)) (λ l. let e : i ≡ n = omega arith in rw e (omega arith)) (either i n)
 
--- ---- the loop
+-- ---- the line at the way's end
 
--- none of the first i lines has the digits s, and `from` is where the next one begins
-pub record Unlike (t w : List ℕ) (count : ℕ) (s : List ℕ) (i from : ℕ) : Type 0 where
-  pub within : i ≤ count
-  pub here : from ≡ line-from w i
-  pub before : (j : ℕ) → j < i → same (digits-of t w j) s ≡ false
+module _ {t w : List ℕ} {n p q : ℕ} (k : Searchable t w n p q) {at r from end : ℕ} (x : Ends w (slice p q t) at) (some : 0 < n)
+    (e : r ≡ getD w at 0) (f : from ≡ getD w (STARTS-AT + r) 0) (g : end ≡ token-end w r) where
+  pub line-inside : r < n
+  line-inside = omega (arith, e, ends-inside (k .sought .shape) some x)
 
-pub unlike-none : (t w : List ℕ) (count : ℕ) (s : List ℕ) → Unlike t w count s 0 5
-unlike-none t w count s =
-    record { within = omega arith; here = sym (from-first w); before = below-none (λ j. same (digits-of t w j) s ≡ false) }
+  -- begins where it is told, and lies in the input
+  starts-there : from ≡ line-from w r
+  starts-there = f ∙ k .starts r line-inside
 
-module _ {t w : List ℕ} {count : ℕ} {s : List ℕ} {i from : ℕ} (g : Unlike t w count s i from) where
-  pub unlike-all : count ≤ i → First t w count s i
-  unlike-all h = record { within = g .within; before = g .before; here = λ l. absurd (omega arith) }
+  pub line-near : from + end * 2 + 1 ≤ line-from w n
+  line-near = omega (arith, starts-there, g, from-before w n r line-inside)
 
-  -- the next line lies in the input
-  pub unlike-inside : {end : ℕ} → end ≡ token-end w i → i < count → line-from w count ≤ length t → from + end * 2 + 1 ≤ length t
-  unlike-inside e h l = omega (arith, from-before w count i h, g .here)
+  finds : Finds w (slice p q t) r
+  finds = ends-finds x e
 
-  -- line i compared, with the outcome r
-  module _ {end to : ℕ} {r : Bool} (e : end ≡ token-end w i) (f : to ≡ from + end * 2) (z : r ≡ same (slice from to t) s) where
-    outcome-of : r ≡ same (digits-of t w i) s
-    outcome-of =
-        let x : to ≡ line-from w i + token-end w i * 2 = omega (arith, g .here) in
-        z ∙ ap₂ (λ (a b : ℕ). same (slice a b t) s) (g .here) x
+  module _ {to : ℕ} (h : to ≡ from + end * 2) where
+    digits-there : slice from to t ≡ digits-of t w r
+    digits-there =
+        let z : to ≡ line-from w r + token-end w r * 2 = omega (arith, h, starts-there, g) in
+        ap₂ (λ (a b : ℕ). slice a b t) starts-there z
 
-    pub unlike-more : i < count → r ≡ false → Unlike t w count s (i + 1) (to + 1)
-    unlike-more h n = record {
-      within = omega arith;
-      here = omega (arith, from-next w i, g .here);
-      before = below-more (λ j. same (digits-of t w j) s ≡ false) i (g .before) (sym outcome-of ∙ n);
+    pub hangable : Hangable t w at n from to p q
+    hangable = record {
+      room = k .bytes .room;
+      some = some;
+      few = k .sought .small;
+      shape = k .sought .shape;
+      link-at = x .link-at;
+      order = omega (arith, h);
+      inside = omega (arith, h, line-near, k .bytes .lines);
+      near = omega (arith, h, line-near, k .near);
+      order-new = k .bytes .order;
+      inside-new = k .bytes .inside;
     }
 
-    pub unlike-but : r ≡ true → First t w count s i
-    unlike-but n = record { within = g .within; before = g .before; here = λ l. sym outcome-of ∙ n }
+    module _ {v : List ℕ} {y : Bool} (hung : Hung w v at n (slice from to t) (slice p q t) y) where
+      told-there : {z : Bool} → y ≡ z → same (digits-of t w r) (slice p q t) ≡ z
+      told-there d = ap (λ (u : List ℕ). same u (slice p q t)) (sym digits-there) ∙ sym (hung .told) ∙ d
+
+      again : digits-of t w r ≡ slice p q t → same (digits-of t w r) (slice p q t) ≡ true
+      again z = rw z (same-self (slice p q t))
+
+      -- it has the digits
+      pub hung-found : y ≡ true → First t w n (slice p q t) r × Planted (digits-of t w) w v n (slice p q t)
+      hung-found d = (
+        record {
+          within = omega (arith, line-inside);
+          before = λ i l. unlike (digits-of t w i) (slice p q t) (none-before (k .sought) finds i l (omega (arith, line-inside)));
+          here = λ l. told-there d;
+        },
+        rw (hung .kept d) (planted-same (k .sought) finds line-inside (same-one (digits-of t w r) (slice p q t) (told-there d))),
+      )
+
+      -- it has not
+      pub hung-none : y ≡ false → First t w n (slice p q t) n × Planted (digits-of t w) w v n (slice p q t)
+      hung-none d = (
+        record {
+          within = omega arith;
+          before = λ i l. unlike (digits-of t w i) (slice p q t) (none-alike (k .sought) finds (λ z. clash (again z) (told-there d)) i l);
+          here = λ l. absurd (omega arith);
+        },
+        planted-fork (k .sought) (k .bytes .room) some x (digits-there ∙ ap (digits-of t w) e) (hung .forked d),
+      )
+
+pub seekable : {t w : List ℕ} {n p q : ℕ} → Searchable t w n p q → Seekable t w n p q
+seekable k = record {
+  room = k .bytes .room;
+  few = k .bytes .few;
+  shape = k .sought .shape;
+  order = k .bytes .order;
+  ends = k .bytes .inside;
+}
+
+pub first-start : {t w : List ℕ} {n : ℕ} {s : List ℕ} → n ≡ 0 → Shape w n → First t w n s 0 × Planted (digits-of t w) w w n s
+first-start {t} {w} {n} {s} e g =
+    subst (λ (m : ℕ). First t w m s 0 × Planted (digits-of t w) w w m s) (sym e) (none, planted-first (subst (Shape w) e g))
+  where
+    none : First t w 0 s 0
+    none = record { within = omega arith; before = λ i l. absurd (omega arith); here = λ l. absurd (omega arith) }
 
 -- ---- the number of a name
 

@@ -1,5 +1,5 @@
--- No two answers of `read` meet its contract for the same edition and input; and where the sheet is good, no two tables do. What a
--- sheet that is refused leaves among the words of tokens is not said: the services clear them.
+-- No two answers of `read` meet its contract for the same edition and input; and where the sheet is good, no two tables do, but for the
+-- words of rows and functions. What a sheet that is refused leaves among the words of tokens is not said: the services clear them.
 use lib.ListN.{length}
 use mathlib.Core.List.{List}
 use mathlib.Core.Path.{_≡_, sym, _∙_, ap, ap₂}
@@ -7,9 +7,10 @@ use Prim.Native.Nat.{ℕ}
 use Rattle.language.proofs.Stored.Origin.{stored-lawful}
 use Rattle.language.proofs.Text.Marks.{Laws}
 use Rattle.language.specs.Tokens as Language
-use Rattle.layout.specs.Names.{lay-tokens}
 use Rattle.numbers.proofs.Apart.{same-refusal}
 use Rattle.numbers.specs.Meanings.{refusal-meant}
+use Rattle.tokens.proofs.Agreeing.{but-next, but-back}
+use Rattle.tokens.specs.Forks.{ButRows}
 use Rattle.stored.specs.Answer.{Whole, IsStored}
 use Rattle.stored.specs.declared.Stored as stored
 use Rattle.stored.specs.declared.Stored.the-variants.{Tokens, Denied}
@@ -24,8 +25,7 @@ module _ {voc : Language.Vocabulary} (laws : Laws voc) (t w v v′ : List ℕ) w
       let e = stored-lawful laws t .one-denial (refusal-meant y) (refusal-meant z) l k (a .denies) (b .denies) in
       ap₂ (λ h i. Denied h i) (same-refusal y z (e .0)) (e .1)
 
-  pub one-table : {n m : ℕ} → Whole voc t w v n → Whole voc t w v′ m → v ≡ v′
+  pub one-table : {n m : ℕ} → Whole voc t w v n → Whole voc t w v′ m → ButRows v v′
   one-table a b =
-      a .laid
-      ∙ ap (λ (ts : List Language.Token). lay-tokens ts w 0 ts) (stored-lawful laws t .one-list (a .tokens) (b .tokens) (a .gives) (b .gives))
-      ∙ sym (b .laid)
+      let e = stored-lawful laws t .one-list (a .tokens) (b .tokens) (a .gives) (b .gives) in
+      but-next (a .laid) (but-back (rw e (b .laid)))

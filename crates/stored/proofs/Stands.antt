@@ -11,7 +11,7 @@ use Rattle.language.proofs.Text.Marks.{Laws}
 use Rattle.language.specs.Sizes.{LARGEST, TABLE}
 use Rattle.language.specs.Stored.{AllLone}
 use Rattle.language.specs.Tokens.{Vocabulary, Token, past, value-at, place-at}
-use Rattle.layout.proofs.TokenLaws.{lay-stands}
+use Rattle.layout.proofs.TokenLaws.{lay-stands, stand-same}
 use Rattle.layout.specs.Names.{lay-tokens, Near, Stand}
 use Rattle.stored.proofs.Laid.{lone-at, lone-place}
 use Rattle.stored.specs.Answer.{Whole}
@@ -29,4 +29,7 @@ module _ {voc : Vocabulary} (laws : Laws voc) {ts : List Token} (all : AllLone v
 
 pub stored-stands : {voc : Vocabulary} → Laws voc → (t w v : List ℕ) (n : ℕ) → TABLE ≤ length w → (x : Whole voc t w v n) → Stand v n (x .tokens)
 stored-stands laws t w v n room x =
-    rw (x .laid, x .count) (lay-stands (x .tokens) w (x .gives .few) (λ i h. small laws (x .gives .tokens) i) (near laws (x .gives .tokens)) room)
+    let ts = x .tokens in
+    let y : Stand (lay-tokens ts w 0 ts) n ts =
+    rw (x .count) (lay-stands ts w (x .gives .few) (λ i h. small laws (x .gives .tokens) i) (near laws (x .gives .tokens)) room) in
+    stand-same v (lay-tokens ts w 0 ts) n ts (λ j h. x .laid .words j (λ k l. omega arith)) y

@@ -21,8 +21,9 @@ use Rattle.language.specs.Text.{token}
 use Rattle.language.specs.Tokens.{Vocabulary, Token, Spelling, same, NAME, FLOAT-NUMBER, past}
 use Rattle.language.specs.Trees.{PUTCHAR}
 use Rattle.layout.proofs.TokenLaws.{same-self, first-is}
-use Rattle.layout.specs.Names.{first-from, name-number, float-bits, lay-tokens}
+use Rattle.layout.specs.Names.{first-from, name-number, float-bits}
 use Rattle.tokens.proofs.Written.{no-value, Halves, name-halves, float-halves, value-halves}
+use Rattle.tokens.specs.Answer.{Laid}
 use Rattle.tokens.specs.Found.{IsToken}
 use Rattle.tokens.specs.Shown.{told}
 use Rattle.stored.proofs.Laid.{lone-at, digits-are}
@@ -32,6 +33,10 @@ use Rattle.stored.specs.Names.{digits-of, First, Numbered, TableWorth}
 same-lines : (a b : Spelling) → hex a ≡ hex b → line a ≡ line b
 unfolding line
 same-lines a b e = ap (λ (l : List ℕ). l ++ (10 ∷ [])) e
+
+-- two that have the same digits are the same
+pub one-hex : {a b : Spelling} → Bytes a → Bytes b → hex a ≡ hex b → a ≡ b
+one-hex {a} {b} x y e = one-spelling x y (same-lines a b e)
 
 -- lines are the same exactly where what they hold is
 pub same-hex : (a b : Spelling) → Bytes a → Bytes b → same (hex a) (hex b) ≡ same a b
@@ -43,14 +48,14 @@ same-hex a b x y = ⊎-elim (λ e. let z = same-one a b e in rw z (same-self (he
     again f = let z = one-spelling x y (same-lines a b (same-one (hex a) (hex b) f)) in rw z (same-self b)
 
 module _ {voc : Vocabulary} (laws : Laws voc) {t : List ℕ} {n : ℕ} {ts : List Token} {rest : List ℕ} (g : GoodLines voc t n ts rest)
-    (w₀ : List ℕ) {w : List ℕ} (room : 4 * length ts ≤ length w₀) (laid : w ≡ lay-tokens ts w₀ 0 ts) {p q : ℕ} (l : LineTo t p q) where
+    (w₀ : List ℕ) {w : List ℕ} (room : 4 * length ts ≤ length w₀) (few : length ts ≤ TOKENS) (laid : Laid ts w₀ w) {p q : ℕ} (l : LineTo t p q) where
   abbrev s : Spelling
   s = told (slice p q t)
 
   alike : (i : ℕ) → i < length ts → {r : Bool} → same (digits-of t w i) (slice p q t) ≡ r → same (getD ts i past .spelling) s ≡ r
   alike i h e =
       sym (same-hex (getD ts i past .spelling) s (lone-at laws (g .tokens) i h .bytes) (l .line .bytes))
-      ∙ sym (ap₂ same (digits-are laws g w₀ room laid i h) (sym (l .digits))) ∙ e
+      ∙ sym (ap₂ same (digits-are laws g w₀ room few laid i h) (sym (l .digits))) ∙ e
 
   first-number : (u : Token) (m : ℕ) → u .spelling ≡ s → First t w (length ts) (slice p q t) m
       → first-from 0 (ts ++ (u ∷ [])) s ≡ m
@@ -65,17 +70,17 @@ module _ {voc : Vocabulary} (laws : Laws voc) {t : List ℕ} {n : ℕ} {ts : Lis
   name-numbered u m e x =
       ⊎-elim (λ y. rw y (sym (x .putchar y))) (λ y. rw y (first-number u m e (x .first y))) (outcome (same s PUTCHAR))
 
-  small-number : (m : ℕ) → length ts ≤ TOKENS → Numbered t w (length ts) p q m → m ≤ TOKENS
-  small-number m few x = ⊎-elim (λ y. omega (arith, x .putchar y)) (λ y. omega (arith, x .first y .within)) (outcome (same s PUTCHAR))
+  small-number : (m : ℕ) → Numbered t w (length ts) p q m → m ≤ TOKENS
+  small-number m x = ⊎-elim (λ y. omega (arith, x .putchar y)) (λ y. omega (arith, x .first y .within)) (outcome (same s PUTCHAR))
 
-  pub words-found : {k x m : ℕ} (y : IsToken voc (told (slice p q t)) 0 k (length (told (slice p q t))) x) → length ts ≤ TOKENS
+  pub words-found : {k x m : ℕ} (y : IsToken voc (told (slice p q t)) 0 k (length (told (slice p q t))) x)
       → TableWorth t w (length ts) k p q x m
       → Halves (ts ++ (lone-token (told (slice p q t)) k (y .value) ∷ [])) (lone-token (told (slice p q t)) k (y .value)) m
-  words-found {k} {x} {m} y few z =
+  words-found {k} {x} {m} y z =
       let u = lone-token s k (y .value) in
       let us = ts ++ (u ∷ []) in
       ⊎-elim (λ a. let e = eqb-true k NAME a in
-      name-halves us u m e (small-number m few (z .name e)) (name-numbered u m refl (z .name e)))
+      name-halves us u m e (small-number m (z .name e)) (name-numbered u m refl (z .name e)))
       (λ a. let e = eqb-false k NAME a in
       ⊎-elim (λ b. let f = eqb-true k FLOAT-NUMBER b in float-halves us u m f (z .other e ∙ y .float f ∙ ap float-bits (take-length s)))
       (λ b. let f = eqb-false k FLOAT-NUMBER b in

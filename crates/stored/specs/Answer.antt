@@ -7,8 +7,8 @@ use Rattle.language.specs.Numbers.{Refusal}
 use Rattle.language.specs.Sizes.{TOKENS, TABLE}
 use Rattle.language.specs.Stored.{StoredGives, StoredDenies}
 use Rattle.language.specs.Tokens as Language
-use Rattle.layout.specs.Names.{lay-tokens}
 use Rattle.numbers.specs.Meanings.{refusal-meant}
+use Rattle.tokens.specs.Answer.{Laid}
 use Rattle.stored.specs.Lines.{CountTo}
 use Rattle.stored.specs.declared.Stored as stored
 use Rattle.stored.specs.declared.Stored.the-variants.{Tokens, Denied}
@@ -24,14 +24,14 @@ pub record Whole (voc : Language.Vocabulary) (t w v : List ℕ) (n : ℕ) : Type
   pub tokens : List Language.Token
   pub gives : StoredGives voc t tokens
   pub count : n ≡ length tokens
-  pub laid : v ≡ lay-tokens tokens w 0 tokens
+  pub laid : Laid tokens w v
 
 -- it is refused so, and some tokens lie in the table
 pub record Broken (voc : Language.Vocabulary) (t w v : List ℕ) (r : Refusal) (line : ℕ) : Type 0 where
   pub denies : StoredDenies voc t r line
   pub tokens : List Language.Token
   pub few : length tokens ≤ TOKENS
-  pub laid : v ≡ lay-tokens tokens w 0 tokens
+  pub laid : Laid tokens w v
 
 abbrev pub IsStored : Language.Vocabulary → List ℕ → List ℕ → List ℕ → stored.Stored → Type 0
 IsStored voc t w v (Tokens n) = Whole voc t w v n

@@ -1,5 +1,5 @@
 -- Names by their lines: the table w holds the tokens of the lines of an input t, as far as they are read.
-use lib.ListN.{length}
+use lib.ListN.{length, getD}
 use lib.Seq.{slice}
 use mathlib.Core.Bool.{true, false}
 use mathlib.Core.List.{List}
@@ -9,6 +9,7 @@ use Rattle.language.specs.Sizes.{TOKENS, TABLE}
 use Rattle.language.specs.Tokens.{Spelling, same, NAME}
 use Rattle.language.specs.Trees.{PUTCHAR}
 use Rattle.layout.specs.Table.{token-end}
+use Rattle.tokens.specs.Forks.{STARTS-AT, Sought}
 use Rattle.tokens.specs.Shown.{told}
 
 -- where the line of token i begins, behind the count and the lines before it, two digits a byte and LF each
@@ -27,6 +28,13 @@ pub record Comparable (t w : List ℕ) (count p q : ℕ) : Type 0 where
   pub order : p ≤ q
   pub inside : q ≤ length t
   pub lines : line-from w count ≤ length t
+
+-- and the first of them that has these digits can be found: where each line begins is told, and all is near
+pub record Searchable (t w : List ℕ) (count p q : ℕ) : Type 0 where
+  pub bytes : Comparable t w count p q
+  pub near : line-from w count < 4294967296
+  pub starts : (j : ℕ) → j < count → getD w (STARTS-AT + j) 0 ≡ line-from w j
+  pub sought : Sought (digits-of t w) w count (slice p q t)
 
 -- r is the ordinal of the first of `count` tokens whose line has the digits s; where there is none, the count
 pub record First (t w : List ℕ) (count : ℕ) (s : List ℕ) (r : ℕ) : Type 0 where

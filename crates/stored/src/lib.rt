@@ -21,6 +21,7 @@ use language::TOKENS;
 use numbers::Flaw;
 use numbers::Refusal;
 use tokens::edition::Edition;
+use tokens::forks::begin;
 
 // What comes of a stored sheet.
 pub enum Stored {
@@ -36,6 +37,7 @@ fn tokens_of(edition: Edition, stored: &[u8], table: &mut [u32], counted: usize)
     requires { ⌜ Counted (now stored) (now table) counted ⌝ }
     ensures { λ r. ⌜ IsStored (meant edition) (now (stored .entry)) (now (table .entry)) (now (table .exit)) r ⌝ }
 {
+    begin(table);
     let mut at = 5;
     let mut count = 0;
     let mut bytes = 0;

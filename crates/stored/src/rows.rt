@@ -6,9 +6,11 @@ use language::SOURCE;
 use language::TOKENS;
 use layout::floats;
 use layout::token;
+use tokens::forks::STARTS_AT;
 
 // Writes the token on the line from p up to q behind the others, where there is room for it and the bytes of
-// all so far are not too many; else the sheet is refused in the end, and the table stays.
+// all so far are not too many; else the sheet is refused in the end, and the table stays. Where its
+// line begins is told, too, for whoever compares it.
 pub fn keep(
     stored: &[u8],
     table: &mut [u32],
@@ -19,7 +21,7 @@ pub fn keep(
     p: usize,
     q: usize,
 )
-    requires { ⌜ Keepable (now stored) (now table) count bytes p q ⌝ }
+    requires { ⌜ Keepable (now stored) (now table) count bytes kind p q ⌝ }
     ensures { λ _. ⌜ Kept (now (stored .entry)) (now (table .entry)) (now (table .exit)) count bytes kind worth p q ⌝ }
 {
     if TOKENS <= count {
@@ -32,5 +34,6 @@ pub fn keep(
     let high = floats::high(both);
     let low = floats::low(both);
     let size = (q - p) / 2;
+    table[STARTS_AT + count] = p as u32;
     token::put(table, count, kind, 0, size as u32, high, low);
 }

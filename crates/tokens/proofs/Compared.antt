@@ -1,24 +1,25 @@
--- Spellings compared byte for byte: with bytes that are given, with other bytes of the text, and with the tokens of a table.
-use borrow.Author.Count.{below-none, below-more}
-use borrow.Author.Tests.{eq-eqb, ne-eqb}
+-- Spellings compared byte for byte: with bytes that are given, and with other bytes of the text; and the first token that is spelled so.
+use borrow.Author.Tests.{eq-eqb, ne-eqb, lt-ltb, le-ltb}
 use lib.Dec.{eqb}
 use lib.ListN.{length, getD, take, drop}
 use lib.Seq.{slice, length-slice, drop-cons, drop-length, getD-take, getD-drop}
 use mathlib.Core.Bool.{Bool, true, false, _&&_}
 use mathlib.Core.List.{List, [], _∷_}
 use mathlib.Core.Logic.{⊎-elim}
-use mathlib.Core.Path.{_≡_, refl, sym, _∙_, ap, ap₂}
+use mathlib.Core.Path.{_≡_, refl, sym, _∙_, ap}
 use native.Mathlib.Nat.{add-zero}
 use native.Mathlib.Numerals.{add-one}
 use native.Mathlib.Omega.{arith}
 use Prim.Native.Nat.{ℕ, suc, _+_, _-_, _≤_, _<_}
-use Rattle.language.proofs.Text.Choices.{outcome}
+use Rattle.language.proofs.Text.Choices.{outcome, clash}
 use Rattle.language.proofs.Text.Spellings.{stands, stands-yes, stands-no, stands-slice, slice-stands}
 use Rattle.language.proofs.Text.Tables.{same-one}
 use Rattle.language.specs.Text.{byte}
 use Rattle.language.specs.Tokens.{Spelling, same}
 use Rattle.layout.proofs.TokenLaws.{same-self}
-use Rattle.layout.specs.Table.{token-place, token-end}
+use Rattle.tokens.proofs.Planting.{none-before, none-alike}
+use Rattle.tokens.specs.declared.forks.Parting.the-variants.{At}
+use Rattle.tokens.specs.Forks.{letter-at, IsParting, Finds, Sought}
 use Rattle.tokens.specs.Found.{bytes-of, First}
 
 -- ---- bytes that are given
@@ -85,6 +86,26 @@ same-swap s w =
     (λ x. ⊎-elim (λ y. let e : w ≡ s = same-one w s y in rw e) (λ y. x ∙ sym y) (outcome (same w s)))
     (outcome (same s w))
 
+-- ---- letters
+
+pub letter-inside : (s : Spelling) (i : ℕ) → i < length s → letter-at s i ≡ getD s i 0 + 1
+unfolding letter-at
+letter-inside s i h = rw (lt-ltb i (length s) h)
+
+pub letter-past : (s : Spelling) (i : ℕ) → length s ≤ i → letter-at s i ≡ 0
+unfolding letter-at
+letter-past s i h = rw (le-ltb i (length s) h)
+
+pub slice-byte : (t : List ℕ) (p q i : ℕ) → i < q - p → getD (slice p q t) i 0 ≡ byte t (p + i)
+slice-byte t p q i h = getD-drop p (take q t) i 0 ∙ getD-take q t (p + i) 0 (omega arith)
+
+-- that of bytes of a text
+pub letter-none : (t : List ℕ) (p q i : ℕ) → q ≤ length t → q - p ≤ i → 0 ≡ letter-at (slice p q t) i
+letter-none t p q i l h = sym (letter-past (slice p q t) i (omega (arith, length-slice p q t l)))
+
+pub letter-some : (t : List ℕ) (p q i : ℕ) → q ≤ length t → i < q - p → {b : ℕ} → b ≡ byte t (p + i) → b + 1 ≡ letter-at (slice p q t) i
+letter-some t p q i l h e = sym (letter-inside (slice p q t) i (omega (arith, length-slice p q t l)) ∙ omega (arith, slice-byte t p q i h))
+
 -- ---- other bytes of the text
 
 -- the bytes from a up to b are as many as those from p up to q, and agree with them up to byte i
@@ -109,7 +130,7 @@ module _ {t : List ℕ} {a b p q i : ℕ} (g : Alike t a b p q i) where
   alike-within = omega (arith, size, g .agrees .within)
 
   first-byte : {x : ℕ} → i < b - a → x ≡ byte t (a + i) → getD (slice a b t) i 0 ≡ x
-  first-byte h e = getD-drop a (take b t) i 0 ∙ getD-take b t (a + i) 0 (omega arith) ∙ sym e
+  first-byte h e = slice-byte t a b i h ∙ sym e
 
   settled : {r : Bool} → r ≡ stands t p (slice a b t) → r ≡ same (slice a b t) (slice p q t)
   settled e = e ∙ stands-same t (slice a b t) p q (g .order) (g .ends) (size ∙ g .many)
@@ -121,40 +142,58 @@ module _ {t : List ℕ} {a b p q i : ℕ} (g : Alike t a b p q i) where
       record { inside = g .inside; order = g .order; ends = g .ends; many = g .many; agrees = more }
 
   -- byte i does not agree
-  pub alike-less : {x y : ℕ} → i < b - a → x ≡ byte t (a + i) → y ≡ byte t (p + i) → (x ≡ y → ⊥)
-      → false ≡ same (slice a b t) (slice p q t)
-  alike-less h e f n = settled (agrees-less (g .agrees) (omega (arith, size)) f (λ z. n (sym (z ∙ first-byte h e))))
+  pub alike-less : {x y : ℕ} → i < b - a → x ≡ byte t (a + i) → y ≡ byte t (p + i) → (x ≡ y → ⊥) → IsParting (slice a b t) (slice p q t) (At i)
+  alike-less h e f n =
+      let l = length-slice p q t (g .ends) in
+      let u = letter-inside (slice a b t) i (omega (arith, size)) in
+      let v = letter-inside (slice p q t) i (omega (arith, g .many)) in
+      (omega (arith, size), λ z. n (omega (arith, first-byte h e, slice-byte t p q i (omega (arith, g .many)))))
 
   -- no byte is left
-  pub alike-all : b - a ≤ i → true ≡ same (slice a b t) (slice p q t)
-  alike-all h = settled (agrees-all (g .agrees) (omega (arith, size)))
+  pub alike-all : b - a ≤ i → same (slice a b t) (slice p q t) ≡ true
+  alike-all h = sym (settled (agrees-all (g .agrees) (omega (arith, size))))
+
+-- there are more bytes of one than of the other
+pub fewer : (t : List ℕ) (a b p q : ℕ) → b ≤ length t → q ≤ length t → b - a < q - p → IsParting (slice a b t) (slice p q t) (At (b - a))
+fewer t a b p q h l n =
+    let x = length-slice a b t h in
+    let y = length-slice p q t l in
+    let u = letter-past (slice a b t) (b - a) (omega arith) in
+    let v = letter-inside (slice p q t) (b - a) (omega arith) in
+    (omega arith, λ z. omega arith)
+
+pub further : (t : List ℕ) (a b p q : ℕ) → b ≤ length t → q ≤ length t → q - p < b - a → IsParting (slice a b t) (slice p q t) (At (q - p))
+further t a b p q h l n =
+    let x = length-slice a b t h in
+    let y = length-slice p q t l in
+    let u = letter-inside (slice a b t) (q - p) (omega arith) in
+    let v = letter-past (slice p q t) (q - p) (omega arith) in
+    (omega arith, λ z. omega arith)
 
 -- ---- the tokens of a table
 
--- none of the first i tokens of the table is spelled s
-pub record Unlike (t w : List ℕ) (count : ℕ) (s : Spelling) (i : ℕ) : Type 0 where
-  pub within : i ≤ count
-  pub before : (j : ℕ) → j < i → same (bytes-of t w j) s ≡ false
+pub unlike : (x s : Spelling) → (x ≡ s → ⊥) → same x s ≡ false
+unlike x s h = ⊎-elim (λ e. absurd (h (same-one x s e))) (λ e. e) (outcome (same x s))
 
--- at first no token is compared
-pub unlike-none : {t w : List ℕ} {count : ℕ} {s : Spelling} → Unlike t w count s 0
-unlike-none {t} {w} {count} {s} = record { within = omega arith; before = below-none (λ j. same (bytes-of t w j) s ≡ false) }
+module _ {t w : List ℕ} {n : ℕ} {s : Spelling} (g : Sought (bytes-of t w) w n s) {r : ℕ} (f : Finds w s r) (h : r < n) where
+  -- the token at the way's end is spelled s
+  pub first-found : same (bytes-of t w r) s ≡ true → First t w n s r
+  first-found e = record {
+    within = omega arith;
+    before = λ i l. unlike (bytes-of t w i) s (none-before g f i l (omega arith));
+    here = λ l. e;
+  }
 
-module _ {t w : List ℕ} {count i : ℕ} {s : Spelling} (g : Unlike t w count s i) where
-  -- all are compared
-  pub unlike-all : count ≤ i → First t w count s i
-  unlike-all h = record { within = g .within; before = g .before; here = λ l. absurd (omega arith) }
+  -- it is not
+  pub first-none : same (bytes-of t w r) s ≡ false → First t w n s n
+  first-none e = record {
+    within = omega arith;
+    before = λ i l. unlike (bytes-of t w i) s (none-alike g f (λ z. clash (same-is z) e) i l);
+    here = λ l. absurd (omega arith);
+  }
+    where
+      same-is : bytes-of t w r ≡ s → same (bytes-of t w r) s ≡ true
+      same-is z = rw z (same-self s)
 
-  -- token i compared, with the outcome r
-  module _ {a b : ℕ} {r : Bool} (e : a ≡ token-place w i) (f : b ≡ token-end w i) (z : r ≡ same (slice a b t) s) where
-    outcome-of : r ≡ same (bytes-of t w i) s
-    outcome-of = z ∙ ap₂ (λ x y. same (slice x y t) s) e f
-
-    -- it is not spelled so
-    pub unlike-more : i < count → r ≡ false → Unlike t w count s (i + 1)
-    unlike-more h n =
-        record { within = omega arith; before = below-more (λ j. same (bytes-of t w j) s ≡ false) i (g .before) (sym outcome-of ∙ n) }
-
-    -- it is spelled so
-    pub unlike-but : r ≡ true → First t w count s i
-    unlike-but n = record { within = g .within; before = g .before; here = λ l. sym outcome-of ∙ n }
+pub first-of-all : {t w : List ℕ} {s : Spelling} → First t w 0 s 0
+first-of-all = record { within = omega arith; before = λ i l. absurd (omega arith); here = λ l. absurd (omega arith) }

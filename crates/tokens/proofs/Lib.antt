@@ -1,5 +1,14 @@
 pub mod Editions
+pub mod Bits
+pub mod Agreeing
+pub mod ForkLaws
+pub mod NewFork
+pub mod FirstForks
+pub mod Planting
+pub mod Indexing
+pub mod OneKind
 pub mod Compared
+pub mod Seeking
 pub mod HexDigits
 pub mod Views
 pub mod WordRows

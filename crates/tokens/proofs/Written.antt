@@ -7,7 +7,7 @@ use lib.Seq.{slice}
 use mathlib.Core.Bool.{Bool, true, false, cond}
 use mathlib.Core.List.{List, [], _∷_, _++_}
 use mathlib.Core.Logic.{⊎-elim}
-use mathlib.Core.Path.{_≡_, refl, sym, _∙_, ap₂, subst}
+use mathlib.Core.Path.{_≡_, refl, sym, _∙_, ap, ap₂, subst}
 use native.Mathlib.Nat.{zero-add}
 use native.Mathlib.Omega.{arith}
 use Prim.Native.Nat.{ℕ, _+_, _*_, _-_, _/_, _%_, _≤_, _<_}
@@ -21,7 +21,9 @@ use Rattle.language.specs.Tokens.{same, Vocabulary, Token, NAME, NUMBER, FLOAT-
 use Rattle.language.specs.Trees.{PUTCHAR}
 use Rattle.layout.proofs.TokenLaws.{same-self, first-is, lay-holds, place-held, end-held}
 use Rattle.layout.specs.Names.{first-from, name-number, float-bits, value-word, high-word, lay-tokens, Near}
+use Rattle.layout.specs.Table.{SPANS, token-word, token-place, token-end}
 use Rattle.layout.specs.Values.{HALF}
+use Rattle.tokens.specs.Forks.{ButRows}
 use Rattle.tokens.specs.Found.{Spans, bytes-of, First, Numbered, IsToken, TableWorth}
 
 float-value : (few : Bool) (k v : ℕ) → cond few (token FLOAT-NUMBER 0) overlong ≡ token k v → v ≡ 0
@@ -74,26 +76,33 @@ reached-near r short i h = omega (arith, reached-spot r i h .inside)
 
 -- ---- the table of the tokens that are reached
 
-module _ {voc : Vocabulary} (t w₀ : List ℕ) (ts : List Token) {p : ℕ} (r : Reaches voc t p ts) (room : 4 * length ts ≤ length w₀)
-    (near : Near ts) where
-  -- token i of the table is token i of the list
-  read-back : (i : ℕ) → i < length ts → bytes-of t (lay-tokens ts w₀ 0 ts) i ≡ getD ts i past .spelling
+module _ {voc : Vocabulary} (t w₀ w : List ℕ) (ts : List Token) {p : ℕ} (r : Reaches voc t p ts) (room : 4 * length ts ≤ length w₀)
+    (near : Near ts) (few : length ts ≤ TOKENS) (laid : ButRows w (lay-tokens ts w₀ 0 ts)) where
+  -- where it lies is told there
+  word : (i : ℕ) → i < length ts → token-word w i 1 ≡ token-word (lay-tokens ts w₀ 0 ts) i 1
+  word i h = laid .words (4 * i + 1) (λ a b. omega arith)
+
+  place-back : (i : ℕ) → i < length ts → token-place w i ≡ getD ts i past .place
   unfolding place-at
-  read-back i h =
-      let z = lay-holds ts w₀ room i h in
-      ap₂ (λ a b. slice a b t) (place-held z (near i h)) (end-held z (near i h)) ∙ reached-spot r i h .spells
+  place-back i h = ap (λ (x : ℕ). x % SPANS) (word i h) ∙ place-held (lay-holds ts w₀ room i h) (near i h)
+
+  end-back : (i : ℕ) → i < length ts → token-end w i ≡ getD ts i past .place + length (getD ts i past .spelling)
+  unfolding place-at
+  end-back i h = ap (λ (x : ℕ). x / SPANS) (word i h) ∙ end-held (lay-holds ts w₀ room i h) (near i h)
+
+  -- token i of the table is token i of the list
+  pub read-back : (i : ℕ) → i < length ts → bytes-of t w i ≡ getD ts i past .spelling
+  read-back i h = ap₂ (λ a b. slice a b t) (place-back i h) (end-back i h) ∙ reached-spot r i h .spells
 
   -- the bytes of each token lie in the text
-  pub table-spans : Spans t (lay-tokens ts w₀ 0 ts) (length ts)
-  unfolding place-at
+  pub table-spans : Spans t w (length ts)
   table-spans i h =
-      let z = lay-holds ts w₀ room i h in
-      let a = place-held z (near i h) in
-      let b = end-held z (near i h) in
+      let a = place-back i h in
+      let b = end-back i h in
       let c = reached-spot r i h .inside in
       (omega arith, omega arith)
 
-  first-number : (u : Token) (n : ℕ) → First t (lay-tokens ts w₀ 0 ts) (length ts) (u .spelling) n
+  first-number : (u : Token) (n : ℕ) → First t w (length ts) (u .spelling) n
       → first-from 0 (ts ++ (u ∷ [])) (u .spelling) ≡ n
   first-number u n f =
       let s = u .spelling in
@@ -102,25 +111,25 @@ module _ {voc : Vocabulary} (t w₀ : List ℕ) (ts : List Token) {p : ℕ} (r :
       (λ h. subst (λ x. same x s ≡ true) (read-back n h) (f .here h)) (same-self s)
       ∙ zero-add n
 
-  name-numbered : (u : Token) (n : ℕ) → Numbered t (lay-tokens ts w₀ 0 ts) (length ts) (u .spelling) n
+  name-numbered : (u : Token) (n : ℕ) → Numbered t w (length ts) (u .spelling) n
       → name-number (ts ++ (u ∷ [])) (u .spelling) ≡ n
   unfolding name-number
   name-numbered u n m =
       ⊎-elim (λ e. rw e (sym (m .putchar e))) (λ e. rw e (first-number u n (m .first e))) (outcome (same (u .spelling) PUTCHAR))
 
-  small-number : (u : Token) (n : ℕ) → length ts ≤ TOKENS → Numbered t (lay-tokens ts w₀ 0 ts) (length ts) (u .spelling) n → n ≤ TOKENS
-  small-number u n few m =
+  small-number : (u : Token) (n : ℕ) → Numbered t w (length ts) (u .spelling) n → n ≤ TOKENS
+  small-number u n m =
       ⊎-elim (λ e. omega (arith, m .putchar e)) (λ e. omega (arith, m .first e .within)) (outcome (same (u .spelling) PUTCHAR))
 
   -- the words of the next token
-  pub words-found : {q k e x n : ℕ} (y : IsToken voc t q k e x) → length ts ≤ TOKENS
-      → TableWorth t (lay-tokens ts w₀ 0 ts) (length ts) k (slice q e t) x n
+  pub words-found : {q k e x n : ℕ} (y : IsToken voc t q k e x)
+      → TableWorth t w (length ts) k (slice q e t) x n
       → Halves (ts ++ (token-of t q e k (y .value) ∷ [])) (token-of t q e k (y .value)) n
-  words-found {q} {k} {e} {x} {n} y few m =
+  words-found {q} {k} {e} {x} {n} y m =
       let u = token-of t q e k (y .value) in
       let us = ts ++ (u ∷ []) in
       ⊎-elim (λ a. let z = eqb-true k NAME a in
-      name-halves us u n z (small-number u n few (m .name z)) (name-numbered u n (m .name z)))
+      name-halves us u n z (small-number u n (m .name z)) (name-numbered u n (m .name z)))
       (λ a. let z = eqb-false k NAME a in
       ⊎-elim (λ b. let f = eqb-true k FLOAT-NUMBER b in float-halves us u n f (m .other z ∙ y .float f))
       (λ b. let f = eqb-false k FLOAT-NUMBER b in

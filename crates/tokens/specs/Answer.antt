@@ -9,12 +9,13 @@ use Rattle.language.specs.Text.{Splits, Flawed}
 use Rattle.language.specs.Tokens as Tokens
 use Rattle.numbers.specs.Meanings.{flaw-meant}
 use Rattle.layout.specs.Names.{lay-tokens}
+use Rattle.tokens.specs.Forks.{ButRows}
 use Rattle.tokens.specs.declared.answer.Split as split
 use Rattle.tokens.specs.declared.answer.Split.the-variants.{Tokens, Stopped, TooLong}
 
--- the table w with the tokens ts is v
+-- the table w with the tokens ts is v, but for the words of rows and functions
 abbrev pub Laid : List Tokens.Token → List ℕ → List ℕ → Type 0
-Laid ts w v = v ≡ lay-tokens ts w 0 ts
+Laid ts w v = ButRows v (lay-tokens ts w 0 ts)
 
 -- the text t splits into n tokens, which lie in the table
 pub record Whole (voc : Tokens.Vocabulary) (t w v : List ℕ) (n : ℕ) : Type 0 where

@@ -20,6 +20,7 @@ use Rattle.language.specs.Trees.{PUTCHAR}
 use Rattle.layout.specs.Names.{float-bits}
 use Rattle.layout.specs.Table.{token-place, token-end}
 use Rattle.numbers.specs.Meanings.{flaw-meant}
+use Rattle.tokens.specs.Forks.{Sought}
 use Rattle.tokens.specs.Shown.{is-capital}
 use Rattle.tokens.specs.declared.bytes.Class as class
 use Rattle.tokens.specs.declared.bytes.Class.the-variants.{NameByte, DigitOf, Capital, InLine}
@@ -118,6 +119,11 @@ pub record Comparable (t w : List ℕ) (count p q : ℕ) : Type 0 where
 -- the spelling of token i
 abbrev pub bytes-of : List ℕ → List ℕ → ℕ → Spelling
 bytes-of t w i = slice (token-place w i) (token-end w i) t
+
+-- and the first of them that is spelled so can be found
+pub record Searchable (t w : List ℕ) (count p q : ℕ) : Type 0 where
+  pub bytes : Comparable t w count p q
+  pub sought : Sought (bytes-of t w) w count (slice p q t)
 
 -- r is the ordinal of the first of `count` tokens that is spelled s; where there is none, the count
 pub record First (t w : List ℕ) (count : ℕ) (s : Spelling) (r : ℕ) : Type 0 where

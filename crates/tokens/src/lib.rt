@@ -1,10 +1,13 @@
 // The tokens of a sheet: its bytes are split into the longest pieces, and each token is written into
 // table memory, with the number of its name where it is one.
+ghost use mathlib.Core.Path.{_≡_};
 ghost use Prim.Native.Nat.{_≤_};
 ghost use lib.ListN.{length};
 ghost use lib.Seq.{slice};
 ghost use Rattle.language.specs.Sizes.{TABLE};
-ghost use Rattle.tokens.specs.Found.{Comparable, TableWorth};
+ghost use Rattle.language.specs.Tokens.{NAME};
+ghost use Rattle.tokens.specs.Found.{Searchable, TableWorth, bytes-of};
+ghost use Rattle.tokens.specs.Forks.{Foretold};
 ghost use Rattle.tokens.specs.Answer.{IsSplit};
 ghost use Rattle.tokens.specs.Editions.{meant};
 ghost use Rattle.tokens.specs.Shown.{text-of};
@@ -14,6 +17,7 @@ pub mod bytes;
 mod comments;
 pub mod edition;
 mod floats;
+pub mod forks;
 pub mod hexadecimal;
 mod marks;
 pub mod names;
@@ -37,17 +41,19 @@ fn table_worth(
     first: &[u8],
     second: &[u8],
     view: View,
-    table: &[u32],
+    table: &mut [u32],
     count: usize,
     kind: u32,
     p: usize,
     q: usize,
     worth: u64,
 ) -> u64
-    requires { ⌜ Comparable (text-of first second view) (now table) count p q ⌝ }
+    requires { ⌜ (kind ≡ NAME → Searchable (text-of first second view) (now table) count p q) ⌝ }
     ensures { λ r.
         ⌜ TableWorth (text-of (first .entry) (second .entry) view) (now (table .entry)) count kind
-        (slice p q (text-of (first .entry) (second .entry) view)) worth r ⌝ }
+        (slice p q (text-of (first .entry) (second .entry) view)) worth r
+        × Foretold (bytes-of (text-of (first .entry) (second .entry) view) (now (table .entry))) (now (table .entry))
+        (now (table .exit)) count kind (slice p q (text-of (first .entry) (second .entry) view)) ⌝ }
 {
     if kind == kinds::NAME {
         return names::name_number(first, second, view, table, count, p, q) as u64;
@@ -55,8 +61,8 @@ fn table_worth(
     worth
 }
 
-// Splits the text into the tokens of an edition and writes them into the table, as far as the first flaw. All other
-// words of the table stay as they were.
+// Splits the text into the tokens of an edition and writes them into the table, as far as the first flaw. The words of
+// rows and functions are used for it and left anyhow; all others stay as they were.
 pub fn split(edition: Edition, first: &[u8], second: &[u8], view: View, table: &mut [u32]) -> Split
     requires { ⌜ TABLE ≤ length (now table) ⌝ }
     ensures { λ r.
@@ -67,6 +73,7 @@ pub fn split(edition: Edition, first: &[u8], second: &[u8], view: View, table: &
     if SOURCE < size {
         return Split::TooLong;
     }
+    forks::begin(table);
     let mut at = 0;
     let mut count = 0;
     while at < size {

@@ -14,7 +14,9 @@ use Rattle.language.specs.Tokens.{Vocabulary}
 use Rattle.tokens.proofs.split.Statement.{statement}
 use Rattle.tokens.proofs.split.Tie as tie
 use Rattle.tokens.proofs.Splitting.{Reached, reached-none, reached-length, reached-skip}
-use Rattle.tokens.proofs.Splitting.{reached-broken, reached-whole, reached-spans, reached-next}
+use Rattle.tokens.proofs.Splitting.{reached-broken, reached-whole, reached-searchable, reached-next}
+use Rattle.tokens.proofs.Editions.{laws-of}
+use Rattle.tokens.proofs.Indexing.{foretold-rest}
 use Rattle.tokens.specs.Editions.{meant}
 use Rattle.tokens.specs.Found.{IsPiece, IsToken}
 use Rattle.tokens.specs.Shown.{shown}
@@ -27,15 +29,24 @@ abbrev μ-loop : tie.MeasureT-loop
 
 -- the text, from the loop's head
 abbrev text : tie.At-loop Inv-loop μ-loop → List ℕ
-text h = let a = h .before .before .before .before .before .before .args in shown (a .first .now) (a .second .now) (a .view)
+text h =
+    let earlier = h .before .before .before .before .before .before .before in
+    let start = earlier .before .before .before in
+    let a = start .args in shown (a .first .now) (a .second .now) (a .view)
 
 -- the words and marks
 abbrev voc : tie.At-loop Inv-loop μ-loop → Vocabulary
-voc h = meant (h .before .before .before .before .before .before .args .edition)
+voc h =
+    let earlier = h .before .before .before .before .before .before .before in
+    let start = earlier .before .before .before in
+    meant (start .args .edition)
 
 -- it is not too long
 short : (h : tie.At-loop Inv-loop μ-loop) → length (text h) ≤ SOURCE
-short h = subst (λ n. n ≤ SOURCE) (h .before .before .len .ensures) (h .before .if1 .left)
+short h =
+    let at-if1 = h .before .before .before .before .before in
+    let at-len = at-if1 .before in
+    subst (λ n. n ≤ SOURCE) (at-len .len .ensures) (at-if1 .if1 .left)
 
 -- the token that stands there: its kind, its end and what it is worth
 abbrev Held : tie.After-kind Inv-loop μ-loop → Type 0
@@ -60,11 +71,21 @@ len-requires c κs = search needs
 returns : tie.Need-returns Inv-loop μ-loop
 returns c = record { long = subst (λ n. SOURCE < n) (c .before .len .ensures) (c .if1 .taken); kept = refl }
 
+begin-requires : tie.Need-begin-requires Inv-loop μ-loop
+begin-requires c κs = c .before .before .before .before .before .before .pre
+
 loop-holds : tie.Need-loop-holds Inv-loop μ-loop
-loop-holds c = let a = c .before .before .before .before .before .args in reached-none (shown (a .first .now) (a .second .now) (a .view)) (a .table .now)
+loop-holds c =
+    let earlier = c .before .before .before .before .before .before .before in
+    let start = earlier .before .before in
+    let a = start .args in
+    reached-none (shown (a .first .now) (a .second .now) (a .view)) _ (omega (arith, c .before .before .begin .ensures .rest .long, start .pre))
+    (c .before .before .begin .ensures .shape)
 
 piece-at-requires : tie.Need-piece-at-requires Inv-loop μ-loop
-piece-at-requires c κs = subst (λ n. c .before .loop .at < n) (c .before .before .before .len .ensures) (c .loop-test .taken)
+piece-at-requires c κs =
+    let at-len = c .before .before .before .before .before .before .before in
+    subst (λ n. c .before .loop .at < n) (at-len .len .ensures) (c .loop-test .taken)
 
 enum-known-end : tie.Need-enum-known-end Inv-loop μ-loop
 enum-known-end c = search needs
@@ -91,7 +112,10 @@ enum-known-kind : tie.Need-enum-known-kind Inv-loop μ-loop
 enum-known-kind c = search needs
 
 same-length : tie.Need-same-length Inv-loop μ-loop
-same-length c = reached-length (c .before .before .before .before .before .before .loop .inv)
+same-length c =
+    let at-loop = c .before .before .before .before .before .before in
+    let at-begin = at-loop .before .before .before in
+    reached-length (at-loop .loop .inv) ∙ at-begin .begin .ensures .rest .long
 
 returns-2 : tie.Need-returns-2 Inv-loop μ-loop
 returns-2 c =
@@ -99,17 +123,15 @@ returns-2 c =
     let h = k .before .before .before .before in
     let x = held k in
     let full = c .if2 .taken in
-    reached-broken (h .loop .inv) many-tokens (short h) (λ ts e. many (x .piece) (x .small) (sym e ∙ full))
+    reached-broken (h .loop .inv) (h .before .before .before .begin .ensures .rest) many-tokens (short h) (λ ts e. many (x .piece) (x .small) (sym e ∙ full))
 
 table-worth-requires : tie.Need-table-worth-requires Inv-loop μ-loop
 table-worth-requires c κs =
     let k = c .before .before .before in
     let h = k .before .before .before .before in
-    let l = h .loop in
-    let room = h .before .before .before .before .before .before .pre in
-    let b = bounds k in
-    let spans = reached-spans (l .inv) room (short h) in
-    record { room = omega (arith, reached-length (l .inv)); few = l .inv .few; order = omega (arith, b .0); inside = b .1; spans = spans }
+    let start = h .before .before .before .before .before .before .before .before .before .before in
+    reached-searchable (h .loop .inv) (short h) (omega (arith, h .loop .inv .few, c .before .if2 .left)) (held k)
+    (laws-of (start .args .edition))
 
 high-requires : tie.Need-high-requires Inv-loop μ-loop
 high-requires c κs = search needs
@@ -118,65 +140,84 @@ low-requires : tie.Need-low-requires Inv-loop μ-loop
 low-requires c κs = search needs
 
 cast-put : tie.Need-cast-put Inv-loop μ-loop
-cast-put c = let k = c .before .before .before .before .before .before .before in omega (arith, bounds k, short (k .before .before .before .before))
+cast-put c =
+    let earlier = c .before .before .before .before .before .before .before in
+    let here = earlier .before .before in
+    let k = here in omega (arith, bounds k, short (k .before .before .before .before))
 
 cast-put-2 : tie.Need-cast-put-2 Inv-loop μ-loop
-cast-put-2 c = let k = c .before .before .before .before .before .before .before in omega (arith, bounds k .1, short (k .before .before .before .before))
+cast-put-2 c =
+    let earlier = c .before .before .before .before .before .before .before in
+    let here = earlier .before .before in
+    let k = here in omega (arith, bounds k .1, short (k .before .before .before .before))
 
 put-requires : tie.Need-put-requires Inv-loop μ-loop
 put-requires c κs =
-    let k = c .before .before .before .before .before .before .before in
+    let at-table-worth = c .before .before .before .before .before in
+    let at-if2 = at-table-worth .before .before in
+    let here = at-if2 .before .before in
+    let k = here in
     let h = k .before .before .before .before in
     let l = h .loop in
     let small = short h in
     let b = bounds k in
-    let room : TABLE ≤ length (l .table) = omega (arith, reached-length (l .inv), h .before .before .before .before .before .before .pre) in
-    (room, omega (arith, l .inv .few, c .before .before .before .before .before .if2 .left), omega (arith, b .0, b .1), omega (arith, b .1))
+    let long = foretold-rest (at-table-worth .table-worth .ensures .1) .long in (
+      omega (arith, long, reached-length (l .inv), l .inv .room),
+      omega (arith, l .inv .few, at-if2 .if2 .left),
+      omega (arith, b .0, b .1),
+      omega (arith, b .1),
+    )
 
 add-count : tie.Need-add-count Inv-loop μ-loop
 add-count c =
-    let k = c .before .before .before .before .before .before .before .before .before .before in
-    omega (arith, k .before .before .before .before .loop .inv .few)
+    let earlier = c .before .before .before .before .before .before .before in
+    let here = earlier .before .before .before .before .before in
+    let k = here in omega (arith, k .before .before .before .before .loop .inv .few)
 
 loop-less-2 : tie.Need-loop-less-2 Inv-loop μ-loop
 loop-less-2 c =
-    let k = c .before .before .before .before .before .before .before .before .before .before in
-    omega (arith, bounds k .0, k .before .before .before .loop-test .taken)
+    let earlier = c .before .before .before .before .before .before .before in
+    let here = earlier .before .before .before .before .before in
+    let k = here in omega (arith, bounds k .0, k .before .before .before .loop-test .taken)
 
 loop-again-2 : tie.Need-loop-again-2 Inv-loop μ-loop
 loop-again-2 c =
     let put = c .before .before in
     let low = put .before .before in
-    let worth = low .before .before in
+    let high = low .before in
+    let worth = high .before .before .before in
     let if2 = worth .before .before in
     let k = if2 .before .before in
     let h = k .before .before .before .before in
     let l = h .loop in
-    let room = h .before .before .before .before .before .before .pre in
-    reached-next (l .inv) room (short h) (omega (arith, l .inv .few, if2 .if2 .left)) (held k) (worth .table-worth .ensures)
-    (low .before .high .ensures) (low .low .ensures) (put .put .ensures)
+    reached-next (l .inv) (short h) (omega (arith, l .inv .few, if2 .if2 .left)) (held k) (worth .table-worth .ensures .0)
+    (worth .table-worth .ensures .1) (high .high .ensures) (low .low .ensures) (put .put .ensures)
 
 enum-known-flaw : tie.Need-enum-known-flaw Inv-loop μ-loop
 enum-known-flaw c = search needs
 
 same-length-2 : tie.Need-same-length-2 Inv-loop μ-loop
-same-length-2 c = reached-length (c .before .before .before .before .before .loop .inv)
+same-length-2 c =
+    let at-loop = c .before .before .before .before .before in
+    let at-begin = at-loop .before .before .before in
+    reached-length (at-loop .loop .inv) ∙ at-begin .begin .ensures .rest .long
 
 returns-3 : tie.Need-returns-3 Inv-loop μ-loop
 returns-3 c =
     let h = c .before .before .before .before .before in
     let l = h .loop in
     let wrong = subst (IsPiece (voc h) (text h) (l .at)) (c .before .flaw .given .1) (c .before .before .before .piece-at .ensures) in
-    reached-broken (l .inv) _ (short h) (λ ts e. wrong ts)
+    reached-broken (l .inv) (h .before .before .before .begin .ensures .rest) _ (short h) (λ ts e. wrong ts)
 
 same-length-3 : tie.Need-same-length-3 Inv-loop μ-loop
-same-length-3 c = reached-length (c .before .loop .inv)
+same-length-3 c = reached-length (c .before .loop .inv) ∙ c .before .before .before .before .begin .ensures .rest .long
 
 returns-4 : tie.Need-returns-4 Inv-loop μ-loop
 returns-4 c =
     let h = c .before in
     let l = h .loop in
-    reached-whole (l .inv) (short h) (omega (arith, reached-inside (l .inv .reaches), c .loop-test .left, h .before .before .len .ensures))
+    reached-whole (l .inv) (h .before .before .before .begin .ensures .rest) (short h)
+    (omega (arith, reached-inside (l .inv .reaches), c .loop-test .left, h .before .before .before .before .before .before .len .ensures))
 
 pub split-spec : {M : Type 1} → statement M
 split-spec =
@@ -186,6 +227,7 @@ split-spec =
     μ-loop
     len-requires
     returns
+    begin-requires
     loop-holds
     piece-at-requires
     enum-known-end

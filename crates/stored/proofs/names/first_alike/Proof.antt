@@ -1,91 +1,119 @@
--- `first_alike` goes from line to line.
-use lib.Seq.{slice}
+-- `first_alike` follows the way of the digits to its end.
+use lib.ListN.{getD}
 use mathlib.Core.Path.{refl}
-use Prim.Native.Nat.{_-_}
-use Rattle.stored.proofs.NameLaws.{Unlike, unlike-none, unlike-all, unlike-inside, unlike-more, unlike-but}
-use borrow.Author.Needs.{needs}
 use native.Mathlib.Omega.{arith}
+use Prim.Native.Nat.{_+_, _<_}
+use Rattle.tokens.specs.Forks.{STARTS-AT}
+use Rattle.stored.proofs.NameLaws.{line-near, hangable, hung-found, hung-none, seekable, first-start}
+use borrow.Author.Needs.{needs}
 use Rattle.stored.proofs.names.first_alike.Statement.{statement}
 use Rattle.stored.proofs.names.first_alike.Tie as tie
 
-abbrev Inv-loop : tie.InvT-loop
-Inv-loop stored table count p q i₀ from₀ i from = Unlike stored table count (slice p q stored) i from
+returns : tie.Need-returns
+returns c = first-start (c .if1 .taken) (c .before .before .before .pre .sought .shape)
 
-abbrev μ-loop : tie.MeasureT-loop
-μ-loop stored table count p q i₀ from₀ i from = count - i
+way-end-requires : tie.Need-way-end-requires
+way-end-requires c κs = seekable (c .before .before .before .before .pre)
 
-loop-holds : tie.Need-loop-holds Inv-loop μ-loop
-loop-holds c = let a = c .before .before .args in unlike-none (a .stored .now) (a .table .now) (a .count) (slice (a .p) (a .q) (a .stored .now))
+mul-leaf : tie.Need-mul-leaf
+mul-leaf c = search needs
 
-end-requires : tie.Need-end-requires Inv-loop μ-loop
-end-requires c κs = omega (arith, c .before .before .before .before .pre .room, c .before .before .before .before .pre .few, c .loop-test .taken)
+slice-read-leaf : tie.Need-slice-read-leaf
+slice-read-leaf c = search needs
 
-cast-to : tie.Need-cast-to Inv-loop μ-loop
+cast-leaf : tie.Need-cast-leaf
+cast-leaf c = search needs
+
+add-from : tie.Need-add-from
+add-from c = search needs
+
+mul-from : tie.Need-mul-from
+mul-from c = search needs
+
+slice-read-from : tie.Need-slice-read-from
+slice-read-from c = search needs
+
+cast-from : tie.Need-cast-from
+cast-from c =
+    let here = c .before .before .before .before .before .before .before in
+    let s = here in omega (arith, c .slice-known3 .given (STARTS-AT + getD (s .args .table .now) (c .before .before .way-end .result) 0))
+
+end-requires : tie.Need-end-requires
+end-requires c κs = search needs
+
+cast-to : tie.Need-cast-to
 cast-to c = search needs
 
-mul-to : tie.Need-mul-to Inv-loop μ-loop
-mul-to c =
-    let start = c .before .before .before .before .before in
-    omega (arith, unlike-inside (c .before .before .loop .inv) (c .end .ensures) (c .before .loop-test .taken) (start .pre .lines), start .good)
+mul-to : tie.Need-mul-to
+mul-to c = search needs
 
-add-to : tie.Need-add-to Inv-loop μ-loop
+add-to : tie.Need-add-to
 add-to c =
-    let start = c .before .before .before .before .before in
-    omega (arith, unlike-inside (c .before .before .loop .inv) (c .end .ensures) (c .before .loop-test .taken) (start .pre .lines), start .good)
+    let at-way-end = c .before .before .before .before in
+    let at-if1 = at-way-end .before .before in
+    let here = at-if1 .before .before .before in
+    let s = here in
+    let end = at-way-end .way-end .ensures in
+    let some : 0 < s .args .count = omega (arith, at-if1 .if1 .left) in omega (arith, line-near (s .pre) end some refl refl (c .end .ensures), s .pre .near)
 
-alike-requires : tie.Need-alike-requires Inv-loop μ-loop
-alike-requires c κs =
-    let start = c .before .before .before .before .before in
-    let inside = unlike-inside (c .before .before .loop .inv) (c .end .ensures) (c .before .loop-test .taken) (start .pre .lines) in
-    (omega arith, omega (arith, inside), start .pre .order, start .pre .inside)
+hang-requires : tie.Need-hang-requires
+hang-requires c κs =
+    let at-way-end = c .before .before .before .before .before in
+    let at-if1 = at-way-end .before .before in
+    let here = at-if1 .before .before .before in
+    let s = here in
+    let end = at-way-end .way-end .ensures in
+    let some : 0 < s .args .count = omega (arith, at-if1 .if1 .left) in hangable (s .pre) end some refl refl (c .before .end .ensures) refl
 
-returns : tie.Need-returns Inv-loop μ-loop
-returns c =
-    let at-loop = c .before .before .before .before in
-    unlike-but (at-loop .loop .inv) (c .before .before .end .ensures) refl (c .before .alike .ensures) (c .if1 .taken)
+same-length : tie.Need-same-length
+same-length c = search needs
 
-add-from : tie.Need-add-from Inv-loop μ-loop
-add-from c =
-    let at-loop-test = c .before .before .before in
-    let at-loop = at-loop-test .before in
-    let start = at-loop .before .before .before in
-    omega (
-      arith,
-      unlike-inside (at-loop .loop .inv) (c .before .before .end .ensures) (at-loop-test .loop-test .taken) (start .pre .lines),
-      start .good,
-    )
+returns-2 : tie.Need-returns-2
+returns-2 c =
+    let at-hang = c .before .before .before in
+    let at-end = at-hang .before .before in
+    let at-way-end = at-end .before .before .before .before in
+    let at-if1 = at-way-end .before .before in
+    let here = at-if1 .before .before .before in
+    let s = here in
+    let end = at-way-end .way-end .ensures in
+    let some : 0 < s .args .count = omega (arith, at-if1 .if1 .left) in hung-found (s .pre) end some refl refl (at-end .end .ensures) refl
+    (at-hang .hang .ensures) (c .if2 .taken)
 
-add-i : tie.Need-add-i Inv-loop μ-loop
-add-i c = search needs
+same-length-2 : tie.Need-same-length-2
+same-length-2 c = search needs
 
-loop-less : tie.Need-loop-less Inv-loop μ-loop
-loop-less c = search needs
-
-loop-again : tie.Need-loop-again Inv-loop μ-loop
-loop-again c =
-    let at-loop-test = c .before .before .before in
-    let at-loop = at-loop-test .before in
-    unlike-more (at-loop .loop .inv) (c .before .before .end .ensures) refl (c .before .alike .ensures) (at-loop-test .loop-test .taken)
-    (c .if1 .left)
-
-returns-2 : tie.Need-returns-2 Inv-loop μ-loop
-returns-2 c = unlike-all (c .before .loop .inv) (c .loop-test .left)
+returns-3 : tie.Need-returns-3
+returns-3 c =
+    let at-hang = c .before .before .before in
+    let at-end = at-hang .before .before in
+    let at-way-end = at-end .before .before .before .before in
+    let at-if1 = at-way-end .before .before in
+    let here = at-if1 .before .before .before in
+    let s = here in
+    let end = at-way-end .way-end .ensures in
+    let some : 0 < s .args .count = omega (arith, at-if1 .if1 .left) in hung-none (s .pre) end some refl refl (at-end .end .ensures) refl
+    (at-hang .hang .ensures) (c .if2 .left)
 
 pub first-alike-spec : {M : Type 1} → statement M
 first-alike-spec =
     tie.close
     (tie.spec
-    Inv-loop
-    μ-loop
-    loop-holds
+    returns
+    way-end-requires
+    mul-leaf
+    slice-read-leaf
+    cast-leaf
+    add-from
+    mul-from
+    slice-read-from
+    cast-from
     end-requires
     cast-to
     mul-to
     add-to
-    alike-requires
-    returns
-    add-from
-    add-i
-    loop-less
-    loop-again
-    returns-2)
+    hang-requires
+    same-length
+    returns-2
+    same-length-2
+    returns-3)

@@ -1,84 +1,104 @@
--- `first_alike` compares the tokens of the table in their order.
-use borrow.Author.Needs.{needs}
-use lib.Seq.{slice}
+-- `first_alike` follows the way of the bytes to its end.
 use native.Mathlib.Omega.{arith}
-use Prim.Native.Nat.{_-_}
-use Rattle.tokens.proofs.Compared.{Unlike, unlike-none, unlike-more, unlike-but, unlike-all}
+use mathlib.Core.Path.{refl}
+use Prim.Native.Nat.{_<_}
+use Rattle.tokens.proofs.Planting.{link-inside}
+use Rattle.tokens.proofs.Seeking.{seekable, first-start, leaf-inside, hangable, hung-found, hung-none}
+use borrow.Author.Needs.{needs}
 use Rattle.tokens.proofs.names.first_alike.Statement.{statement}
 use Rattle.tokens.proofs.names.first_alike.Tie as tie
-use Rattle.tokens.specs.Shown.{shown}
 
-abbrev Inv-loop : tie.InvT-loop
-Inv-loop first second view table count p q i₀ i =
-    Unlike (shown first second view) table count (slice p q (shown first second view)) i
+returns : tie.Need-returns
+returns c = first-start (c .if1 .taken) (c .before .before .before .before .pre .sought .shape)
 
-abbrev μ-loop : tie.MeasureT-loop
-μ-loop first second view table count p q i₀ i = count - i
+way-end-requires : tie.Need-way-end-requires
+way-end-requires c κs = seekable (c .before .before .before .before .before .pre)
 
-loop-holds : tie.Need-loop-holds Inv-loop μ-loop
-loop-holds c = unlike-none
+mul-leaf : tie.Need-mul-leaf
+mul-leaf c = search needs
 
-place-requires : tie.Need-place-requires Inv-loop μ-loop
+slice-read-leaf : tie.Need-slice-read-leaf
+slice-read-leaf c = search needs
+
+cast-leaf : tie.Need-cast-leaf
+cast-leaf c = search needs
+
+place-requires : tie.Need-place-requires
 place-requires c κs =
-    omega (arith, c .before .before .before .before .before .pre .room, c .before .before .before .before .before .pre .few, c .loop-test .taken)
+    let at-if1 = c .before .before .before .before in
+    let here = at-if1 .before .before .before .before in
+    let s = here in
+    let end = c .before .before .way-end .ensures in
+    let some : 0 < s .args .count = omega (arith, at-if1 .if1 .left) in
+    (s .pre .bytes .room, omega (arith, leaf-inside (s .pre) some end refl, s .pre .sought .small))
 
-cast-from : tie.Need-cast-from Inv-loop μ-loop
+cast-from : tie.Need-cast-from
 cast-from c = search needs
 
-end-requires : tie.Need-end-requires Inv-loop μ-loop
-end-requires c κs =
-    omega (
-      arith,
-      c .before .before .before .before .before .before .pre .room,
-      c .before .before .before .before .before .before .pre .few,
-      c .before .loop-test .taken,
-    )
+end-requires : tie.Need-end-requires
+end-requires c κs = search needs
 
-cast-to : tie.Need-cast-to Inv-loop μ-loop
+cast-to : tie.Need-cast-to
 cast-to c = search needs
 
-alike-requires : tie.Need-alike-requires Inv-loop μ-loop
-alike-requires c κs =
-    let given = c .before .before .before .before .before .before .before .pre in
-    let spans = given .spans (c .before .before .before .loop .i) (c .before .before .loop-test .taken) in
-    let from = c .before .place .ensures in
-    let to = c .end .ensures in
-    (omega arith, omega arith, given .order, given .inside)
+hang-requires : tie.Need-hang-requires
+hang-requires c κs =
+    let at-place = c .before .before .before in
+    let at-way-end = at-place .before .before .before in
+    let at-if1 = at-way-end .before .before in
+    let here = at-if1 .before .before .before .before in
+    let s = here in
+    let end = at-way-end .way-end .ensures in
+    let some : 0 < s .args .count = omega (arith, at-if1 .if1 .left) in hangable (s .pre) some end refl (at-place .place .ensures) (c .before .end .ensures)
+    (omega arith)
 
-returns : tie.Need-returns Inv-loop μ-loop
-returns c =
-    unlike-but (c .before .before .before .before .before .loop .inv) (c .before .before .before .place .ensures)
-    (c .before .before .end .ensures) (c .before .alike .ensures) (c .if1 .taken)
+same-length : tie.Need-same-length
+same-length c = search needs
 
-add-i : tie.Need-add-i Inv-loop μ-loop
-add-i c = search needs
+returns-2 : tie.Need-returns-2
+returns-2 c =
+    let at-hang = c .before .before .before in
+    let at-end = at-hang .before .before in
+    let at-place = at-end .before .before in
+    let at-way-end = at-place .before .before .before in
+    let at-if1 = at-way-end .before .before in
+    let here = at-if1 .before .before .before .before in
+    let s = here in
+    let end = at-way-end .way-end .ensures in
+    let some : 0 < s .args .count = omega (arith, at-if1 .if1 .left) in hung-found (s .pre) some end refl (at-place .place .ensures) (at-end .end .ensures)
+    (at-hang .hang .ensures) (c .if2 .taken)
 
-loop-less : tie.Need-loop-less Inv-loop μ-loop
-loop-less c = search needs
+same-length-2 : tie.Need-same-length-2
+same-length-2 c = search needs
 
-loop-again : tie.Need-loop-again Inv-loop μ-loop
-loop-again c =
-    let l = c .before .before .before .before .before .loop in
-    unlike-more (l .inv) (c .before .before .before .place .ensures) (c .before .before .end .ensures) (c .before .alike .ensures)
-    (c .before .before .before .before .loop-test .taken) (c .if1 .left)
-
-returns-2 : tie.Need-returns-2 Inv-loop μ-loop
-returns-2 c = unlike-all (c .before .loop .inv) (c .loop-test .left)
+returns-3 : tie.Need-returns-3
+returns-3 c =
+    let at-hang = c .before .before .before in
+    let at-end = at-hang .before .before in
+    let at-place = at-end .before .before in
+    let at-way-end = at-place .before .before .before in
+    let at-if1 = at-way-end .before .before in
+    let here = at-if1 .before .before .before .before in
+    let s = here in
+    let end = at-way-end .way-end .ensures in
+    let some : 0 < s .args .count = omega (arith, at-if1 .if1 .left) in hung-none (s .pre) some end refl (at-place .place .ensures) (at-end .end .ensures)
+    (at-hang .hang .ensures) (c .if2 .left)
 
 pub first-alike-spec : {M : Type 1} → statement M
 first-alike-spec =
     tie.close
     (tie.spec
-    Inv-loop
-    μ-loop
-    loop-holds
+    returns
+    way-end-requires
+    mul-leaf
+    slice-read-leaf
+    cast-leaf
     place-requires
     cast-from
     end-requires
     cast-to
-    alike-requires
-    returns
-    add-i
-    loop-less
-    loop-again
-    returns-2)
+    hang-requires
+    same-length
+    returns-2
+    same-length-2
+    returns-3)
