@@ -48,6 +48,8 @@ def functions(n, arity, long, front):
 SHAPES = {
     "blanks": lambda a, b, f: (" " * (a * 30), 0),
     "line comments": lambda a, b, f: (("//" + "x" * b + "\n") * a, 0),
+    "empty comments": lambda a, b, f: ("//\n" * (a * 10), 0),
+    "names": lambda a, b, f: ("".join(f"{name(i, b, f)}+" for i in range(a)), 2 * a),
     "nested comments": lambda a, b, f: ("/*" * a + "x" * b + "*/" * a, 0),
     "lets": lambda a, b, f: lets(a, b, f),
     "lets and uses": lambda a, b, f: uses(max(a // 4, 1), a, b, f),
@@ -187,7 +189,7 @@ def main(words):
         number, _, total = box.count("grumpy_check", "check", box.file("sheet", sheet(genes)))
         return total if number in (0, 33, 35) else None
 
-    singles = [[(s, a, b, f)] for s in sorted(SHAPES) for a, b in ((1, 48000), (100, 400), (260, 150), (260, 3), (600, 8), (1300, 1))
+    singles = [[(s, a, b, f)] for s in sorted(SHAPES) for a, b in ((1, 48000), (100, 400), (260, 150), (260, 3), (600, 8), (670, 70), (1300, 1), (1600, 1))
                for f in (False, True)]
     singles += [[("functions", 32, 8, f)] for f in (False, True)]
     (cost, genes), tried = climb(seconds, rng, [s for s in singles if len(sheet(s)) > 1], mutate, check)

@@ -1,8 +1,6 @@
-pub mod Asked
 pub mod Causes
 pub mod Counts
 pub mod Ends
-pub mod Meanings
 pub mod Shifts
 pub mod Machines
 pub mod Told

@@ -1,10 +1,10 @@
 // The words that the program is started with.
 use crate::input;
-use clerk::asked;
-use clerk::asked::Asked;
-use clerk::asked::Word;
-use clerk::meanings;
-use clerk::tasks;
+use orders::asked;
+use orders::asked::Asked;
+use orders::asked::Word;
+use orders::meanings;
+use orders::tasks;
 
 // What a word means by itself.
 pub fn meaning(i: usize) -> Word {

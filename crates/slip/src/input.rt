@@ -2,8 +2,8 @@
 ghost use Rattle.io.specs.Counts.{Counts};
 ghost use Rattle.slip.specs.Sheets.{Loaded};
 use crate::output;
-use clerk::asked::Asked;
-use clerk::tasks;
+use orders::asked::Asked;
+use orders::tasks;
 use page::Number;
 
 // The bytes of a sheet, or nothing, when the reason was told.

@@ -2,13 +2,13 @@
 use crate::input;
 use crate::input::Sheet;
 use crate::reports;
-use clerk::asked::Asked;
 use clerk::counts;
 use clerk::counts::unlimited;
 use grumpy::answers::PairProfiled;
 use grumpy::answers::Profiled;
 use language::SOURCE;
 use language::TABLE;
+use orders::asked::Asked;
 
 fn count(edition: u32, sheet: &[u8]) -> Profiled {
     let mut words = [0u32; TABLE];

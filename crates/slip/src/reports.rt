@@ -1,7 +1,6 @@
 // The two reports, written.
 use crate::arguments;
 use crate::output;
-use clerk::asked::Asked;
 use clerk::causes::Cause;
 use clerk::counts::Limits;
 use clerk::counts::unlimited;
@@ -12,6 +11,7 @@ use clerk::people;
 use clerk::places::Places;
 use clerk::shifts;
 use language::SOURCE;
+use orders::asked::Asked;
 use tally::sums::Sums;
 
 // Room for a line of a sheet in which every byte takes four, the blanks under it, and a file's name.

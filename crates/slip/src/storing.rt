@@ -4,7 +4,6 @@ use crate::input::Sheet;
 use crate::output;
 use crate::reports;
 use crate::serve;
-use clerk::asked::Asked;
 use clerk::counts::Limits;
 use clerk::counts::Most;
 use clerk::counts::unlimited;
@@ -14,6 +13,7 @@ use grumpy::answers::Checked;
 use language::SOURCE;
 use language::TABLE;
 use language::WORK;
+use orders::asked::Asked;
 use page::Number;
 
 // Bytes of a stored sheet that are read at the most: the form of every sheet has fewer, two for each of its bytes, an
