@@ -2,6 +2,5 @@ pub mod LinesRead
 pub mod NumbersRead
 pub mod ReadBack
 pub mod Rows
-pub mod Signs
 pub mod Taken
 pub mod Writable

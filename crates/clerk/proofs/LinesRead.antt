@@ -1,6 +1,6 @@
 -- Lines of a name and a value each, one below the other: a value is found by its name.
 use lib.Dec.{eqb}
-use lib.ListN.{length, take, drop}
+use lib.ListN.{length, drop}
 use lib.Seq.{drop-append-seam}
 use mathlib.Core.Bool.{Bool, true, false, cond, _&&_}
 use mathlib.Core.List.{List, [], _∷_, _++_, append-assoc, reverse, reverse-append}
@@ -9,7 +9,7 @@ use mathlib.Core.Option.{Option, none, some}
 use mathlib.Core.Path.{_≡_, refl, sym, ap, subst, _∙_}
 use borrow.Author.Tests.{eq-eqb, eqb-true}
 use native.Mathlib.Omega.{arith}
-use Prim.Native.Nat.{ℕ, zero, suc, _+_, _<_}
+use Prim.Native.Nat.{ℕ, suc, _+_}
 use Rattle.language.proofs.Text.Choices.{outcome, clash, and-both}
 use Rattle.page.specs.Fields.{starts-with, to-end, value-from, value-named}
 use Rattle.page.specs.Lines.{feeds, ahead, behind}

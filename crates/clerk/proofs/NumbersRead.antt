@@ -1,28 +1,27 @@
 -- A number in decimal is read as that number, and so is one with its sign; no line feed is in it, nor in a file's name.
 use lib.Dec.{eqb, ltb}
 use lib.IntN.{ℤ, pos, negsuc, negℤ, natAbs}
-use mathlib.Core.Bool.{Bool, true, false, cond, _&&_}
+use mathlib.Core.Bool.{Bool, true, false, cond}
 use mathlib.Core.List.{List, [], _∷_, _++_}
 use mathlib.Core.Logic.{⊎-elim}
-use mathlib.Core.Path.{_≡_, refl, sym, ap, subst, _∙_}
-use borrow.Author.Tests.{ltb-true, ltb-false, lt-ltb, le-leb, eqb-true, ne-eqb}
+use mathlib.Core.Path.{_≡_, refl, ap, _∙_}
+use borrow.Author.Tests.{ltb-true, ltb-false, lt-ltb, le-leb, ne-eqb}
 use native.Mathlib.Nat.{div-add-mod', mod-lt, div-lt-iff-lt-mul, pow-suc, div-lt-self}
 use native.Mathlib.Omega.{arith}
-use Prim.Native.Nat.{ℕ, zero, suc, _+_, _*_, _/_, _%_, _^_, _≤_, _<_}
+use Prim.Native.Nat.{ℕ, zero, suc, _+_, _/_, _%_, _^_, _≤_, _<_}
 use Rattle.io.specs.Digits.{digits, glyph}
 use Rattle.language.proofs.Text.Choices.{outcome, clash, and-both}
 use Rattle.language.proofs.Text.Classes.{worth-digit}
 use Rattle.language.proofs.Text.Digits.{number-append}
 use Rattle.language.specs.Text.{between, is-digit, worth, number-from}
-use Rattle.language.specs.Tokens.{spell}
 use Rattle.page.specs.Amounts.{all-digits, is-number, number-up-to, AMOUNT, amount-by, amount-in}
 use Rattle.page.specs.Characters.{is-readable}
 use Rattle.page.specs.Lines.{feeds}
 use Rattle.page.specs.Text.{places, decimal-of, each, is-hidden, byte-shown, all-shown}
 use Rattle.page.specs.declared.amounts.Amount.{Amount}
 use Rattle.page.specs.declared.amounts.Number.{Number}
-use Rattle.clerk.specs.Told.{name-words}
-use Rattle.clerk.specs.Values.{signed-by, signed-words}
+use Rattle.wording.specs.Fields.{name-words}
+use Rattle.wording.specs.Values.{signed-by, signed-words}
 use Rattle.clerk.proofs.LinesRead.{both-quiet}
 
 -- what holds in both outcomes of a test holds of a choice by it

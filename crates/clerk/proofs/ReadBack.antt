@@ -8,7 +8,7 @@ use mathlib.Core.Bool.{Bool, true, false, _&&_}
 use mathlib.Core.List.{List, [], _∷_}
 use mathlib.Core.Logic.{_⊎_, inl, inr}
 use mathlib.Core.Option.{some}
-use mathlib.Core.Path.{_≡_, refl, sym, ap, subst, _∙_}
+use mathlib.Core.Path.{_≡_, refl, ap, subst, _∙_}
 use borrow.Author.Tests.{leb-true, eqb-true}
 use native.Mathlib.Omega.{arith}
 use Prim.Native.Nat.{ℕ, suc, _+_, _-_, _*_, _^_, _≤_}
@@ -18,8 +18,7 @@ use Rattle.language.specs.Sizes.{LARGEST, LINES}
 use Rattle.language.specs.Text.{between, is-digit, worth, number-from}
 use Rattle.language.specs.Tokens.{spell}
 use Rattle.page.specs.Amounts.{all-digits, is-number, number-up-to, AMOUNT}
-use Rattle.page.specs.Fields.{value-named}
-use Rattle.page.specs.Lines.{feeds, behind}
+use Rattle.page.specs.Lines.{behind}
 use Rattle.page.specs.Text.{decimal-of, Adds}
 use Rattle.page.specs.declared.amounts.Number.{Number}
 use Rattle.tally.specs.Stands.{report-in}
@@ -27,11 +26,11 @@ use Rattle.tally.specs.declared.sums.Sums.{Sums}
 use Rattle.clerk.specs.Machines.{shift-lines, combined-lines}
 use Rattle.clerk.specs.Readings.{count-told, amount-told, nine-told, sums-told, is-told, over-told, number-told}
 use Rattle.clerk.specs.Readings.{whole, full, Reads}
-use Rattle.clerk.specs.Values.{signed-words}
+use Rattle.wording.specs.Values.{signed-words}
 use Rattle.clerk.specs.declared.readings.Reading.{Reading}
 use Rattle.clerk.proofs.LinesRead.{Line, line, text-of, Clean, apart, same, look, found, as-many, none-behind}
 use Rattle.clerk.proofs.NumbersRead.{count-read, amount-read}
-use Rattle.clerk.proofs.Rows.{sum-rows, well-rows, over-rows, shift-rows, together-rows, combined-rows}
+use Rattle.clerk.proofs.Rows.{sum-rows, shift-rows, combined-rows}
 use Rattle.clerk.proofs.Rows.{shift-clean, combined-clean, shift-text, combined-text}
 
 -- sums of a shift: they can be those of one, as many were paid as is told, and the sum is one of ints

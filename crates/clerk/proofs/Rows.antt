@@ -9,10 +9,11 @@ use Rattle.language.specs.Tokens.{spell}
 use Rattle.page.specs.Lines.{feeds}
 use Rattle.page.specs.Text.{decimal-of}
 use Rattle.tally.specs.declared.sums.Sums.{Sums}
-use Rattle.clerk.specs.Machines.{value-line, number-line, signed-line, sheet-line, well-lines, first-lines, second-lines}
+use Rattle.wording.specs.Fields.{value-line, number-line, signed-line}
+use Rattle.clerk.specs.Machines.{sheet-line, well-lines, first-lines, second-lines}
 use Rattle.clerk.specs.Machines.{third-lines, stop-lines, count-lines, amount-lines, shift-lines, together-lines, combined-lines}
-use Rattle.clerk.specs.Told.{name-words}
-use Rattle.clerk.specs.Values.{signed-words}
+use Rattle.wording.specs.Fields.{name-words}
+use Rattle.wording.specs.Values.{signed-words}
 use Rattle.clerk.proofs.LinesRead.{Line, line, text-of, Clean}
 use Rattle.clerk.proofs.NumbersRead.{decimal-quiet, signed-quiet, name-quiet}
 

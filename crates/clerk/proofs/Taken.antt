@@ -19,7 +19,6 @@ use Rattle.tally.specs.Stands.{report-in}
 use Rattle.tally.specs.declared.sums.Sums.{Sums}
 use Rattle.clerk.specs.Readings.{or-many, count-told, or-much, amount-told, nine-told, sums-told, is-told, over-told, number-told}
 use Rattle.clerk.specs.Readings.{whole, full, Reads}
-use Rattle.clerk.specs.declared.readings.Reading.{Reading}
 
 -- ---- one value
 

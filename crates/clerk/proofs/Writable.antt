@@ -4,7 +4,7 @@ use lib.IntN.{ℤ, pos, negsuc, natAbs, subℕ, _+ℤ_}
 use lib.ListN.{length}
 use mathlib.Core.Bool.{Bool, true, false, cond, _&&_}
 use mathlib.Core.List.{List}
-use mathlib.Core.Path.{_≡_, refl, sym, ap, subst, _∙_}
+use mathlib.Core.Path.{_≡_, refl, sym, ap, _∙_}
 use borrow.Author.Tests.{leb-true, eq-eqb}
 use native.Mathlib.Omega.{arith}
 use Prim.Native.Nat.{ℕ, suc, _+_, _-_, _*_, _^_, _≤_}
@@ -14,7 +14,6 @@ use Rattle.language.specs.Sizes.{LINES}
 use Rattle.language.specs.Meaning.{in-range}
 use Rattle.language.proofs.Shift.Joins.{paid-counted, report-possible}
 use Rattle.language.proofs.Shift.Totals.{AllInRange, all-none, all-more, pays-few}
-use Rattle.page.specs.Amounts.{AMOUNT}
 use Rattle.tally.specs.Stands.{report-in, Stands}
 use Rattle.tally.specs.declared.sums.Sums.{Sums}
 use Rattle.tally.proofs.Reported.{report-stands}

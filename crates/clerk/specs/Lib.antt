@@ -1,8 +1,6 @@
-pub mod Causes
-pub mod Counts
 pub mod Ends
+pub mod Limits
 pub mod Shifts
 pub mod Machines
 pub mod Told
-pub mod Values
 pub mod Readings

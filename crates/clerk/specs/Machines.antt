@@ -1,24 +1,11 @@
 -- The report of a shift for machines: a name and a value on each line.
-use lib.IntN.{ℤ}
 use lib.ListN.{getD}
 use mathlib.Core.Bool.{Bool, true, false}
-use mathlib.Core.List.{List, [], _∷_, _++_}
+use mathlib.Core.List.{List, _++_}
 use Prim.Native.Nat.{ℕ}
 use Rattle.language.specs.Tokens.{spell}
-use Rattle.page.specs.Text.{decimal-of}
 use Rattle.tally.specs.declared.sums.Sums.{Sums}
-use Rattle.clerk.specs.Told.{name-words}
-use Rattle.clerk.specs.Values.{signed-words}
-
--- a name, a blank, and the value
-abbrev pub value-line : (name value : List ℕ) → List ℕ
-value-line name value = name ++ spell " " ++ value ++ spell "\n"
-
-unfoldable pub number-line : (name : List ℕ) → ℕ → List ℕ
-number-line name n = value-line name (decimal-of n)
-
-unfoldable pub signed-line : (name : List ℕ) → ℤ → List ℕ
-signed-line name z = value-line name (signed-words z)
+use Rattle.wording.specs.Fields.{name-words, number-line, signed-line}
 
 unfoldable pub sheet-line : (file : List ℕ) → List ℕ
 sheet-line file = spell "sheet " ++ name-words file ++ spell "\n"

@@ -2,7 +2,7 @@
 -- can be, is read as one that no shift can come to.
 use lib.Dec.{eqb}
 use lib.IntN.{ℤ, pos}
-use mathlib.Core.Bool.{Bool, true, false, cond, _&&_, _||_}
+use mathlib.Core.Bool.{Bool, false, _&&_, _||_}
 use mathlib.Core.List.{List, [], _∷_}
 use mathlib.Core.Path.{_≡_}
 use Prim.Native.Nat.{ℕ}

@@ -5,7 +5,7 @@ use Prim.Native.Nat.{ℕ}
 use Rattle.language.specs.Tokens.{spell}
 use Rattle.page.specs.Money.{pounds-text}
 use Rattle.page.specs.Text.{decimal-of}
-use Rattle.clerk.specs.Values.{signed-by, signed-words}
+use Rattle.wording.specs.Values.{signed-by, signed-words}
 
 abbrev pub pounds-words : ℤ → List ℕ
 pounds-words z = signed-by pounds-text z

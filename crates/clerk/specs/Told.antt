@@ -3,14 +3,10 @@ use mathlib.Core.List.{List, _++_}
 use lib.ListN.{length}
 use Prim.Native.Nat.{ℕ, min}
 use Rattle.language.specs.Tokens.{spell}
-use Rattle.page.specs.Characters.{is-readable}
 use Rattle.page.specs.Lines.{Spotted}
-use Rattle.page.specs.Text.{Adds, decimal-of, all-shown}
+use Rattle.page.specs.Text.{Adds, decimal-of}
 use Rattle.page.specs.declared.lines.Spot.{Spot}
-
--- a file's name, so that it can be seen
-unfoldable pub name-words : List ℕ → List ℕ
-name-words file = all-shown (is-readable file) file
+use Rattle.wording.specs.Fields.{name-words}
 
 unfoldable pub position-words : (file : List ℕ) (line column : ℕ) → List ℕ
 position-words file l k = name-words file ++ spell ":" ++ decimal-of l ++ spell ":" ++ decimal-of k

@@ -1,15 +1,9 @@
-// What a clerk is told: pure functions on sheets and answers of the box, which put text into lent bytes. The program
-// over them only reads and writes.
-pub mod causes;
-pub mod counts;
+// What a clerk is told of what came of a sheet or of a shift, for people and for machines, and a report read again: pure
+// functions, which put text into lent bytes. The program over them only reads and writes.
 pub mod ends;
-pub mod fields;
+pub mod limits;
 pub mod machines;
-pub mod mistakes;
 pub mod people;
 pub mod places;
 pub mod readings;
-mod refusals;
 pub mod shifts;
-mod types;
-mod words;

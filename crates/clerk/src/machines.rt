@@ -5,24 +5,25 @@ ghost use Rattle.io.specs.Counts.{Counts};
 ghost use Rattle.numbers.specs.Meanings.{stop-meant};
 ghost use Rattle.page.specs.Text.{Adds};
 ghost use Rattle.tally.specs.Stands.{report-in};
-ghost use Rattle.clerk.specs.Machines.{sheet-line, well-lines, number-line, signed-line, first-lines};
+ghost use Rattle.clerk.specs.Machines.{sheet-line, well-lines, first-lines};
+ghost use Rattle.wording.specs.Fields.{number-line, signed-line};
 ghost use Rattle.clerk.specs.Machines.{second-lines, third-lines, stop-lines, count-lines, amount-lines};
 ghost use Rattle.clerk.specs.Machines.{shift-lines, together-lines, combined-lines};
-use crate::causes;
-use crate::causes::Cause;
-use crate::counts::Limits;
-use crate::counts::Most;
 use crate::ends::End;
-use crate::fields;
-use crate::fields::field;
+use crate::limits::Limits;
+use crate::limits::Most;
 use crate::places::Places;
 use crate::shifts;
-use crate::types;
-use crate::words;
 use numbers::Stop;
 use page::put;
 use page::spot;
 use tally::sums::Sums;
+use wording::causes;
+use wording::causes::Cause;
+use wording::fields;
+use wording::fields::field;
+use wording::types;
+use wording::words;
 
 fn sheet(out: &mut [u8], at: usize, file: &[u8]) -> usize
     ensures { λ r. ⌜ Counts r (now (out .exit)) ⌝ }

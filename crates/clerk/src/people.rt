@@ -2,19 +2,19 @@
 ghost use Rattle.io.specs.Counts.{Counts};
 ghost use Rattle.page.specs.Text.{Adds};
 ghost use Rattle.clerk.specs.Told.{number-words, line-words, Positioned};
-use crate::causes;
-use crate::causes::Cause;
-use crate::counts::Limits;
-use crate::counts::Most;
 use crate::ends::End;
-use crate::fields;
+use crate::limits::Limits;
+use crate::limits::Most;
 use crate::places::Places;
-use crate::words;
 use page::blanks;
 use page::decimal;
 use page::put;
 use page::shown;
 use page::spot;
+use wording::causes;
+use wording::causes::Cause;
+use wording::fields;
+use wording::words;
 
 // A number, where there is one, and what is meant.
 fn meaning(out: &mut [u8], at: usize, why: Cause) -> usize

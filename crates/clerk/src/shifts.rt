@@ -7,14 +7,14 @@ ghost use Rattle.page.specs.Text.{Adds};
 ghost use Rattle.tally.specs.Stands.{report-in};
 ghost use Rattle.tally.specs.Sums.{stop-index};
 ghost use Rattle.clerk.specs.Shifts.{pounds-words, count-line, amount-line, progress-line};
-use crate::causes::Cause;
-use crate::types::signed;
-use crate::words;
 use numbers::Stop;
 use page::decimal;
 use page::magnitude;
 use page::put;
 use tally::sums::Sums;
+use wording::causes::Cause;
+use wording::types::signed;
+use wording::words;
 
 // Where the lines of a stop are counted.
 fn index(why: Stop) -> usize

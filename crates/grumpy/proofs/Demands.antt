@@ -12,7 +12,7 @@ use Rattle.language.specs.Trees.{Ty, Program}
 use Rattle.language.specs.State.{Stop}
 use Rattle.language.specs.Meaning.{run, type-number}
 use Rattle.language.specs.Numbers.{Refusal, no-reading, passed, refused, stopped, long-text}
-use Rattle.language.specs.Answers.{Passes, left, Ending, ending, CheckReport, Check, Enough, RunReport, after-run, run-ended, Run, Lent}
+use Rattle.language.specs.Answers.{Passes, left, Ending, ending, CheckReport, Check, Enough, RunReport, after-run, run-ended, Run}
 use Rattle.language.specs.Writing.{WriteReport, Write}
 use Rattle.language.specs.Edition.{text-in}
 use Rattle.language.proofs.Answers.Editions.{text-in-lawful}

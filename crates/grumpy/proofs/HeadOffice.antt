@@ -1,7 +1,7 @@
 -- What head office asks before it buys (Req 11), as theorems about whatever meets the contracts of check and run. They cite
 -- what is true of any lawful origin, for the origin that a text is in an edition.
 use mathlib.Core.List.{List}
-use mathlib.Core.Path.{_≡_, refl, sym, ap, _∙_}
+use mathlib.Core.Path.{_≡_, sym, ap, _∙_}
 use Prim.Native.Nat.{ℕ, _≤_}
 use Rattle.language.specs.Sizes.{ALLOWANCE}
 use Rattle.language.specs.Numbers.{passed, number}

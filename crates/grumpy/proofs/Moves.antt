@@ -3,7 +3,7 @@ use mathlib.Core.List.{List}
 use mathlib.Core.Path.{_≡_, refl, ap, sym, subst, _∙_}
 use Prim.Native.Nat.{ℕ}
 use Rattle.language.specs.State.{nothing}
-use Rattle.language.specs.Answers.{CheckReport, check-report, RunReport, refusal}
+use Rattle.language.specs.Answers.{check-report, RunReport, refusal}
 use Rattle.language.specs.Numbers.{refused, stopped}
 use Rattle.language.specs.Pairs.{Place, place-of}
 use Rattle.language.specs.Profile.{profile-report}

@@ -2,10 +2,10 @@
 use mathlib.Core.List.{List, []}
 use mathlib.Core.Logic.{_⊎_}
 use mathlib.Core.Option.{some}
-use mathlib.Core.Path.{_≡_, refl, sym, ap, subst, _∙_}
+use mathlib.Core.Path.{_≡_, refl, sym, subst, _∙_}
 use Prim.Native.Nat.{ℕ, _≤_, _<_}
 use lib.ListN.{length}
-use Rattle.language.specs.Sizes.{TOKENS, TABLE, WORK, ALLOWANCE}
+use Rattle.language.specs.Sizes.{TABLE, WORK, ALLOWANCE}
 use Rattle.language.specs.Tokens.{Token}
 use Rattle.language.specs.Trees.{Ty, Program}
 use Rattle.language.specs.Meaning.{run, type-number}
@@ -14,7 +14,6 @@ use Rattle.language.specs.Numbers.{passed, refused, short-memory, large-allowan
 use Rattle.language.specs.Answers as Answers
 use Rattle.language.specs.Answers.{Origin, Passes, ending, left, cleared, check-report, CheckReport, Checked, check-short, check-refused}
 use Rattle.language.specs.Answers.{check-passed, Check, Lent, Enough, RunReport, refusal, run-short, run-large, run-refused, run-ended, Run}
-use Rattle.language.proofs.Answers.Origins.{Lawful}
 use Rattle.numbers.specs.declared.Refusal.{Refusal}
 use Rattle.numbers.specs.declared.Stop.{Stop}
 use Rattle.layout.specs.declared.Held.{Held}

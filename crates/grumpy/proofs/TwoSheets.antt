@@ -24,7 +24,7 @@ use Rattle.layout.specs.declared.values.Value.{Value}
 use Rattle.numbers.proofs.Apart.{refusal-of, refusal-back, stop-of, stop-back}
 use Rattle.numbers.specs.declared.Refusal.{Refusal}
 use Rattle.numbers.specs.declared.Stop.{Stop}
-use Rattle.pairs.specs.Spots.{meant, Part, Cut, Shows}
+use Rattle.pairs.specs.Spots.{meant, Part, Shows}
 use Rattle.pairs.specs.declared.Spot.{Spot}
 use Rattle.runner.proofs.Unique.{value-of, value-back}
 use Rattle.grumpy.specs.Reports.{checked-report, ran-report, profiled-report, pair-checked-report, pair-ran-report, pair-profiled-report}

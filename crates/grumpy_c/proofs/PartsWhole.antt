@@ -1,8 +1,6 @@
 -- Parts of a shift for C: the words of a report are read again as what was told, so that those of two parts are combined to
 -- those of the whole (R14.6, R14.8).
-use lib.IntN.{ℤ}
 use lib.ListN.{length, length-take}
-use lib.Signed.{mag}
 use mathlib.Core.Bool.{true}
 use mathlib.Core.List.{List, _++_}
 use mathlib.Core.Logic.{_⊎_, inl, inr}

@@ -2,17 +2,17 @@
 -- written report of the whole one, wherever it was cut (R14.6, R14.8).
 use mathlib.Core.Bool.{Bool, true, false, false≢true}
 use mathlib.Core.List.{List, [], _++_}
-use mathlib.Core.Logic.{_⊎_, inl, inr}
+use mathlib.Core.Logic.{inl, inr}
 use mathlib.Core.Option.{Option, none, some}
 use mathlib.Core.Path.{_≡_, refl, sym, ap, subst, _∙_}
 use native.Mathlib.Omega.{arith}
-use Prim.Native.Nat.{ℕ, _≤_, _<_}
+use Prim.Native.Nat.{ℕ, _≤_}
 use lib.ListN.{length}
 use Rattle.language.specs.Answers.{Lent}
 use Rattle.language.specs.Edition as Edition
 use Rattle.language.specs.Numbers.{short-memory, large-allowance, no-edition, long-source, text, no-reading, types, long-text}
 use Rattle.language.specs.Numbers.{not-hexadecimal, wrong-count, not-one-token, endless-node, many-units}
-use Rattle.language.specs.Shift.{ShiftRefusal, sheet, no-book, many-lines, turned-away, Admits, Report}
+use Rattle.language.specs.Shift.{ShiftRefusal, sheet, no-book, many-lines, Admits, Report}
 use Rattle.language.specs.Shift as Shift
 use Rattle.language.specs.Tokens.{Vocabulary}
 use Rattle.language.proofs.Shift.OneReport.{one-admission}
@@ -26,7 +26,7 @@ use Rattle.shift.specs.declared.State.{State}
 use Rattle.shift.proofs.Growing.{after-start}
 use Rattle.grumpy_c.specs.Words.{with-front}
 use Rattle.grumpy_c.specs.States.{STATE, state-in, Holds}
-use Rattle.grumpy_c.specs.Shifts.{BEGIN, FEED, FINISH, told-number, report-words, Left, as-before, held, refuses, BeganC, begin-no-room}
+use Rattle.grumpy_c.specs.Shifts.{FEED, FINISH, told-number, report-words, Left, as-before, held, refuses, BeganC, begin-no-room}
 use Rattle.grumpy_c.specs.Shifts.{begin-told, FedC, feed-no-room, feed-told, FinishedC, finish-no-room, finish-told}
 
 -- ---- which state there is

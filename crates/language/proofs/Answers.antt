@@ -14,9 +14,5 @@ pub mod Follow
 pub mod Editions
 pub mod BothEditions
 pub mod PlacesAside
-pub mod Examples
-pub mod FurtherExamples
-pub mod FloatExamples
-pub mod LoopExamples
 pub mod LetAfterElse
 pub mod BeforeFloats

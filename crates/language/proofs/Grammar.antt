@@ -12,5 +12,4 @@ pub mod OwnOnce
 pub mod Prefixes
 pub mod SameTokens
 pub mod FirstWrong
-pub mod WrongPlaces
 pub mod BeforeFloats

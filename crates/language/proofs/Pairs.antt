@@ -3,4 +3,3 @@ pub mod Joined
 pub mod Lines
 pub mod Places
 pub mod Told
-pub mod Examples

@@ -2,5 +2,4 @@
 pub mod OneProfile
 pub mod PaySheets
 pub mod Inside
-pub mod Examples
 pub mod TwoSheets

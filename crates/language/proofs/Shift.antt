@@ -15,4 +15,3 @@ pub mod Joins
 pub mod Combining
 pub mod AnyOrder
 pub mod Books
-pub mod Examples

@@ -16,4 +16,3 @@ pub mod LineNumbers
 pub mod Cuts
 pub mod Digits
 pub mod Listed
-pub mod Examples

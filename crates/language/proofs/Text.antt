@@ -16,8 +16,6 @@ pub mod Bases
 pub mod Seeing
 pub mod Scanner
 pub mod Edition
-pub mod Examples
-pub mod BaseExamples
 pub mod SmallNumbers
 pub mod DecimalBefore
 pub mod Points

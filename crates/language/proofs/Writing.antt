@@ -4,4 +4,3 @@ pub mod LastByte
 pub mod ReadBack
 pub mod OneWriting
 pub mod SameSheet
-pub mod Examples

@@ -1,7 +1,7 @@
 -- What a float number is worth, by its spelling (R08.3): the whole number of all its digits, divided once by the power
 -- of ten for those behind its point.
 use mathlib.Core.Bool.{cond}
-use mathlib.Core.List.{List, [], _∷_}
+use mathlib.Core.List.{[], _∷_}
 use Prim.Native.Char.{code}
 use Prim.Native.Nat.{ℕ, _+_, _*_, _-_, _^_}
 use lib.Dec.{eqb}

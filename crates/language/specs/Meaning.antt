@@ -6,7 +6,7 @@ use lib.Dec.{eqb, leb, ltb}
 use lib.IntN.{ℤ, pos, negsuc, negℤ, _+ℤ_, _-ℤ_, _*ℤ_}
 use lib.Signed.{ltZ, quotZ}
 use lib.Ieee as Ieee
-use lib.Ieee.{Float, binary64, toBits}
+use lib.Ieee.{binary64, toBits}
 use Rattle.language.specs.Sizes.{ACTIVE, CELLS, LARGEST, BYTE}
 use Rattle.language.specs.State.{Value, number, float, flag, nothing, cell, no-cell, count, held, store}
 use Rattle.language.specs.State.{keep, State, with-units, with-cells, with-birth, with-byte, no-unit}

@@ -7,7 +7,7 @@ use Prim.Native.Nat.{ℕ, zero, suc, _+_, _-_, _≤_, _<_}
 use lib.Dec.{ltb, leb}
 use lib.ListN.{length, drop}
 use Rattle.language.specs.Sizes.{Sizes, BOX}
-use Rattle.language.specs.Tokens.{Vocabulary, Token}
+use Rattle.language.specs.Tokens.{Vocabulary}
 use Rattle.language.specs.Text.{byte, is-in-line, Flaw, FlawedUnder}
 use Rattle.language.specs.Numbers.{Refusal, long-source, text}
 use Rattle.language.specs.Answers.{Origin, TextGivesUnder, text-under}

@@ -11,7 +11,7 @@ use Rattle.language.specs.Tokens.{Token, At, NAME, NUMBER, FLOAT-NUMBER, LET}
 use Rattle.language.specs.Trees.{Exp, Exps, last, more}
 use Rattle.layout.specs.Rows.{CALL}
 use Rattle.layout.specs.Decode.{Shape, a-call, a-for, shape-of, children, build, build-if, tree-at, args-at}
-use Rattle.layout.specs.Decode.{counts, Part, Counts, Right, RightArgs}
+use Rattle.layout.specs.Decode.{counts, Part, Right, RightArgs}
 use Rattle.layout.proofs.TableLaws.{Five}
 
 -- a row of kind k has no list of arguments or bounds

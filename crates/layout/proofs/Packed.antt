@@ -1,6 +1,6 @@
 -- Two numbers in one word, and each taken out again.
-use mathlib.Core.Path.{_≡_, refl, ap, _∙_}
-use Prim.Native.Nat.{ℕ, zero, _+_, _*_, _/_, _%_, _<_}
+use mathlib.Core.Path.{_≡_, ap, _∙_}
+use Prim.Native.Nat.{ℕ, _+_, _*_, _/_, _%_, _<_}
 use native.Mathlib.Omega.{arith}
 use native.Mathlib.Nat.{mul-add-div, add-mul-mod-self-left, div-eq-of-lt, mod-eq-of-lt, add-comm}
 use Rattle.layout.specs.Slots.{TAGS}

@@ -1,6 +1,6 @@
 // Frames of work memory: a stack of what waits, the newest last.
 ghost use mathlib.Core.Path.{_≡_};
-ghost use Prim.Native.Nat.{ℕ, _+_, _*_, _≤_, _<_};
+ghost use Prim.Native.Nat.{_+_, _*_, _≤_, _<_};
 ghost use lib.ListN.{length};
 ghost use Rattle.language.specs.Sizes.{WORK};
 ghost use Rattle.layout.specs.Frames.{FRAMES, SIZES, frame-word, frame-size, frame-mark, put-frame, put-phase};

@@ -1,7 +1,7 @@
 // What is noted of the tokens of a program that has a type, before it runs. It lies where the checker's variables lay:
 // first the names of the slots in sight while names are resolved, then a word for each token.
 ghost use mathlib.Core.Path.{_≡_};
-ghost use Prim.Native.Nat.{ℕ, _≤_, _<_};
+ghost use Prim.Native.Nat.{_≤_, _<_};
 ghost use lib.ListN.{length};
 ghost use Rattle.language.specs.Sizes.{TOKENS, TABLE};
 ghost use Rattle.layout.specs.Notes.{slot-name, noted, put-name, put-note};

@@ -1,6 +1,6 @@
 // The rows of a reading in table memory: nodes, arguments, parameters and functions.
 ghost use mathlib.Core.Path.{_≡_};
-ghost use Prim.Native.Nat.{ℕ, _≤_, _<_};
+ghost use Prim.Native.Nat.{_≤_, _<_};
 ghost use lib.ListN.{length};
 ghost use Rattle.language.specs.Sizes.{NODES, TABLE};
 ghost use Rattle.layout.specs.Table.{row-word, put-row};

@@ -1,6 +1,6 @@
 // Slots of work memory: a key and a value. A cell has its birth number for a key.
 ghost use mathlib.Core.Path.{_≡_};
-ghost use Prim.Native.Nat.{ℕ, _+_, _*_, _≤_, _<_};
+ghost use Prim.Native.Nat.{_+_, _*_, _≤_, _<_};
 ghost use lib.ListN.{length};
 ghost use Rattle.language.specs.Sizes.{WORK};
 ghost use Rattle.layout.specs.Slots.{TAGS, KEYS, key-at, value-at, put-slot};

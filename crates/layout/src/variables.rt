@@ -1,6 +1,6 @@
 // The variables that the checker has in sight, the nearest last: a name's number and a type's number.
 ghost use mathlib.Core.Path.{_≡_};
-ghost use Prim.Native.Nat.{ℕ, _≤_, _<_};
+ghost use Prim.Native.Nat.{_≤_, _<_};
 ghost use lib.ListN.{length};
 ghost use Rattle.language.specs.Sizes.{TOKENS, TABLE};
 ghost use Rattle.layout.specs.Table.{variable-name, variable-type, put-variable};

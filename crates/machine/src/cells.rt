@@ -1,6 +1,6 @@
 // Cells: born, read and written by their birth number, the live ones alone.
 ghost use mathlib.Core.Path.{_≡_};
-ghost use Prim.Native.Nat.{ℕ, _≤_, _<_};
+ghost use Prim.Native.Nat.{_≤_, _<_};
 ghost use lib.ListN.{length};
 ghost use Rattle.language.specs.Sizes.{ALLOWANCE, CELLS, WORK};
 ghost use Rattle.language.specs.Trees.{assign, fetch};

@@ -1,7 +1,7 @@
 // What an operator does with operands that are worked out.
 ghost use mathlib.Core.Option.{none};
 ghost use mathlib.Core.Path.{_≡_};
-ghost use Prim.Native.Nat.{ℕ, _≤_};
+ghost use Prim.Native.Nat.{_≤_};
 ghost use Rattle.language.specs.Sizes.{ALLOWANCE};
 ghost use Rattle.language.specs.Trees.{new};
 ghost use Rattle.language.specs.State.{number, float, as-int};

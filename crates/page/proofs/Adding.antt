@@ -1,6 +1,6 @@
 -- Text put behind text: one byte more, a whole part, and parts one behind the other.
 use lib.ListN.{length, getD, set, take, drop, length-append, length-take, length-drop, drop-of-length-le, take-append-drop}
-use lib.Seq.{paste, paste-zero, paste-suc, length-paste, take-all, take-length, take-append-seam, take-append-add, take-at}
+use lib.Seq.{paste, paste-zero, paste-suc, take-all, take-length, take-append-seam, take-append-add, take-at}
 use lib.Seq.{drop-append-add, drop-drop, length-take-le}
 use mathlib.Core.List.{List, [], _∷_, _++_, append-assoc, append-nil}
 use mathlib.Core.Logic.{_⊎_, inl, inr, ⊎-elim}

@@ -2,9 +2,9 @@
 use lib.Dec.{eqb}
 use lib.ListN.{length, getD, take, drop, length-drop, drop-of-length-le}
 use lib.Seq.{drop-cons, drop-drop}
-use mathlib.Core.Bool.{Bool, true, false, cond, _&&_}
+use mathlib.Core.Bool.{Bool, true, false, _&&_}
 use mathlib.Core.List.{List, [], _∷_}
-use mathlib.Core.Option.{Option, none, some}
+use mathlib.Core.Option.{none}
 use mathlib.Core.Path.{_≡_, refl, sym, ap, _∙_}
 use borrow.Author.Tests.{eq-eqb, ne-eqb}
 use native.Mathlib.Nat.{add-zero}
@@ -13,7 +13,7 @@ use native.Mathlib.Omega.{arith}
 use Prim.Native.Nat.{ℕ, suc, _+_, _-_, _≤_, _<_}
 use Rattle.language.proofs.Text.Choices.{and-both, clash}
 use Rattle.page.specs.Amounts.{number-up-to, amount-in}
-use Rattle.page.specs.Fields.{starts-with, to-end, value-from, value-named, Finds, count-in, amount-named}
+use Rattle.page.specs.Fields.{starts-with, value-from, value-named, Finds, count-in, amount-named}
 use Rattle.page.specs.Lines.{ahead}
 use Rattle.page.specs.declared.amounts.Amount.{Amount}
 use Rattle.page.specs.declared.amounts.Number.{Number}

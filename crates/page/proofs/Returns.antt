@@ -3,9 +3,9 @@ use borrow.Author.Tests.{eq-eqb, ne-eqb}
 use lib.ListN.{length, getD, take}
 use lib.Seq.{take-length}
 use mathlib.Core.List.{List, [], _∷_}
-use mathlib.Core.Path.{_≡_, refl, _∙_}
+use mathlib.Core.Path.{_≡_, _∙_}
 use native.Mathlib.Omega.{arith}
-use Prim.Native.Nat.{ℕ, _-_, _≤_}
+use Prim.Native.Nat.{ℕ, _-_}
 use Rattle.io.proofs.Counting.{counts}
 use Rattle.io.specs.Counts.{Counts}
 use Rattle.page.specs.Lines.{without-return}

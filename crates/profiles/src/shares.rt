@@ -4,7 +4,6 @@ ghost use mathlib.Core.Path.{_≡_};
 ghost use Prim.Native.Nat.{_+_, _*_, _≤_, _<_};
 ghost use lib.ListN.{length};
 ghost use Rattle.language.specs.Sizes.{TOKENS, NODES, TABLE};
-ghost use Rattle.layout.specs.Table.{row-word};
 ghost use Rattle.profiles.specs.Shares.{most, going-on, beside, instead, share-word, put-share, earlier, part};
 use language::PAY_COUNT;
 use language::TOKENS;

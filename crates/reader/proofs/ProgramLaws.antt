@@ -1,7 +1,7 @@
 -- The ways through `program` and `read`.
 use mathlib.Core.List.{List, []}
 use mathlib.Core.Path.{_≡_, sym, ap, subst, _∙_}
-use Prim.Native.Nat.{ℕ, _+_, _≤_, _<_}
+use Prim.Native.Nat.{ℕ, _+_, _<_}
 use native.Mathlib.Omega.{arith}
 use Rattle.language.specs.Sizes.{TOKENS}
 use Rattle.language.specs.Tokens.{Token, DEF}

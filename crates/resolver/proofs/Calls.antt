@@ -1,27 +1,23 @@
 -- Names, calls and `for`s: what they ask, and what follows when they are done.
-use mathlib.Core.Bool.{Bool, true}
-use mathlib.Core.List.{List, _∷_}
+use mathlib.Core.List.{List}
 use mathlib.Core.Option.{some}
 use mathlib.Core.Path.{_≡_, refl, sym, ap, subst, _∙_}
 use Prim.Native.Nat.{ℕ, zero, suc, _+_, _≤_, _<_}
 use native.Mathlib.Omega.{arith}
-use Rattle.language.specs.Sizes.{TOKENS, TABLE}
+use Rattle.language.specs.Sizes.{TOKENS}
 use Rattle.language.specs.Tokens.{Token, NAME, entry}
-use Rattle.language.specs.Trees.{Exp, Exps}
-use Rattle.layout.specs.Table.{KIND, OWN, FIRST, SECOND, THIRD, token-value, row-word}
+use Rattle.layout.specs.Table.{KIND, OWN, FIRST, token-value, row-word}
 use Rattle.layout.specs.Rows.{CALL}
-use Rattle.layout.specs.Decode.{Shape, a-name, a-call, a-for, shape-of, counts, build, tree-at, args-at, Counts, Right, RightArgs}
+use Rattle.layout.specs.Decode.{a-name, a-call, shape-of, build, args-at}
 use Rattle.layout.specs.Functions.{Headed}
 use Rattle.layout.specs.Notes.{noted, put-note, names-in}
-use Rattle.layout.specs.Resolved.{slot-of, callee-row, counting, Placed, PlacedAll}
-use Rattle.rules.proofs.ShapeLaws.{for-shape}
+use Rattle.layout.specs.Resolved.{slot-of, callee-row, Placed, PlacedAll}
 use Rattle.resolver.specs.Spans.{Spans, SpansAll}
-use Rattle.resolver.specs.Resolves.{Wrote, Job, Done, JobAll, DoneAll, Placing, PlacingAll, Places, PlacesAll, Entered}
-use Rattle.resolver.proofs.Spanning.{nonempty, ordered}
-use Rattle.resolver.proofs.Writing.{wrote-none, wrote-then, wrote-note, note-put, names-same, alike-then, row-alike, token-alike, headed-alike}
+use Rattle.resolver.specs.Resolves.{Wrote, Job, Done, JobAll, DoneAll, Placing, PlacingAll, Places, PlacesAll}
+use Rattle.resolver.proofs.Spanning.{ordered}
+use Rattle.resolver.proofs.Writing.{wrote-then, wrote-note, note-put, names-same, token-alike, headed-alike}
 use Rattle.resolver.proofs.Writing.{callee-alike, scene-after}
-use Rattle.resolver.proofs.Staying.{all-stays}
-use Rattle.resolver.proofs.Nodes.{whole, word, tree, list, own, spans-as, done-as}
+use Rattle.resolver.proofs.Nodes.{whole, word, list, own, spans-as, done-as}
 use Rattle.resolver.proofs.Parts.{no-job, peel}
 
 name-shape : shape-of NAME ≡ some a-name

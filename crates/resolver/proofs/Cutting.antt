@@ -1,11 +1,11 @@
 -- A node by its shape: where the own tokens of its parts lie, and when it is placed, once its parts are.
-use mathlib.Core.Bool.{true, false}
+use mathlib.Core.Bool.{true}
 use mathlib.Core.List.{List, _∷_}
-use mathlib.Core.Path.{_≡_, refl, sym, subst}
+use mathlib.Core.Path.{_≡_, refl, subst}
 use Prim.Native.Nat.{ℕ, _+_, _≤_, _<_}
 use native.Mathlib.Omega.{arith}
-use Rattle.language.specs.Tokens.{Token, NAME, NUMBER, FLOAT-NUMBER}
-use Rattle.language.specs.Trees.{Binary, add, sub, mul, div, less, equal, and, or, assign, Exp, Exps, Literal, whole, truth, trivial, decimal}
+use Rattle.language.specs.Tokens.{Token, NAME}
+use Rattle.language.specs.Trees.{Binary, add, sub, mul, div, less, equal, and, or, assign, Exp, Exps}
 use Rattle.layout.specs.Table.{token-value}
 use Rattle.layout.specs.Rows.{CALL, binary-kind}
 use Rattle.layout.specs.Decode.{Shape, a-name, a-number, a-float, a-follow, a-group, a-block, a-call, a-let, an-if, a-while, a-constant}
@@ -13,8 +13,8 @@ use Rattle.layout.specs.Decode.{a-unary, a-binary, a-for, children, counts, bui
 use Rattle.layout.specs.Slots.{HELD}
 use Rattle.layout.specs.Resolved.{Placed}
 use Rattle.layout.proofs.Shapes.{shape-kind, range-counts, Parted, is-name, is-number, is-float, is-constant, is-call, is-for, is-unary}
-use Rattle.layout.proofs.Shapes.{is-group, is-block, is-binary, is-follow, is-let, is-while, is-if, parted}
-use Rattle.resolver.specs.Spans.{Spans, SpansAll}
+use Rattle.layout.proofs.Shapes.{is-group, is-block, is-binary, is-follow, is-let, is-while, is-if}
+use Rattle.resolver.specs.Spans.{Spans}
 use Rattle.resolver.specs.Resolves.{sees}
 use Rattle.resolver.proofs.Spanning.{nonempty, widen}
 

@@ -1,7 +1,7 @@
 -- The slots that a part sees: what is written before a node's second part, before the body of a `for` and before that of
 -- a function.
 use mathlib.Core.Bool.{Bool, true, false, cond}
-use mathlib.Core.List.{List, [], _∷_}
+use mathlib.Core.List.{List, _∷_}
 use mathlib.Core.Option.{some, none}
 use mathlib.Core.Path.{_≡_, refl, sym, ap, ap₂, subst, _∙_}
 use Prim.Native.Nat.{ℕ, zero, suc, _+_, _≤_, _<_}
@@ -17,7 +17,7 @@ use Rattle.layout.specs.Table.{OWN, token-value, row-word, function-row}
 use Rattle.layout.specs.Functions.{function-name, Headed, find-function, found}
 use Rattle.layout.specs.Slots.{HELD}
 use Rattle.layout.specs.Notes.{NOBODY, put-name, put-note, names-in}
-use Rattle.layout.specs.Resolved.{slot-of, counting, parameters-in, callee-row, row-or-nobody}
+use Rattle.layout.specs.Resolved.{slot-of, parameters-in, callee-row, row-or-nobody}
 use Rattle.layout.specs.declared.functions.Found.{Found}
 use Rattle.layout.specs.declared.functions.Found.the-variants.{At, Nowhere}
 use Rattle.resolver.specs.Resolves.{Wrote, sees, Between, Entered, Binding, Bound}

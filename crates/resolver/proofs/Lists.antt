@@ -4,7 +4,7 @@ use mathlib.Core.Path.{_≡_, refl, sym, ap, subst, _∙_}
 use Prim.Native.Nat.{ℕ, zero, suc, _+_, _≤_, _<_}
 use native.Mathlib.Omega.{arith}
 use borrow.Author.Tests.{eq-eqb, ne-eqb}
-use Rattle.language.specs.Sizes.{TOKENS, NODES, TABLE}
+use Rattle.language.specs.Sizes.{TOKENS, NODES}
 use Rattle.language.specs.Tokens.{Token}
 use Rattle.language.specs.Trees.{Exp, Exps, last, more}
 use Rattle.layout.specs.Table.{EXPRESSION, NEXT, row-word}

@@ -1,27 +1,24 @@
 -- Nodes with one, two or three parts: what the calls for them ask, and what follows when they are done.
-use mathlib.Core.Bool.{true}
 use mathlib.Core.List.{List}
 use mathlib.Core.Option.{some}
 use mathlib.Core.Path.{_≡_, refl, sym, ap, subst, _∙_}
-use Prim.Native.Nat.{ℕ, zero, suc, _+_, _≤_, _<_}
+use Prim.Native.Nat.{ℕ, suc, _+_, _≤_, _<_}
 use native.Mathlib.Omega.{arith}
-use Rattle.language.specs.Sizes.{TOKENS, NODES, TABLE}
-use Rattle.language.specs.Tokens.{Token, NAME}
+use Rattle.language.specs.Sizes.{TOKENS, NODES}
+use Rattle.language.specs.Tokens.{Token}
 use Rattle.language.specs.Trees.{Exp, Exps}
-use Rattle.layout.specs.Table.{KIND, OWN, FIRST, SECOND, THIRD, token-value, row-word}
-use Rattle.layout.specs.Rows.{CALL}
-use Rattle.layout.specs.Decode.{Shape, shape-of, children, counts, build, build-if, tree-at, args-at, Part, Node, Right, RightArgs}
+use Rattle.layout.specs.Table.{KIND, OWN, FIRST, SECOND, THIRD, row-word}
+use Rattle.layout.specs.Decode.{Shape, shape-of, children, build, build-if, tree-at, args-at, Node, Right, RightArgs}
 use Rattle.layout.specs.Notes.{names-in}
 use Rattle.layout.specs.Resolved.{Placed}
-use Rattle.layout.proofs.Shapes.{shape-kind, kind-of-shape, children-most, parted}
+use Rattle.layout.proofs.Shapes.{shape-kind, kind-of-shape, children-most}
 use Rattle.layout.proofs.VariablesTrees.{right-inside}
 use Rattle.rules.specs.Asked.{Children}
 use Rattle.resolver.specs.Spans.{Spans}
-use Rattle.resolver.specs.Resolves.{Alike, Wrote, Scene, Job, Done, Placing, Places, sees, Between}
+use Rattle.resolver.specs.Resolves.{Wrote, Job, Done, Placing}
 use Rattle.resolver.proofs.Spanning.{nonempty}
-use Rattle.resolver.proofs.Cutting.{Cuts, cuts, leaf-placed, one-placed, two-placed, three-placed}
-use Rattle.resolver.proofs.Writing.{wrote-none, wrote-then, names-same, alike-then, row-alike, token-alike, scene-after}
-use Rattle.resolver.proofs.Staying.{placed-stays}
+use Rattle.resolver.proofs.Cutting.{Cuts, cuts}
+use Rattle.resolver.proofs.Writing.{row-alike, scene-after}
 
 pub job-inside : {w : List ℕ} {ts : List Token} {f a b : ℕ} {t : List ℕ} {node defs size : ℕ} → Job w ts f a b t node defs size → node < NODES
 job-inside {w} {ts} {f} {node = node} j = right-inside f ts w node (j .right)

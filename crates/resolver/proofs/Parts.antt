@@ -1,19 +1,18 @@
 -- What follows when a node's parts are done, whatever the node is.
 use mathlib.Core.Bool.{true}
 use mathlib.Core.List.{List}
-use mathlib.Core.Path.{_≡_, refl, sym, ap, subst, _∙_}
+use mathlib.Core.Path.{_≡_, sym, ap, subst, _∙_}
 use Prim.Native.Nat.{ℕ, zero, suc, _+_, _≤_, _<_}
 use native.Mathlib.Omega.{arith}
 use lib.ListN.{length}
 use Rattle.language.specs.Sizes.{TOKENS, TABLE}
 use Rattle.language.specs.Tokens.{Token, NAME}
-use Rattle.language.specs.Trees.{Exp}
 use Rattle.layout.specs.Table.{KIND, OWN, FIRST, SECOND, THIRD, token-value, row-word}
 use Rattle.layout.specs.Rows.{CALL}
 use Rattle.layout.specs.Decode.{counts, tree-at, Right}
 use Rattle.layout.specs.Notes.{names-in}
 use Rattle.layout.specs.Resolved.{Placed}
-use Rattle.layout.proofs.Shapes.{shape-kind, Parted, parted}
+use Rattle.layout.proofs.Shapes.{shape-kind, parted}
 use Rattle.rules.specs.Asked.{Children}
 use Rattle.resolver.specs.Resolves.{Wrote, Job, Done, Placing, Places, sees, Between}
 use Rattle.resolver.proofs.Cutting.{leaf-placed, one-placed, two-placed, three-placed}

@@ -1,22 +1,21 @@
 -- A `for`: what its bounds and its body ask, and what follows when they are done.
 use mathlib.Core.Bool.{Bool, true}
-use mathlib.Core.List.{List, _∷_}
+use mathlib.Core.List.{List}
 use mathlib.Core.Option.{some}
-use mathlib.Core.Path.{_≡_, refl, sym, ap, subst, _∙_}
+use mathlib.Core.Path.{_≡_, sym, ap, subst, _∙_}
 use Prim.Native.Nat.{ℕ, zero, suc, _+_, _≤_, _<_}
 use native.Mathlib.Omega.{arith}
 use lib.ListN.{length}
 use Rattle.language.specs.Sizes.{TOKENS, TABLE}
 use Rattle.language.specs.Tokens.{Token}
-use Rattle.language.specs.Trees.{Exp, Exps}
-use Rattle.layout.specs.Table.{KIND, OWN, FIRST, SECOND, THIRD, START, PASS, token-value, row-word}
+use Rattle.layout.specs.Table.{KIND, OWN, SECOND, START, PASS, token-value, row-word}
 use Rattle.layout.specs.Decode.{a-for, shape-of, counts, build, tree-at, args-at, Counts, Right, RightArgs}
 use Rattle.layout.specs.Notes.{names-in}
 use Rattle.layout.specs.Resolved.{counting, Placed, PlacedAll}
 use Rattle.rules.proofs.ShapeLaws.{for-shape}
 use Rattle.resolver.specs.Spans.{Spans, SpansAll}
 use Rattle.resolver.specs.Resolves.{Wrote, Job, Done, JobAll, DoneAll, Placing, PlacingAll, Places, PlacesAll, Entered}
-use Rattle.resolver.proofs.Spanning.{nonempty, ordered}
+use Rattle.resolver.proofs.Spanning.{nonempty}
 use Rattle.resolver.proofs.Writing.{wrote-then, names-same, alike-then, row-alike, token-alike, scene-after}
 use Rattle.resolver.proofs.Staying.{all-stays}
 use Rattle.resolver.proofs.Nodes.{whole, word, tree, list, own, spans-as, done-as}

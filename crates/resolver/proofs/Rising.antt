@@ -1,5 +1,5 @@
 -- In a reading the own tokens of each part lie in a stretch of their own (S042).
-use mathlib.Core.List.{List, [], _∷_}
+use mathlib.Core.List.{List}
 use Prim.Native.Nat.{ℕ, _+_, _≤_, _<_}
 use native.Mathlib.Omega.{arith}
 use lib.ListN.{length}
@@ -12,7 +12,7 @@ use Rattle.language.specs.Grammar.{item-while, item-assign, assign-one, assign-
 use Rattle.language.specs.Grammar.{atom-name, atom-call, atom-number, atom-float, atom-constant, atom-group, atom-block, actuals-none}
 use Rattle.language.specs.Grammar.{actuals-some, args-one, args-more, item-for, for-is, bounds-two, bounds-three, counting, bounds}
 use Rattle.resolver.specs.Spans.{Spans, SpansAll, SpansDefs}
-use Rattle.resolver.proofs.Spanning.{nonempty, ordered, widen, widen-all}
+use Rattle.resolver.proofs.Spanning.{ordered, widen, widen-all}
 
 -- what is read from i up to j
 abbrev Lies : (s : Sym) → ℕ → Of s → ℕ → Type 0

@@ -1,5 +1,5 @@
 -- Stretches of own tokens: none is empty, and one lies in every wider one.
-use Prim.Native.Nat.{ℕ, _+_, _≤_, _<_}
+use Prim.Native.Nat.{ℕ, _≤_, _<_}
 use native.Mathlib.Omega.{arith}
 use Rattle.language.specs.Trees.{Exp, name, literal, unary, binary, follow, group, block, call, bind, branch, loop}
 use Rattle.language.specs.Trees.{counted, Exps, last, more}

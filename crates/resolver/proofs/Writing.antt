@@ -1,5 +1,5 @@
 -- What is written: names of slots, and notes. Nothing that the rows, tokens and functions say changes.
-use mathlib.Core.List.{List, [], _∷_}
+use mathlib.Core.List.{List, _∷_}
 use mathlib.Core.Path.{_≡_, refl, sym, ap, ap₂, _∙_}
 use Prim.Native.Nat.{ℕ, zero, suc, _+_, _*_, _≤_, _<_}
 use native.Mathlib.Numerals.{add-one}
@@ -11,7 +11,7 @@ use Rattle.language.specs.Sizes.{TOKENS, NODES, TABLE}
 use Rattle.layout.specs.Table.{ROWS-AT, FUNCTIONS-AT, VARIABLES-AT, OWN, token-value, row-word, function-row}
 use Rattle.layout.specs.Functions.{function-name, Headed, find-function}
 use Rattle.layout.specs.Notes.{NOTES-AT, slot-name, noted, put-name, put-note, names-in}
-use Rattle.layout.specs.Resolved.{slot-of, row-or-nobody, callee-row, parameters-in}
+use Rattle.layout.specs.Resolved.{slot-of, row-or-nobody, callee-row}
 use Rattle.resolver.specs.Resolves.{Alike, Wrote, Scene}
 
 -- the stretch from a up to b lies in that from c up to d

@@ -3,11 +3,8 @@
 
 mod trees;
 
-ghost use mathlib.Core.Path.{_≡_};
-ghost use Prim.Native.Nat.{_+_, _≤_, _<_};
-ghost use lib.ListN.{length};
-ghost use Rattle.language.specs.Sizes.{TABLE};
-ghost use Rattle.layout.specs.Table.{ARITY, row-word};
+ghost use Prim.Native.Nat.{_+_, _<_};
+ghost use Rattle.layout.specs.Table.{ARITY};
 ghost use Rattle.resolver.specs.Resolves.{Binding, Bound, Programs, Resolving, Resolvable, Resolves};
 use layout::Held;
 use layout::functions;

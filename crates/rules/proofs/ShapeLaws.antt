@@ -13,7 +13,7 @@ use Rattle.language.specs.Meaning.{type-number}
 use Rattle.language.proofs.Grammar.Entries.{every}
 use Rattle.language.proofs.Executable.Checks.{ok, after-ok}
 use Rattle.language.proofs.Executable.Checker.{literal-type, infer}
-use Rattle.layout.specs.Rows.{PREFIX, literal-kind, unary-kind, binary-kind}
+use Rattle.layout.specs.Rows.{PREFIX, literal-kind, binary-kind}
 use Rattle.layout.specs.Decode.{Shape, a-for, shape-of, counts, build}
 use Rattle.layout.proofs.Shapes.{shape-kind, kind-of-shape, range-counts, unary-high, binary-between, children-by-entries, children-most}
 use Rattle.layout.proofs.Shapes.{Parted, is-name, is-number, is-float, is-constant, is-call, is-for, is-unary, is-group, is-block}

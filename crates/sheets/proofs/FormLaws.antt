@@ -2,7 +2,6 @@
 use mathlib.Core.List.{List}
 use mathlib.Core.Path.{_≡_, refl, sym, subst}
 use Prim.Native.Nat.{ℕ}
-use Rattle.language.specs.Answers.{Origin}
 use Rattle.language.specs.Tokens.{Token, EDITION-1}
 use Rattle.language.proofs.Answers.Editions.{text-in-lawful}
 use Rattle.language.proofs.Answers.Origins.{Lawful}

@@ -1,7 +1,6 @@
 -- What the layers say of a stored sheet, put together.
 use mathlib.Core.List.{List}
-use mathlib.Core.Option.{some}
-use mathlib.Core.Path.{_≡_, refl, sym, ap, subst, _∙_}
+use mathlib.Core.Path.{_≡_, sym, ap, subst, _∙_}
 use Prim.Native.Nat.{ℕ, _≤_}
 use native.Mathlib.Omega.{arith}
 use lib.ListN.{length}
@@ -13,7 +12,6 @@ use Rattle.language.specs.Starts.{wrong-token, wrong-end}
 use Rattle.language.specs.Stored.{from-stored}
 use Rattle.language.proofs.Text.Marks.{Laws}
 use Rattle.language.proofs.Types.FaultPlaces.{fault-inside}
-use Rattle.numbers.specs.Meanings.{refusal-meant}
 use Rattle.numbers.specs.declared.Refusal.{Refusal}
 use Rattle.layout.specs.Names.{Stand}
 use Rattle.layout.proofs.TokenLaws.{lay-length}

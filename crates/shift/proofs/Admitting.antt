@@ -24,7 +24,6 @@ use Rattle.language.proofs.Answers.Editions.{pair-in-lawful}
 use Rattle.language.proofs.Shift.NeverRefused.{only-no-room-in}
 use Rattle.language.proofs.Shift.OneReport.{one-program}
 use Rattle.language.proofs.Shift.Books.{PAY-WANTED, book-is, is-book}
-use Rattle.numbers.specs.Meanings.{refusal-meant}
 use Rattle.numbers.specs.declared.Refusal as Code
 use Rattle.pairs.specs.Spots.{meant}
 use Rattle.pairs.specs.declared.Spot.{Spot}
@@ -35,7 +34,7 @@ use Rattle.outlines.specs.declared.Outlined as Found
 use Rattle.outlines.specs.Reports.{outlined-report}
 use Rattle.shift.specs.declared.Why.{Why}
 use Rattle.shift.specs.declared.Admission.{Admission}
-use Rattle.shift.specs.Meanings.{granted, admission-meant, lent, keeps-all, left-by}
+use Rattle.shift.specs.Meanings.{lent, keeps-all, left-by}
 use Rattle.shift.specs.Admitting.{AskedOfRoom, AskedOfBook, AskedOfText, Asked}
 
 -- ---- twice is as once

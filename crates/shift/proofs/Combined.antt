@@ -4,7 +4,7 @@ use mathlib.Core.Bool.{Bool, true, false}
 use mathlib.Core.Option.{some}
 use mathlib.Core.Path.{_≡_, refl, sym, subst, _∙_}
 use Rattle.language.specs.State as State
-use Rattle.language.specs.Combining.{all-stops, addable, no-report, without-sums, together, combined}
+use Rattle.language.specs.Combining.{all-stops, addable, no-report, without-sums, together}
 use Rattle.language.specs.Combining as Combining
 use Rattle.language.specs.Shift.{ShiftRefusal, sheet, many-lines}
 use Rattle.language.proofs.Text.Choices.{clash}
@@ -16,7 +16,7 @@ use Rattle.tally.specs.Sums.{no-sums}
 use Rattle.tally.specs.declared.sums.Sums.{Sums}
 use Rattle.shift.specs.declared.Ending.{Ending}
 use Rattle.shift.specs.declared.Finished.{Finished}
-use Rattle.shift.specs.Combining.{ending-meant, told-in, Tells, Together, Combine}
+use Rattle.shift.specs.Combining.{ending-meant, Tells, Together, Combine}
 
 -- ---- no sums
 

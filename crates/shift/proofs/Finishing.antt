@@ -6,11 +6,10 @@ use mathlib.Core.Option.{Option, none, some}
 use mathlib.Core.Path.{_≡_, refl, sym, ap, subst, _∙_}
 use native.Mathlib.Omega.{arith}
 use Prim.Native.Nat.{ℕ, _<_}
-use Rattle.language.specs.Answers.{Lent}
 use Rattle.language.specs.Sizes.{LINES}
 use Rattle.language.specs.Tokens.{Vocabulary}
 use Rattle.language.specs.Edition.{edition, is-known, is-some}
-use Rattle.language.specs.Shift.{lines, AllCome, ShiftRefusal, many-lines}
+use Rattle.language.specs.Shift.{lines, AllCome}
 use Rattle.language.specs.Feeding.{Sofar, rest-of, closed, closed-told}
 use Rattle.language.proofs.Shift.Whole.{fed-shift}
 use Rattle.tally.specs.Parts.{no-part, longer-by, is-begun}
@@ -21,7 +20,7 @@ use Rattle.tally.specs.declared.sums.Sums.{Sums}
 use Rattle.tally.proofs.Reported.{report-stands, bad-more}
 use Rattle.shift.specs.declared.State.{State}
 use Rattle.shift.specs.Meanings.{closed-sums, over-told}
-use Rattle.shift.specs.After.{Keeps, After}
+use Rattle.shift.specs.After.{Keeps}
 use Rattle.shift.specs.declared.Ending.{Ending}
 use Rattle.shift.specs.Promises.{Reports, Finish, finished, no-edition}
 use Rattle.shift.proofs.Kept.{some-begun, none-begun}

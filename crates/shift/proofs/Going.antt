@@ -1,6 +1,6 @@
 -- What one byte more, and bytes one after the other, promise: one law for each way through the code.
 use lib.Dec.{eqb}
-use lib.ListN.{length, take, drop, getD}
+use lib.ListN.{length, take, getD}
 use lib.Seq.{take-suc, take-length}
 use mathlib.Core.Bool.{true, false, not}
 use mathlib.Core.List.{List, [], _∷_, _++_}
@@ -19,7 +19,7 @@ use Rattle.tally.specs.declared.sums.Outcome.{Outcome}
 use Rattle.shift.specs.declared.State.{State}
 use Rattle.shift.specs.Meanings.{lent}
 use Rattle.shift.specs.After.{Grows}
-use Rattle.shift.specs.Feeding.{Lends, Going, Came, with-byte, overfull, summed-up, Goes}
+use Rattle.shift.specs.Feeding.{Lends, Going, Came, with-byte, overfull, Goes}
 use Rattle.shift.proofs.Growing.{grows-none, grows-more, past-grows, full-grows, byte-grows, line-grows}
 
 other-byte : (b : ℕ) → (b ≡ 10 → ⊥) → is-in-line b ≡ true

@@ -12,7 +12,7 @@ use Rattle.language.specs.Shift.{Admits}
 use Rattle.language.specs.Shift as Shift
 use Rattle.language.specs.Feeding.{Sofar, begun, filled, with-outcome, ended-line, Steps, step-past, step-full, step-byte, step-feed, Fed, fed-none, fed-more}
 use Rattle.language.specs.Feeding as Written
-use Rattle.language.proofs.Shift.LineOutcomes.{Admitted, admitted}
+use Rattle.language.proofs.Shift.LineOutcomes.{admitted}
 use Rattle.language.proofs.Shift.Cuts.{fed-joined}
 use Rattle.tally.specs.Parts.{no-part, longer-by}
 use Rattle.tally.specs.Parts as Tally
@@ -21,7 +21,7 @@ use Rattle.tally.specs.declared.sums.Outcome.{Outcome}
 use Rattle.tally.proofs.Reported.{added-stands, none-stands}
 use Rattle.shift.specs.declared.State.{State}
 use Rattle.shift.specs.Meanings.{granted, new-state}
-use Rattle.shift.specs.After.{Keeps, After, Grows}
+use Rattle.shift.specs.After.{After, Grows}
 use Rattle.shift.specs.Feeding.{with-byte, overfull, summed-up}
 use Rattle.shift.proofs.Kept.{longer-last}
 use Rattle.shift.proofs.Sound as Sound

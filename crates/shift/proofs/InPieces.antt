@@ -2,7 +2,7 @@
 -- (R14.8).
 use mathlib.Core.Bool.{Bool}
 use mathlib.Core.List.{List, [], _∷_, _++_, append-assoc, append-nil}
-use mathlib.Core.Path.{_≡_, sym, subst}
+use mathlib.Core.Path.{sym, subst}
 use Prim.Native.Nat.{ℕ}
 use Rattle.language.specs.Answers.{Lent}
 use Rattle.language.specs.Shift.{Shift}

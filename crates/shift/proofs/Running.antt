@@ -4,9 +4,8 @@ use lib.IntN.{ℤ}
 use lib.ListN.{length}
 use lib.Signed.{mag}
 use mathlib.Core.Bool.{Bool, true, false, cond}
-use mathlib.Core.List.{List, [], _∷_}
-use mathlib.Core.Logic.{_⊎_, inl, inr}
-use mathlib.Core.Option.{Option, none, some}
+use mathlib.Core.List.{List, []}
+use mathlib.Core.Logic.{inl, inr}
 use mathlib.Core.Path.{_≡_, refl, sym, ap, subst, _∙_}
 use borrow.Author.Tests.{leb-true}
 use native.Mathlib.Omega.{arith}
@@ -16,7 +15,7 @@ use Rattle.language.specs.State.{Stop, float, flag, nothing, cell, number}
 use Rattle.language.specs.State as State
 use Rattle.language.specs.Meaning.{in-range}
 use Rattle.language.specs.Numbers.{Refusal, Told, passed, refused, stopped}
-use Rattle.language.specs.Answers.{Lent, Run, left, cleared}
+use Rattle.language.specs.Answers.{Lent, Run, left}
 use Rattle.language.specs.Edition.{pair-in}
 use Rattle.language.specs.Shift.{Job, call-of, job-of, runs-to-stop, runs-to-pay, comes-bad, comes-run}
 use Rattle.language.specs.Shift as Shift
@@ -27,19 +26,17 @@ use Rattle.language.proofs.Shift.Totals.{range-mag}
 use Rattle.layout.specs.declared.values.Value.{Value}
 use Rattle.layout.specs.Values as Values
 use Rattle.numbers.specs.declared.Stop as Code
-use Rattle.pairs.specs.declared.Spot.{Spot}
 use Rattle.grumpy.specs.declared.answers.PairRan.{PairRan}
 use Rattle.grumpy.specs.Reports.{pair-ran-report}
 use Rattle.grumpy.proofs.Leaving.{ran-left}
 use Rattle.tally.specs.Parts.{no-part, longer-by, job-told}
-use Rattle.tally.specs.Stands.{job-meant, outcome-meant}
-use Rattle.tally.specs.Sums.{Small}
+use Rattle.tally.specs.Stands.{job-meant}
 use Rattle.tally.specs.declared.lines.Part.{Part}
 use Rattle.tally.specs.declared.lines.Job as Line
 use Rattle.tally.specs.declared.sums.Outcome.{Outcome}
 use Rattle.tally.proofs.Jobs.{kept-job}
 use Rattle.shift.specs.Meanings.{lent}
-use Rattle.shift.specs.Feeding.{Lends, paid-as, ended-as, Leaves, Ran, Came}
+use Rattle.shift.specs.Feeding.{Lends, ended-as, Leaves, Ran, Came}
 
 -- ---- the end of a run
 

@@ -1,10 +1,11 @@
 // The reports of the parts of a shift, each written by a `slip shift`, told together.
-use crate::arguments;
-use crate::input;
-use crate::input::Sheet;
+ghost use Rattle.desk.specs.Statuses.{Status};
 use crate::reports;
 use clerk::readings;
 use clerk::readings::Reading;
+use desk::arguments;
+use desk::input;
+use desk::input::Sheet;
 use orders::asked;
 use orders::asked::Asked;
 use orders::tasks;
@@ -93,7 +94,9 @@ fn summed() -> Total {
 }
 
 // That a part is refused otherwise than for its lines does not come: such a report has no sums, and is not read.
-fn tell(asked: Asked, all: Finished) -> u32 {
+fn tell(asked: Asked, all: Finished) -> u32
+    ensures { λ r. ⌜ Status r ⌝ }
+{
     let told = all.told;
     let sums = all.sums;
     match told {
@@ -102,7 +105,9 @@ fn tell(asked: Asked, all: Finished) -> u32 {
     }
 }
 
-pub fn combine(asked: Asked) -> u32 {
+pub fn combine(asked: Asked) -> u32
+    ensures { λ r. ⌜ Status r ⌝ }
+{
     let total = summed();
     let all = total.all;
     if total.read {

@@ -6,16 +6,16 @@
 // on descriptor 3: 0 paid, or passed; 1 refused or stopped; 2 where the words do not serve, or something
 // cannot be read or written. A program cannot end with a status of its own; the script `slip` at the top of
 // the repository listens on that descriptor and ends with it.
-mod arguments;
+mod books;
 mod combining;
-mod help;
-mod input;
-mod output;
 mod profiling;
 mod reports;
 mod serve;
 mod shifts;
 mod storing;
+
+use desk::arguments;
+use desk::output;
 
 fn main() {
     let asked = arguments::read();

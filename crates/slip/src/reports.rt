@@ -1,21 +1,22 @@
 // The two reports, written.
-use crate::arguments;
-use crate::output;
-use clerk::causes::Cause;
-use clerk::counts::Limits;
-use clerk::counts::unlimited;
+ghost use mathlib.Core.Path.{_≡_};
+ghost use Rattle.clerk.specs.Ends.{status-of, told-status};
+ghost use Rattle.desk.specs.Statuses.{Status, Due};
 use clerk::ends;
 use clerk::ends::End;
+use clerk::limits::Limits;
+use clerk::limits::unlimited;
 use clerk::machines;
 use clerk::people;
 use clerk::places::Places;
 use clerk::shifts;
-use language::SOURCE;
+use desk::arguments;
+use desk::output;
+use desk::rooms;
+use desk::statuses::kept;
 use orders::asked::Asked;
 use tally::sums::Sums;
-
-// Room for a line of a sheet in which every byte takes four, the blanks under it, and a file's name.
-const TEXT: usize = 8 * SOURCE + 40000;
+use wording::causes::Cause;
 
 // Writes the report for machines to a file; true if that could be done.
 fn write(file: &[u8], text: &[u8]) -> bool {
@@ -43,7 +44,9 @@ fn keep(asked: Asked, text: &[u8]) -> bool {
 }
 
 // Something was wrong before any sheet was looked at; it was told. What was to be read is not written over.
-pub fn failed(asked: Asked) -> u32 {
+pub fn failed(asked: Asked) -> u32
+    ensures { λ r. ⌜ r ≡ 2 ⌝ }
+{
     if !arguments::is_plain(asked.report) {
         keep(asked, b"status 2\n");
     }
@@ -67,7 +70,7 @@ fn slip(printed: &[u8]) -> bool {
 
 // The report for people; true if it could be written.
 fn tell(file: &[u8], sheet: &[u8], places: Places, limits: Limits, end: End) -> bool {
-    let mut text = [0u8; TEXT];
+    let mut text = rooms::text();
     let n = people::report(&mut text, file, sheet, places, limits, end);
     output::tell(&text[..n])
 }
@@ -81,41 +84,39 @@ fn record(
     limits: Limits,
     end: End,
 ) -> bool {
-    let mut text = [0u8; TEXT];
+    let mut text = rooms::text();
     let n = machines::report(&mut text, status, file, sheet, places, limits, end);
     keep(asked, &text[..n])
 }
 
 // Tells what came of a sheet, and answers the status. Where the slip cannot be written there is nothing to tell.
-fn told(
-    asked: Asked,
-    sheet: &[u8],
-    places: Places,
-    printed: &[u8],
-    limits: Limits,
-    end: End,
-) -> u32 {
+fn told(asked: Asked, sheet: &[u8], places: Places, printed: &[u8], limits: Limits, end: End) -> u32
+    ensures { λ r. ⌜ Due (status-of end) r ⌝ }
+    ensures { λ r. ⌜ Status r ⌝ }
+{
     let mut file = io::buffer();
     let length = os::arg(asked.sheet, &mut file);
     if !slip(printed) {
         return failed(asked);
     }
-    let mut status = ends::status(end);
-    if !tell(&file[..length], sheet, places, limits, end) {
-        status = 2;
-    }
-    if !record(asked, status, &file[..length], sheet, places, limits, end) {
-        status = 2;
-    }
-    status
+    let told = tell(&file[..length], sheet, places, limits, end);
+    let status = kept(ends::status(end), told);
+    let recorded = record(asked, status, &file[..length], sheet, places, limits, end);
+    kept(status, recorded)
 }
 
-pub fn report(asked: Asked, sheet: &[u8], printed: &[u8], limits: Limits, end: End) -> u32 {
+pub fn report(asked: Asked, sheet: &[u8], printed: &[u8], limits: Limits, end: End) -> u32
+    ensures { λ r. ⌜ Due (status-of end) r ⌝ }
+    ensures { λ r. ⌜ Status r ⌝ }
+{
     told(asked, sheet, Places::Bytes, printed, limits, end)
 }
 
 // The same of a stored sheet, of which no bytes are shown.
-pub fn report_stored(asked: Asked, printed: &[u8], limits: Limits, end: End) -> u32 {
+pub fn report_stored(asked: Asked, printed: &[u8], limits: Limits, end: End) -> u32
+    ensures { λ r. ⌜ Due (status-of end) r ⌝ }
+    ensures { λ r. ⌜ Status r ⌝ }
+{
     told(asked, b"", Places::Lines, printed, limits, end)
 }
 
@@ -127,7 +128,7 @@ fn record_shift(
     over: bool,
     sums: Sums,
 ) -> bool {
-    let mut text = [0u8; TEXT];
+    let mut text = rooms::text();
     let n = machines::shift(&mut text, status, file, allowance, over, sums);
     keep(asked, &text[..n])
 }
@@ -145,7 +146,10 @@ fn warn(asked: Asked, over: bool) -> bool {
 }
 
 // Tells what came of a shift, on standard output, and answers the status.
-pub fn shift(asked: Asked, allowance: u64, over: bool, sums: Sums) -> u32 {
+pub fn shift(asked: Asked, allowance: u64, over: bool, sums: Sums) -> u32
+    ensures { λ r. ⌜ Due (told-status over) r ⌝ }
+    ensures { λ r. ⌜ Status r ⌝ }
+{
     let mut file = io::buffer();
     let length = os::arg(asked.sheet, &mut file);
     let mut text = io::buffer();
@@ -153,14 +157,9 @@ pub fn shift(asked: Asked, allowance: u64, over: bool, sums: Sums) -> u32 {
     if !output::say(&text[..n]) {
         return failed(asked);
     }
-    let mut status = ends::shift_status(over);
-    if !warn(asked, over) {
-        status = 2;
-    }
-    if !record_shift(asked, status, &file[..length], allowance, over, sums) {
-        status = 2;
-    }
-    status
+    let status = kept(ends::shift_status(over), warn(asked, over));
+    let recorded = record_shift(asked, status, &file[..length], allowance, over, sums);
+    kept(status, recorded)
 }
 
 fn record_combined(asked: Asked, status: u32, over: bool, sums: Sums) -> bool {
@@ -180,13 +179,13 @@ fn say_combined(over: bool, sums: Sums) -> bool {
 }
 
 // Tells what the reports of parts come to, and answers the status.
-pub fn combined(asked: Asked, over: bool, sums: Sums) -> u32 {
+pub fn combined(asked: Asked, over: bool, sums: Sums) -> u32
+    ensures { λ r. ⌜ Due (told-status over) r ⌝ }
+    ensures { λ r. ⌜ Status r ⌝ }
+{
     if !say_combined(over, sums) {
         return failed(asked);
     }
-    let mut status = ends::shift_status(over);
-    if !record_combined(asked, status, over, sums) {
-        status = 2;
-    }
-    status
+    let status = ends::shift_status(over);
+    kept(status, record_combined(asked, status, over, sums))
 }

@@ -1,98 +1,109 @@
 // What is done for each task: one function each, which answers the status, and one row in `serve`.
-use crate::arguments;
+ghost use Rattle.desk.specs.Statuses.{Status};
 use crate::combining;
-use crate::help;
-use crate::input;
-use crate::input::Sheet;
-use crate::output;
 use crate::profiling;
 use crate::reports;
 use crate::shifts;
 use crate::storing;
-use clerk::causes::Cause;
-use clerk::counts;
-use clerk::counts::Limits;
-use clerk::counts::unlimited;
+use answered::called;
+use answered::whole;
 use clerk::ends;
 use clerk::ends::End;
+use clerk::limits::Limits;
+use clerk::limits::unlimited;
+use desk::arguments;
+use desk::help;
+use desk::input;
+use desk::input::Sheet;
+use desk::output;
+use desk::rooms;
 use grumpy::answers::Checked;
 use grumpy::answers::PairChecked;
 use grumpy::answers::Wrote;
 use language::ALLOWANCE;
 use language::SOURCE;
-use language::TABLE;
-use language::WORK;
 use orders::asked::Asked;
 use orders::asked::Task;
 use orders::asked::Wanted;
 use orders::tasks;
 use orders::tasks::LARGEST;
 use page::Number;
+use wording::causes::Cause;
 
 pub fn examine(edition: u32, source: &[u8]) -> Checked {
-    let mut words = [0u32; TABLE];
+    let mut words = rooms::table();
     let table: &mut [u32] = &mut words;
     grumpy::check(edition, source, table)
 }
 
 fn examine_called(edition: u32, sheet: &[u8], call: &[u8]) -> PairChecked {
-    let mut words = [0u32; TABLE];
+    let mut words = rooms::table();
     let table: &mut [u32] = &mut words;
     grumpy::check_pair(edition, sheet, call, table)
 }
 
 // Reports what came of a run; what was printed stands first in `out`.
-fn ran(asked: Asked, sheet: &[u8], out: &[u8], limits: Limits, end: End) -> u32 {
+fn ran(asked: Asked, sheet: &[u8], out: &[u8], limits: Limits, end: End) -> u32
+    ensures { λ r. ⌜ Status r ⌝ }
+{
     let n = input::within(ends::printed(end), out);
     reports::report(asked, sheet, &out[..n], limits, end)
 }
 
 // Runs a whole sheet, and reports, with what its profile says.
-fn run_whole(asked: Asked, edition: u32, sheet: &[u8], allowance: u64) -> u32 {
-    let mut words = [0u32; TABLE];
-    let mut cells = [0u32; WORK];
+fn run_whole(asked: Asked, edition: u32, sheet: &[u8], allowance: u64) -> u32
+    ensures { λ r. ⌜ Status r ⌝ }
+{
+    let mut words = rooms::table();
+    let mut cells = rooms::work();
     let mut bytes = io::large_buffer();
     let table: &mut [u32] = &mut words;
     let work: &mut [u32] = &mut cells;
     let out: &mut [u8] = &mut bytes;
     let answer = grumpy::run(edition, sheet, table, work, out, allowance);
-    let most = counts::known(grumpy::profile(edition, sheet, table));
+    let most = whole::known(grumpy::profile(edition, sheet, table));
     ran(
         asked,
         sheet,
         out,
         Limits { allowance, most },
-        ends::of_run(answer),
+        whole::of_run(answer),
     )
 }
 
 // The same of a rate sheet with the call under it.
-fn run_called(asked: Asked, edition: u32, sheet: &[u8], call: &[u8]) -> u32 {
-    let mut words = [0u32; TABLE];
-    let mut cells = [0u32; WORK];
+fn run_called(asked: Asked, edition: u32, sheet: &[u8], call: &[u8]) -> u32
+    ensures { λ r. ⌜ Status r ⌝ }
+{
+    let mut words = rooms::table();
+    let mut cells = rooms::work();
     let mut bytes = io::large_buffer();
     let table: &mut [u32] = &mut words;
     let work: &mut [u32] = &mut cells;
     let out: &mut [u8] = &mut bytes;
     let answer = grumpy::run_pair(edition, sheet, call, table, work, out, ALLOWANCE);
-    let most = counts::called_known(grumpy::profile_pair(edition, sheet, call, table));
+    let most = called::known(grumpy::profile_pair(edition, sheet, call, table));
     let allowance = ALLOWANCE;
-    let end = ends::of_called_run(sheet.len(), answer);
+    let end = called::of_run(sheet.len(), answer);
     ran(asked, sheet, out, Limits { allowance, most }, end)
 }
 
-fn check_whole(asked: Asked, edition: u32) -> u32 {
-    let mut bytes = [0u8; SOURCE + 1];
+fn check_whole(asked: Asked, edition: u32) -> u32
+    ensures { λ r. ⌜ Status r ⌝ }
+{
+    let mut bytes = rooms::sheet();
     let Sheet::Bytes(length) = input::load(asked.sheet, &mut bytes) else {
         return reports::failed(asked);
     };
     let n = input::within(length, &bytes);
-    let end = ends::of_check(examine(edition, &bytes[..n]));
+    let end = whole::of_check(examine(edition, &bytes[..n]));
     reports::report(asked, &bytes[..n], b"", unlimited(), end)
 }
 
-fn run(asked: Asked, edition: u32) -> u32 {
-    let mut bytes = [0u8; SOURCE + 1];
+fn run(asked: Asked, edition: u32) -> u32
+    ensures { λ r. ⌜ Status r ⌝ }
+{
+    let mut bytes = rooms::sheet();
     let Number::Of(allowance) = input::allowance(asked.second) else {
         return reports::failed(asked);
     };
@@ -104,11 +115,13 @@ fn run(asked: Asked, edition: u32) -> u32 {
 }
 
 // Tells what came of writing; what was written stands first in `out`.
-pub fn wrote(asked: Asked, edition: u32, sheet: &[u8], out: &[u8], answer: Wrote) -> u32 {
+pub fn wrote(asked: Asked, edition: u32, sheet: &[u8], out: &[u8], answer: Wrote) -> u32
+    ensures { λ r. ⌜ Status r ⌝ }
+{
     match answer {
         Wrote::Written(long) => {
             let n = input::within(long, out);
-            let end = ends::of_check(examine(edition, sheet));
+            let end = whole::of_check(examine(edition, sheet));
             reports::report(asked, sheet, &out[..n], unlimited(), end)
         }
         Wrote::Refused(why, place) => {
@@ -119,8 +132,10 @@ pub fn wrote(asked: Asked, edition: u32, sheet: &[u8], out: &[u8], answer: Wrote
 }
 
 // Writes a whole sheet out again, if it passes.
-fn rewrite(asked: Asked, edition: u32, sheet: &[u8]) -> u32 {
-    let mut words = [0u32; TABLE];
+fn rewrite(asked: Asked, edition: u32, sheet: &[u8]) -> u32
+    ensures { λ r. ⌜ Status r ⌝ }
+{
+    let mut words = rooms::table();
     let mut text = [0u8; SOURCE];
     let table: &mut [u32] = &mut words;
     let out: &mut [u8] = &mut text;
@@ -128,8 +143,10 @@ fn rewrite(asked: Asked, edition: u32, sheet: &[u8]) -> u32 {
     wrote(asked, edition, sheet, out, answer)
 }
 
-fn write(asked: Asked, edition: u32) -> u32 {
-    let mut bytes = [0u8; SOURCE + 1];
+fn write(asked: Asked, edition: u32) -> u32
+    ensures { λ r. ⌜ Status r ⌝ }
+{
+    let mut bytes = rooms::sheet();
     let Sheet::Bytes(length) = input::load(asked.sheet, &mut bytes) else {
         return reports::failed(asked);
     };
@@ -140,9 +157,9 @@ fn write(asked: Asked, edition: u32) -> u32 {
 // What a rate sheet with its call under it comes to; where that is no program, the sheet alone may be one.
 fn judge(edition: u32, sheet: &[u8], call: &[u8]) -> End {
     let answer = examine_called(edition, sheet, call);
-    let end = ends::of_called_check(answer);
-    if ends::unread_called(answer) {
-        return ends::completed(end, ends::unread(examine(edition, sheet)));
+    let end = called::of_check(answer);
+    if called::unread(answer) {
+        return ends::completed(end, whole::unread(examine(edition, sheet)));
     }
     end
 }
@@ -155,7 +172,9 @@ enum Called {
 }
 
 // Checks the sheet with the call under it and, if they pass, does what is asked.
-fn serve_called(asked: Asked, edition: u32, sheet: &[u8], call: &[u8], what: Called) -> u32 {
+fn serve_called(asked: Asked, edition: u32, sheet: &[u8], call: &[u8], what: Called) -> u32
+    ensures { λ r. ⌜ Status r ⌝ }
+{
     let end = judge(edition, sheet, call);
     if ends::status(end) != 0 {
         return reports::report(asked, sheet, b"", unlimited(), end);
@@ -168,15 +187,19 @@ fn serve_called(asked: Asked, edition: u32, sheet: &[u8], call: &[u8], what: Cal
 }
 
 // Sets the call under the sheet, as a second sheet; it has no more than 26 bytes.
-fn call(asked: Asked, edition: u32, sheet: &[u8], picks: u32, rate: u32, what: Called) -> u32 {
+fn call(asked: Asked, edition: u32, sheet: &[u8], picks: u32, rate: u32, what: Called) -> u32
+    ensures { λ r. ⌜ Status r ⌝ }
+{
     let mut bytes = [0u8; 64];
     let n = page::call(&mut bytes, picks as u64, rate as u64);
     serve_called(asked, edition, sheet, &bytes[..n], what)
 }
 
 // Every call counts the same, whatever its numbers are.
-fn examine_rates(asked: Asked, edition: u32, what: Called) -> u32 {
-    let mut bytes = [0u8; SOURCE + 1];
+fn examine_rates(asked: Asked, edition: u32, what: Called) -> u32
+    ensures { λ r. ⌜ Status r ⌝ }
+{
+    let mut bytes = rooms::sheet();
     let Sheet::Bytes(length) = input::load(asked.sheet, &mut bytes) else {
         return reports::failed(asked);
     };
@@ -184,8 +207,10 @@ fn examine_rates(asked: Asked, edition: u32, what: Called) -> u32 {
     call(asked, edition, &bytes[..n], 0, 0, what)
 }
 
-fn pay(asked: Asked, edition: u32) -> u32 {
-    let mut bytes = [0u8; SOURCE + 1];
+fn pay(asked: Asked, edition: u32) -> u32
+    ensures { λ r. ⌜ Status r ⌝ }
+{
+    let mut bytes = rooms::sheet();
     let Number::Of(picks) = input::number(asked.second, b"picks", LARGEST) else {
         return reports::failed(asked);
     };
@@ -200,7 +225,9 @@ fn pay(asked: Asked, edition: u32) -> u32 {
 }
 
 // An edition that is neither 1 nor 2 is refused by the box.
-fn perform(asked: Asked, task: Task, edition: u32) -> u32 {
+fn perform(asked: Asked, task: Task, edition: u32) -> u32
+    ensures { λ r. ⌜ Status r ⌝ }
+{
     match task {
         Task::Pay => pay(asked, edition),
         Task::Check => examine_rates(asked, edition, Called::Checked),
@@ -212,14 +239,16 @@ fn perform(asked: Asked, task: Task, edition: u32) -> u32 {
         Task::RunStored => storing::run(asked, edition),
         Task::Shift => shifts::shift(asked, edition),
         Task::Profile => examine_rates(asked, edition, Called::Counted),
-        Task::ProfileWhole => profiling::whole(asked, edition),
+        Task::ProfileWhole => profiling::count_whole(asked, edition),
         Task::Combine => combining::combine(asked),
         Task::Help => help::help(),
         Task::Version => help::version(),
     }
 }
 
-fn unclear(asked: Asked, text: &[u8]) -> u32 {
+fn unclear(asked: Asked, text: &[u8]) -> u32
+    ensures { λ r. ⌜ Status r ⌝ }
+{
     output::tell(text);
     reports::failed(asked)
 }
@@ -248,7 +277,9 @@ fn is_read(asked: Asked) -> bool {
     }
 }
 
-pub fn serve(asked: Asked) -> u32 {
+pub fn serve(asked: Asked) -> u32
+    ensures { λ r. ⌜ Status r ⌝ }
+{
     if asked.strange != 0 {
         input::strange(asked.strange);
         return reports::failed(asked);

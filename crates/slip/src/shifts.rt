@@ -1,14 +1,15 @@
 // A shift: a book, and a file of lines that is read and fed piece by piece, so that it may have any size.
-use crate::input;
-use crate::input::Sheet;
-use crate::output;
+ghost use Rattle.desk.specs.Statuses.{Status};
+use crate::books;
 use crate::reports;
 use crate::serve::examine;
-use clerk::counts::unlimited;
+use answered::whole;
 use clerk::ends;
-use language::SOURCE;
-use language::TABLE;
-use language::WORK;
+use clerk::limits::unlimited;
+use desk::input;
+use desk::input::Sheet;
+use desk::output;
+use desk::rooms;
 use orders::asked::Asked;
 use page::Number;
 use pairs::Spot;
@@ -37,10 +38,12 @@ struct Fed {
     state: State,
 }
 
-fn refuse(asked: Asked, edition: u32, book: &[u8], why: Why, spot: Spot) -> u32 {
-    let mut end = ends::of_shift(why, spot);
-    if ends::unread_shift(why) {
-        end = ends::completed(end, ends::unread(examine(edition, book)));
+fn refuse(asked: Asked, edition: u32, book: &[u8], why: Why, spot: Spot) -> u32
+    ensures { λ r. ⌜ Status r ⌝ }
+{
+    let mut end = books::of_shift(why, spot);
+    if books::unread_shift(why) {
+        end = ends::completed(end, whole::unread(examine(edition, book)));
     }
     reports::report(asked, book, b"", unlimited(), end)
 }
@@ -161,7 +164,9 @@ fn pieces(
     }
 }
 
-fn finished(asked: Asked, edition: u32, book: &[u8], allowance: u64, state: State) -> u32 {
+fn finished(asked: Asked, edition: u32, book: &[u8], allowance: u64, state: State) -> u32
+    ensures { λ r. ⌜ Status r ⌝ }
+{
     let finished = shift::finish(edition, state);
     let told = finished.told;
     let sums = finished.sums;
@@ -171,13 +176,17 @@ fn finished(asked: Asked, edition: u32, book: &[u8], allowance: u64, state: Stat
     }
 }
 
-fn unread(asked: Asked, name: &[u8]) -> u32 {
+fn unread(asked: Asked, name: &[u8]) -> u32
+    ensures { λ r. ⌜ Status r ⌝ }
+{
     output::fail(name);
     reports::failed(asked)
 }
 
 // Tells what came of the lines, whose file has this name.
-fn tell(asked: Asked, edition: u32, book: &[u8], name: &[u8], allowance: u64, fed: Fed) -> u32 {
+fn tell(asked: Asked, edition: u32, book: &[u8], name: &[u8], allowance: u64, fed: Fed) -> u32
+    ensures { λ r. ⌜ Status r ⌝ }
+{
     let reading = fed.reading;
     let state = fed.state;
     match reading {
@@ -197,7 +206,9 @@ fn lines(
     work: &mut [u32],
     allowance: u64,
     begun: State,
-) -> u32 {
+) -> u32
+    ensures { λ r. ⌜ Status r ⌝ }
+{
     let mut name = io::buffer();
     let length = os::arg(asked.second, &mut name);
     if check::same(&name[..length], b"-") {
@@ -214,9 +225,11 @@ fn lines(
     status
 }
 
-fn begin(asked: Asked, edition: u32, book: &[u8], allowance: u64) -> u32 {
-    let mut words = [0u32; TABLE];
-    let mut cells = [0u32; WORK];
+fn begin(asked: Asked, edition: u32, book: &[u8], allowance: u64) -> u32
+    ensures { λ r. ⌜ Status r ⌝ }
+{
+    let mut words = rooms::table();
+    let mut cells = rooms::work();
     let table: &mut [u32] = &mut words;
     let work: &mut [u32] = &mut cells;
     let answer = shift::begin(edition, book, table, work, allowance);
@@ -229,8 +242,10 @@ fn begin(asked: Asked, edition: u32, book: &[u8], allowance: u64) -> u32 {
 }
 
 // One file cannot be two things, and standard input is read only once.
-pub fn shift(asked: Asked, edition: u32) -> u32 {
-    let mut bytes = [0u8; SOURCE + 1];
+pub fn shift(asked: Asked, edition: u32) -> u32
+    ensures { λ r. ⌜ Status r ⌝ }
+{
+    let mut bytes = rooms::sheet();
     if input::same(asked.sheet, asked.second) {
         output::tell(b"slip: book and lines are the same file\n");
         return reports::failed(asked);

@@ -2,10 +2,10 @@
 use lib.ListN.{length}
 use lib.Seq.{slice}
 use mathlib.Core.List.{List, []}
-use mathlib.Core.Path.{_≡_, sym, ap, subst, _∙_}
+use mathlib.Core.Path.{_≡_, sym, subst, _∙_}
 use native.Mathlib.Omega.{arith}
-use Prim.Native.Nat.{ℕ, _≤_, _<_}
-use Rattle.language.proofs.Stored.Lone.{WholePiece, lone-piece}
+use Prim.Native.Nat.{ℕ, _≤_}
+use Rattle.language.proofs.Stored.Lone.{lone-piece}
 use Rattle.language.proofs.Text.Marks.{Laws}
 use Rattle.language.proofs.Text.OnePiece.{one-piece}
 use Rattle.language.specs.Numbers.{not-one-token}

@@ -16,10 +16,9 @@ use Rattle.language.proofs.Stored.Hex.{digit-worth}
 use Rattle.language.proofs.Stored.Lines.{first-taken, taken-count, one-first-line}
 use Rattle.language.proofs.Text.Choices.{either}
 use Rattle.language.proofs.Text.Runs.{Run}
-use Rattle.language.specs.Stored.{hex, count-line, Bytes, FirstLine, FirstCount}
+use Rattle.language.specs.Stored.{hex, count-line, FirstLine, FirstCount}
 use Rattle.language.specs.Text.{byte}
 use Rattle.tokens.proofs.HexDigits.{told-shown}
-use Rattle.tokens.proofs.Views.{told-long}
 use Rattle.tokens.specs.Shown.{is-capital, told}
 use Rattle.stored.specs.Lines.{LineTo, CountTo}
 

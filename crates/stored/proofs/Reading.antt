@@ -6,7 +6,7 @@ use mathlib.Core.Logic.{_⊎_, inl, inr, ⊎-elim}
 use mathlib.Core.Path.{_≡_, refl, sym, ap, subst, _∙_}
 use native.Mathlib.Nat.{zero-add}
 use native.Mathlib.Omega.{arith}
-use Prim.Native.Nat.{ℕ, suc, _+_, _-_, _*_, _/_, _%_, _≤_, _<_}
+use Prim.Native.Nat.{ℕ, suc, _+_, _-_, _*_, _/_, _≤_, _<_}
 use Rattle.language.proofs.Stored.GoodLines.{good-start, good-next, good-gives}
 use Rattle.language.proofs.Stored.Lone.{lone-token, piece-lone, one-lone}
 use Rattle.language.proofs.Text.Choices.{either}
@@ -29,7 +29,7 @@ use Rattle.stored.proofs.Starts.{digits-in, Listed, listed-none, listed
 use Rattle.stored.proofs.Words.{one-hex, words-found}
 use Rattle.stored.specs.Answer.{Counted, Whole, Broken}
 use Rattle.stored.specs.Entries.{OnLine, Amiss, no-digits, no-token}
-use Rattle.stored.specs.Lines.{LineTo, CountTo}
+use Rattle.stored.specs.Lines.{CountTo}
 use Rattle.stored.specs.Names.{Searchable, TableWorth, digits-of}
 use Rattle.stored.specs.Rows.{Keepable, Written, Kept}
 use Rattle.tokens.specs.Shown.{told}

@@ -2,9 +2,9 @@
 use lib.ListN.{length, getD, List·getD-eq-default}
 use mathlib.Core.List.{List}
 use mathlib.Core.Logic.{⊎-elim}
-use mathlib.Core.Path.{_≡_, sym, ap, subst, _∙_}
+use mathlib.Core.Path.{ap}
 use native.Mathlib.Omega.{arith}
-use Prim.Native.Nat.{ℕ, _≤_, _<_}
+use Prim.Native.Nat.{ℕ, _≤_}
 use Rattle.language.proofs.Stored.Lone.{lone-piece}
 use Rattle.language.proofs.Text.Choices.{either}
 use Rattle.language.proofs.Text.Marks.{Laws}

@@ -1,15 +1,15 @@
 -- What stands behind the words of tokens while lines are read: the names can be found, and where each line begins is told.
-use lib.ListN.{length, getD, take, set, length-append, List·getD-append}
-use lib.Seq.{slice, getD-at, getD-set-same, getD-set-other, take-append-le, take-append-seam}
+use lib.ListN.{length, getD, take, set, List·getD-append}
+use lib.Seq.{getD-at, getD-set-same, getD-set-other, take-append-le, take-append-seam}
 use mathlib.Core.List.{List, [], _∷_, _++_}
 use mathlib.Core.Logic.{⊎-elim}
-use mathlib.Core.Path.{_≡_, refl, sym, ap, subst, _∙_}
+use mathlib.Core.Path.{_≡_, sym, ap, subst, _∙_}
 use native.Mathlib.Omega.{arith}
 use Prim.Native.Nat.{ℕ, _+_, _*_, _≤_, _<_}
 use Rattle.language.proofs.Text.Choices.{either}
 use Rattle.language.specs.Sizes.{TOKENS, TABLE}
 use Rattle.language.specs.Stored.{hex, spelled-bytes}
-use Rattle.language.specs.Tokens.{Spelling, Token, NAME, past}
+use Rattle.language.specs.Tokens.{Spelling, Token, past}
 use Rattle.layout.specs.Table.{put-token}
 use Rattle.tokens.proofs.Agreeing.{put-above, forks-token, forks-start, forks-next}
 use Rattle.tokens.proofs.Indexing.{named-in, Indexed, indexed-none, foretold-starts, indexed-next}

@@ -6,7 +6,7 @@ use mathlib.Core.List.{List}
 use mathlib.Core.Path.{_≡_}
 use Prim.Native.Nat.{ℕ, zero, suc, _+_, _*_, _≤_, _<_}
 use Rattle.language.specs.Sizes.{TOKENS, TABLE}
-use Rattle.language.specs.Tokens.{Spelling, same, NAME}
+use Rattle.language.specs.Tokens.{same, NAME}
 use Rattle.language.specs.Trees.{PUTCHAR}
 use Rattle.layout.specs.Table.{token-end}
 use Rattle.tokens.specs.Forks.{STARTS-AT, Sought}

@@ -14,7 +14,7 @@ use Rattle.language.specs.Sizes.{LINES}
 use Rattle.language.specs.Numbers.{stop-number}
 use Rattle.language.specs.State as State
 use Rattle.language.specs.Shift as Shift
-use Rattle.language.specs.Shift.{tally, is-bad, is-stop, pay-before, pays, total, chosen, lesser, greater, Report, report-of}
+use Rattle.language.specs.Shift.{tally, is-bad, is-stop, pay-before, pays, total, chosen, lesser, greater, report-of}
 use Rattle.language.proofs.Shift.Totals.{tally-more, pays-more, total-more, chosen-more, pays-few, AllInRange, total-mag}
 use Rattle.numbers.specs.Meanings.{stop-meant}
 use Rattle.numbers.specs.declared.Stop.{Stop}

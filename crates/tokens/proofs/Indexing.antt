@@ -1,10 +1,10 @@
 -- Tokens whose names can be found: the next name can be sought among them, and what comes of it can be found, too.
 use borrow.Author.Tests.{eqb-true, eqb-false}
 use lib.Dec.{eqb}
-use lib.ListN.{length, getD}
+use lib.ListN.{getD}
 use mathlib.Core.List.{List}
 use mathlib.Core.Logic.{⊎-elim}
-use mathlib.Core.Path.{_≡_, refl, sym, _∙_, ap, subst}
+use mathlib.Core.Path.{_≡_, sym, _∙_, ap, subst}
 use native.Mathlib.Omega.{arith}
 use Prim.Native.Nat.{ℕ, _+_, _≤_, _<_}
 use Rattle.language.proofs.Text.Choices.{either, outcome}
@@ -12,7 +12,7 @@ use Rattle.language.specs.Sizes.{TOKENS}
 use Rattle.language.specs.Tokens.{Spelling, Token, NAME, past}
 use Rattle.tokens.proofs.Agreeing.{but-self}
 use Rattle.tokens.proofs.ForkLaws.{finds-like, shape-like, shape-more}
-use Rattle.tokens.specs.Forks.{ButRows, STARTS-AT, FORKS-AT, SameForks, Shape, Finds, Found, Sought, Planted, Foretold}
+use Rattle.tokens.specs.Forks.{ButRows, STARTS-AT, FORKS-AT, SameForks, Shape, Finds, Found, Sought, Foretold}
 
 -- how the tokens of a list are spelled, and which are names
 abbrev pub spelling-of : List Token → ℕ → Spelling

@@ -2,15 +2,15 @@
 use lib.ListN.{length, getD}
 use lib.Seq.{length-slice, take-length}
 use mathlib.Core.List.{List}
-use mathlib.Core.Path.{_≡_, refl, sym, _∙_, ap, subst}
+use mathlib.Core.Path.{_≡_, refl, _∙_, ap, subst}
 use native.Mathlib.Omega.{arith}
 use Prim.Native.Nat.{ℕ, zero, suc, _≤_, _<_}
-use Rattle.language.proofs.Text.Alone.{Copied, alone}
+use Rattle.language.proofs.Text.Alone.{alone}
 use Rattle.language.proofs.Text.Marks.{Laws}
 use Rattle.language.proofs.Text.OnePiece.{form-bounds, one-piece}
 use Rattle.language.proofs.Writing.Spelled.{Spelled, AllSpelled, spelled-none, spelled-more, reached-spelled}
 use Rattle.language.specs.Sizes.{LARGEST}
-use Rattle.language.specs.Text.{Content, Piece, Reaches, token-of}
+use Rattle.language.specs.Text.{Piece, Reaches, token-of}
 use Rattle.language.specs.Text.Content.{token}
 use Rattle.language.specs.Tokens.{Spelling, Vocabulary, Token, past}
 

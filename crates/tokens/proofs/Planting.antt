@@ -15,7 +15,7 @@ use Rattle.tokens.proofs.Agreeing.{but-self}
 use Rattle.tokens.proofs.ForkLaws.{leads-on, finds-one, link-there, link-taken, start-there, shape-more}
 use Rattle.tokens.proofs.NewFork.{fork-rest, fork-starts, finds-kept, finds-new, shape-grown}
 use Rattle.tokens.specs.Forks.{ROOTS, STARTS-AT, FORKS-AT, letter-at, link, start-at, start, Leads, here, Finds, Link, LinkAt, Shape}
-use Rattle.tokens.specs.Forks.{Ends, Askable, Seekable, Forked, Found, Sought, Planted}
+use Rattle.tokens.specs.Forks.{Ends, Askable, Seekable, Forked, Sought, Planted}
 
 -- ---- a way
 

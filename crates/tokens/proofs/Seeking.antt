@@ -8,13 +8,12 @@ use native.Mathlib.Omega.{arith}
 use Prim.Native.Nat.{ℕ, _≤_, _<_}
 use Rattle.language.proofs.Text.Choices.{clash}
 use Rattle.language.proofs.Text.Tables.{same-one}
-use Rattle.language.specs.Sizes.{TOKENS, TABLE}
 use Rattle.language.specs.Tokens.{Spelling, same}
 use Rattle.layout.specs.Table.{token-place, token-end}
 use Rattle.tokens.proofs.Compared.{unlike, first-found, first-none, first-of-all}
 use Rattle.tokens.proofs.Planting.{ends-finds, ends-inside, planted-first, planted-same, planted-fork}
 use Rattle.tokens.specs.declared.forks.Parting.the-variants.{At}
-use Rattle.tokens.specs.Forks.{letter-at, IsParting, Forkable, Forked, Hangable, Hung, Shape, Ends, Finds, Seekable, Planted}
+use Rattle.tokens.specs.Forks.{letter-at, IsParting, Forkable, Forked, Hangable, Hung, Shape, Ends, Seekable, Planted}
 use Rattle.tokens.specs.Found.{bytes-of, First, Searchable}
 
 -- ---- a fork or none

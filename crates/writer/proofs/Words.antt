@@ -1,11 +1,11 @@
 -- The text by the words of a table: how long it is, how it goes on with each token, and that it is what the language writes.
 use lib.ListN.{length, getD, length-append}
 use lib.Seq.{slice, length-slice, append-snoc}
-use mathlib.Core.List.{List, [], _∷_, _++_, append-assoc}
-use mathlib.Core.Path.{_≡_, refl, sym, ap, ap₂, subst, _∙_}
+use mathlib.Core.List.{List, [], _∷_, _++_}
+use mathlib.Core.Path.{_≡_, refl, sym, ap, _∙_}
 use native.Mathlib.Omega.{arith}
-use Prim.Native.Nat.{ℕ, zero, suc, _+_, _*_, _-_, _≤_, _<_}
-use Rattle.language.specs.Sizes.{SOURCE, TOKENS}
+use Prim.Native.Nat.{ℕ, zero, suc, _+_, _-_, _≤_, _<_}
+use Rattle.language.specs.Sizes.{SOURCE}
 use Rattle.language.specs.Tokens.{Vocabulary, Token, past, spelling-at, place-at}
 use Rattle.language.specs.Text.{Splits}
 use Rattle.language.specs.Writing.{behind, written-out}

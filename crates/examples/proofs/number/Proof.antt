@@ -2,7 +2,6 @@
 use mir.Syntax.{w32}
 use mir.Val.{SFits}
 use Rattle.layout.proofs.Signed.{widened}
-use native.Mathlib.Omega.{arith}
 use borrow.Author.Needs.{needs}
 use Rattle.examples.proofs.number.Statement.{statement}
 use Rattle.examples.proofs.number.Tie as tie

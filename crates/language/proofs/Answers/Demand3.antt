@@ -3,7 +3,7 @@
 -- reading has the type t; and both say "not a program" exactly when it comes to tokens and no reading exists.
 use mathlib.Core.List.{List}
 use mathlib.Core.Logic.{_↔_}
-use mathlib.Core.Path.{_≡_, refl, sym, ap, subst, _∙_}
+use mathlib.Core.Path.{_≡_, sym, ap, subst}
 use Prim.Native.Nat.{ℕ, _≤_}
 use native.Mathlib.Omega.{arith}
 use Rattle.language.specs.Sizes.{Sizes, BOX, ALLOWANCE}

@@ -1,6 +1,6 @@
 -- What head office asks before it buys (Req 11), of any lawful origin: a text, and whatever else tokens may come from.
 use mathlib.Core.List.{List}
-use mathlib.Core.Option.{Option, none, some}
+use mathlib.Core.Option.{none, some}
 use mathlib.Core.Path.{_≡_, refl, sym, ap, subst, _∙_}
 use Prim.Native.Nat.{ℕ, _+_, _-_, _≤_, _<_}
 use native.Mathlib.Omega.{arith}
@@ -12,7 +12,7 @@ use Rattle.language.specs.Grammar.{Reading}
 use Rattle.language.specs.Types.{HasTypeUnder}
 use Rattle.language.specs.State.{Stop, no-unit, Value, State, Outcome, value, stop, stuck}
 use Rattle.language.specs.Meaning.{run, type-number}
-use Rattle.language.specs.Numbers.{Told, passed, refused, stopped, number, stop-number}
+use Rattle.language.specs.Numbers.{passed, refused, stopped, number, stop-number}
 use Rattle.language.specs.Answers.{Origin, nowhere, at, PassesUnder, Ending, ended, ending, CheckReport, CheckedUnder, check-short, check-refused}
 use Rattle.language.specs.Answers.{check-passed, CheckUnder, Lent, EnoughUnder, RunReport, after-run, RanUnder, run-short, run-large}
 use Rattle.language.specs.Answers.{run-refused, run-ended, RunUnder}
@@ -21,7 +21,7 @@ use Rattle.language.proofs.Meaning.NeverStuck as NeverStuck
 use Rattle.language.proofs.Meaning.Strict.{strict-run, strict-same}
 use Rattle.language.proofs.Meaning.ValueTypes.{OfType, value-of-type}
 use Rattle.language.proofs.Meaning.StopPlaces.{stop-inside}
-use Rattle.language.proofs.Meaning.MoreUnits.{plus, same-value, same-stop}
+use Rattle.language.proofs.Meaning.MoreUnits.{same-value, same-stop}
 use Rattle.language.proofs.Answers.Endings.{some-ending}
 use Rattle.language.proofs.Answers.Origins.{LawfulUnder}
 use Rattle.language.proofs.Answers.OneAnswer.{one-ran, one-run}

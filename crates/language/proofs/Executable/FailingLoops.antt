@@ -7,7 +7,7 @@ use Rattle.language.specs.Tokens.{Token, NAME, NUMBER, IN, LBRACE, RBRAC
 use Rattle.language.specs.Grammar.{or, chain, tier, counting, bounds, ranges, bounds-two, bounds-three}
 use Rattle.language.proofs.Grammar.Entries.{every}
 use Rattle.language.proofs.Grammar.FirstTokens.{grows}
-use Rattle.language.proofs.Grammar.Prefixes.{inside, in-table, within, kept-at, kept-means, kept}
+use Rattle.language.proofs.Grammar.Prefixes.{in-table, within, kept-at, kept-means, kept}
 use Rattle.language.proofs.Executable.Parser.{read, until, step, parse}
 use Rattle.language.proofs.Executable.ParserSound.{right, at}
 use Rattle.language.proofs.Executable.Locality.{there}

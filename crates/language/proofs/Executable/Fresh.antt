@@ -11,7 +11,7 @@ use Rattle.language.specs.Grammar.{Tier, cmp, un, chain, or, and, sum, p
 use Rattle.language.specs.Grammar.{bound, item, assign, atom, actuals, args, Reads, program-seq, def-is, formals-none, formals-some}
 use Rattle.language.specs.Grammar.{params-one, type-basic, seq-tail, seq-item, tail-let, tail-if, let-in, item-if, item-while}
 use Rattle.language.specs.Grammar.{item-assign, assign-one, chain-one, cmp-one, un-atom, atom-number, atom-group, atom-block}
-use Rattle.language.specs.Grammar.{actuals-none, actuals-some, args-one, item-for, for-is, bounds-two, bounds-three, counting, bounds}
+use Rattle.language.specs.Grammar.{actuals-none, actuals-some, args-one, item-for, for-is, bounds-two, counting, bounds}
 use Rattle.language.proofs.Executable.Parser.{Goal, read, rest, refs, clause, until, closed, result, entire}
 use Rattle.language.proofs.Grammar.Prefixes.{Spans}
 

@@ -1,5 +1,5 @@
 -- In a reading no number is followed by a name: behind an atom comes a mark, a word or the end.
-use mathlib.Core.Bool.{not, _&&_}
+use mathlib.Core.Bool.{not}
 use mathlib.Core.List.{List}
 use mathlib.Core.Logic.{_⊎_, inl, inr}
 use mathlib.Core.Option.{some}
@@ -7,7 +7,6 @@ use mathlib.Core.Path.{_≡_, refl, sym, _∙_, subst}
 use Prim.Native.Nat.{ℕ, _+_, _≤_, _<_}
 use native.Mathlib.Omega.{arith}
 use lib.Dec.{T, eqb}
-use lib.ListN.{length}
 use borrow.Author.Tests.{eq-eqb}
 use Rattle.language.specs.Tokens.{Token, Entry, At, kind-at, entry, NAME, NUMBER}
 use Rattle.language.specs.Trees.{Program, Def, Binary}

@@ -9,7 +9,7 @@ use Rattle.language.specs.Sizes.{ACTIVE}
 use Rattle.language.specs.Trees.{Literal, whole, truth, trivial, decimal, not, Binary, add, sub, mul, div, less}
 use Rattle.language.specs.Trees.{equal, and, or, assign, Exp, name, literal, unary, binary, follow, group, block, call, bind, branch, loop, counted}
 use Rattle.language.specs.Trees.{Exps, last, more, own, Def, Program, Scope, empty, push, PUTCHAR}
-use Rattle.language.specs.State.{Value, number, float, flag, nothing, as-int, as-bool, as-cell, held}
+use Rattle.language.specs.State.{Value, number, flag, nothing, as-int, as-bool, as-cell, held}
 use Rattle.language.specs.State.{store, State, with-cells, too-deep, zero-divisor, cell-freed, Outcome, value, stop, stuck}
 use Rattle.language.specs.State.{then, choose, when-some, want}
 use Rattle.language.specs.Meaning.{Env, begin, fit, is-zero, same-int, settles}

@@ -2,7 +2,6 @@
 -- `..=` and none with `..`; and without a step there is one unless the ends are equal, and never a zero step.
 use mathlib.Core.Bool.{Bool, true, false, cond, _&&_, _||_, false≢true}
 use mathlib.Core.Path.{_≡_, refl, sym}
-use Prim.Native.Nat.{ℕ}
 use native.Mathlib.Omega.{arith}
 use native.Mathlib.Nat.{le-refl}
 use borrow.Author.Tests.{eq-eqb, ne-eqb, eqb-false, ltb-true, ltb-false, lt-ltb, le-ltb}

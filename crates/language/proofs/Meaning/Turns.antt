@@ -1,11 +1,11 @@
 -- A `for` is the unrolling of its passes: if one is due, the body with its name bound, and the `for` again from the next number on.
 use mathlib.Core.Path.{_≡_, refl, sym, _∙_}
-use mathlib.Core.Bool.{Bool, true, false}
+use mathlib.Core.Bool.{Bool, false}
 use Prim.Native.Nat.{ℕ, zero, suc, _≤_}
 use native.Mathlib.Omega.{arith}
 use lib.IntN.{ℤ, _+ℤ_}
-use Rattle.language.specs.Trees.{Name, Exp, own, Scope, push}
-use Rattle.language.specs.State.{number, nothing, State, Outcome, value, stop, no-unit, then, as-unit, choose, want}
+use Rattle.language.specs.Trees.{Name, Exp, Scope, push}
+use Rattle.language.specs.State.{number, nothing, State, Outcome, value, stop, then, as-unit, choose, want}
 use Rattle.language.specs.Meaning.{Env, in-range, Fun, due, turns, eval}
 use Rattle.language.proofs.Meaning.Spending.{spends, at-end, then-same, want-same, choose-same, then-stop}
 

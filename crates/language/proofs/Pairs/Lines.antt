@@ -1,14 +1,12 @@
 -- The line around a byte of a sheet: what the written functions find is a line, the only one there, and how a program finds it
 -- byte for byte.
-use borrow.Author.Count.{below-more}
-use lib.ListN.{length, drop, getD, length-drop, List·getD-eq-default}
-use lib.Seq.{drop-cons, getD-drop}
-use mathlib.Core.Bool.{Bool, true, false}
+use lib.ListN.{length, drop, length-drop}
+use lib.Seq.{drop-cons}
+use mathlib.Core.Bool.{true, false}
 use mathlib.Core.List.{List, [], _∷_}
-use mathlib.Core.Logic.{⊎-elim, _⊎_, inl, inr}
-use mathlib.Core.Path.{_≡_, refl, sym, _∙_, ap}
+use mathlib.Core.Logic.{⊎-elim, _⊎_}
+use mathlib.Core.Path.{_≡_, refl}
 use native.Mathlib.Nat.{add-zero}
-use native.Mathlib.Numerals.{add-one}
 use native.Mathlib.Omega.{arith}
 use Prim.Native.Nat.{ℕ, zero, suc, _+_, _-_, _≤_, _<_}
 use Rattle.language.proofs.Text.Choices.{either, outcome, clash}

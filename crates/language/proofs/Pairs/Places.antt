@@ -2,10 +2,10 @@
 -- which is the end of the first; on a byte of the second; on the end. At an end the empty part is shown.
 use lib.Dec.{eqb, ltb, leb}
 use lib.ListN.{length}
-use mathlib.Core.Bool.{true, false, cond}
+use mathlib.Core.Bool.{cond}
 use mathlib.Core.List.{List}
 use mathlib.Core.Logic.{⊎-elim}
-use mathlib.Core.Path.{_≡_, refl, sym, _∙_, ap}
+use mathlib.Core.Path.{_≡_, refl, _∙_, ap}
 use borrow.Author.Tests.{lt-ltb, le-ltb, le-leb, lt-leb}
 use native.Mathlib.Nat.{le-refl}
 use native.Mathlib.Omega.{arith}

@@ -1,10 +1,9 @@
 -- The lines of an input by one byte after the other, and that it does not matter where the input is cut (R14.8): what is fed
 -- in pieces is fed as a whole.
-use mathlib.Core.Bool.{Bool, true, false}
 use mathlib.Core.List.{List, [], _∷_, _++_}
 use mathlib.Core.Path.{_≡_, refl, sym, ap₂, subst}
 use native.Mathlib.Omega.{arith}
-use Prim.Native.Nat.{ℕ, _≤_, _<_}
+use Prim.Native.Nat.{ℕ}
 use Rattle.language.specs.Answers.{Lent}
 use Rattle.language.specs.Feeding.{Sofar, with-outcome, Steps, step-past, step-full, step-byte, step-feed, Fed, fed-none, fed-more}
 use Rattle.language.proofs.Text.Choices.{clash}

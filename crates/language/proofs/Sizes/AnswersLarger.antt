@@ -14,7 +14,7 @@ use Rattle.language.specs.Numbers.{Refusal}
 use Rattle.language.specs.Answers.{Origin, Spot, nowhere, at, place-in, DeniedUnder, unread, faulty, PassesUnder, RefusedUnder, by-origin, by-tokens}
 use Rattle.language.specs.Answers.{left, CheckReport, check-report, CheckedUnder, check-short, check-refused, check-passed, CheckUnder}
 use Rattle.language.specs.Answers.{Lent, EnoughUnder, RunReport, RanUnder, run-short, run-large, run-refused, run-ended, RunUnder}
-use Rattle.language.specs.Writing.{FitsUnder, WriteReport, write-report, WroteUnder, write-short, write-refused, write-long, write-passed}
+use Rattle.language.specs.Writing.{WriteReport, write-report, WroteUnder, write-short, write-refused, write-long, write-passed}
 use Rattle.language.specs.Writing.{StoresUnder, store-short, store-refused, store-long, store-passed}
 use Rattle.language.proofs.Sizes.Larger.{Larger, of-both, of-size, told-of-size}
 use Rattle.language.proofs.Sizes.TypesLarger.{type-larger}

@@ -1,14 +1,14 @@
 -- A box of the sizes before Req 13, and what becomes of its sheets (R13.4): to a stored sheet with a count above `0400` it says 14
 -- at line 1 and nothing else, whatever follows, as a box of any sizes does with a count above its own; and what it answers, a box
 -- of larger sizes answers.
-use mathlib.Core.Bool.{true, false}
-use mathlib.Core.List.{List, [], _∷_}
+use mathlib.Core.Bool.{false}
+use mathlib.Core.List.{List, []}
 use mathlib.Core.Option.{some}
 use mathlib.Core.Path.{_≡_, refl}
 use Prim.Native.Nat.{ℕ, _≤_, _<_}
 use native.Mathlib.Omega.{arith}
 use Rattle.language.specs.Sizes.{Sizes, BOX, ALLOWANCE}
-use Rattle.language.specs.Tokens.{Vocabulary, EDITION-1, spell, _is_}
+use Rattle.language.specs.Tokens.{Vocabulary, spell, _is_}
 use Rattle.language.specs.Text.{many-tokens}
 use Rattle.language.specs.Numbers.{text, refused}
 use Rattle.language.specs.Answers.{Origin, RefusedUnder, by-origin, CheckReport, check-report, CheckedUnder, check-refused}
@@ -17,7 +17,6 @@ use Rattle.language.specs.Stored.{COUNT, capital, hex, line, count-line,
 use Rattle.language.specs.Edition.{edition, known, text-in-under, stored-in-under, pair-in-under}
 use Rattle.language.proofs.Answers.OneAnswer.{one-checked, one-ran}
 use Rattle.language.proofs.Stored.Editions.{stored-in-lawful-under}
-use Rattle.language.proofs.Stored.Examples.{reads}
 use Rattle.language.proofs.Sizes.Larger.{Larger, told-of-size}
 use Rattle.language.proofs.Sizes.Wider.{Wider, text-in-wider, pair-in-wider, stored-in-wider}
 use Rattle.language.proofs.Sizes.AnswersLarger.{with-table, checked-larger, ran-larger}
@@ -48,11 +47,6 @@ OLD = record { source = 8192; tokens = 1024; nodes = 1024; functions = 32; param
 pub old-count : count-line (OLD .tokens) ≡ spell "0400\n"
 unfolding count-line line hex capital
 old-count = refl
-
--- one more is 14, before any later line is looked at
-pub old-examples : reads OLD EDITION-1 ("0400\n3\n" is (60 is 2) ∷ "0400\n31\n" is (61 is 1) ∷ "0401\n3\n" is (14 is 1) ∷ "0401\n" is (14 is 1) ∷ []) ≡ true
-unfolding reads
-old-examples = refl
 
 old-told : OLD .tokens ≤ COUNT
 old-told = omega arith

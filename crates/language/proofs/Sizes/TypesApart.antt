@@ -1,10 +1,9 @@
 -- Types with the sizes apart (S050): a program has a type if it has one under some sizes. It has one at most; and under sizes
 -- that it does not exceed it has that one.
-use mathlib.Core.Bool.{Bool, true, false}
+use mathlib.Core.Bool.{false}
 use mathlib.Core.Logic.{_⊎_, inl, inr}
-use mathlib.Core.Path.{_≡_, refl, sym, subst}
+use mathlib.Core.Path.{_≡_, refl, subst}
 use Prim.Native.Nat.{ℕ}
-use native.Mathlib.Omega.{arith}
 use Rattle.language.specs.Sizes.{Sizes}
 use Rattle.language.specs.Trees.{Ty, Program}
 use Rattle.language.specs.Types.{HasTypeUnder}

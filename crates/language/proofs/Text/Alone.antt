@@ -3,7 +3,7 @@
 use lib.Dec.{leb}
 use lib.ListN.{length, getD, take}
 use lib.Seq.{slice, slice-cons, length-slice, getD-take, getD-drop}
-use mathlib.Core.Bool.{Bool, true, false, cond, not, _&&_}
+use mathlib.Core.Bool.{Bool, true, false, cond, not}
 use mathlib.Core.List.{List, [], _∷_}
 use mathlib.Core.Logic.{⊎-elim, _⊎_, inl, inr}
 use mathlib.Core.Option.{some}
@@ -15,13 +15,13 @@ use borrow.Author.Tests.{not-true}
 use Prim.Native.Nat.{ℕ, zero, suc, _+_, _-_, _≤_, _<_}
 use Rattle.language.proofs.Text.Choices.{either, clash, and-both}
 use Rattle.language.proofs.Text.Classes.{high-not-blank, name-not-blank, letter-not-blank, digit-not-blank, name-digit-of}
-use Rattle.language.proofs.Text.Marks.{Laws, Shape, mark-shape, mark-some, unbroken, slice-two, base-shape}
+use Rattle.language.proofs.Text.Marks.{Laws, mark-shape, mark-some, unbroken, slice-two, base-shape}
 use Rattle.language.proofs.Text.OnePiece.{form-bounds}
-use Rattle.language.proofs.Text.Places.{Sort, sort, sort-line, sort-open, Opened, Slashed, View, view}
+use Rattle.language.proofs.Text.Places.{sort, sort-line, sort-open, View, view}
 use Rattle.language.proofs.Text.Places.Opened.{closed, left}
 use Rattle.language.proofs.Text.Places.Sort.{lines, opens}
 use Rattle.language.proofs.Text.Spellings.{byte-inside}
-use Rattle.language.specs.Text.{byte, Each, Stands, is-blank, is-letter, is-digit, is-digit-of, is-name-byte}
+use Rattle.language.specs.Text.{byte, Each, Stands, is-blank, is-digit, is-digit-of, is-name-byte}
 use Rattle.language.specs.Text.{Opens, Content, Within, Form, Piece, word-kind, number-from, float-content}
 use Rattle.language.specs.Text.Content.{space, unclosed, overlong, token}
 use Rattle.language.specs.Text.Form.{blank, line, comment, unended, name, number, based, float, mark}

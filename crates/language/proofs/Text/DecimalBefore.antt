@@ -3,32 +3,29 @@
 use lib.Dec.{eqb}
 use lib.ListN.{length, getD, length-append, List·getD-append}
 use lib.Seq.{slice, slice-cons, getD-append-seam}
-use mathlib.Core.Bool.{Bool, true, false, not, _&&_, _||_}
+use mathlib.Core.Bool.{Bool, true, false, not}
 use mathlib.Core.List.{List, [], _∷_, _++_}
-use mathlib.Core.Logic.{⊎-elim, _⊎_, inl, inr}
+use mathlib.Core.Logic.{_⊎_, inl, inr}
 use mathlib.Core.Option.{Option, none, some, Option·none-ne-some}
 use mathlib.Core.Path.{_≡_, refl, sym, _∙_, ap, subst}
 use borrow.Author.Tests.{eqb-true}
 use native.Mathlib.Nat.{le-refl}
-use native.Mathlib.Numerals.{add-one}
 use native.Mathlib.Omega.{arith}
 use Prim.Native.Nat.{ℕ, suc, _+_, _≤_, _<_}
-use Rattle.language.proofs.Text.Choices.{outcome, clash, and-both, either}
+use Rattle.language.proofs.Text.Choices.{either}
 use Rattle.language.proofs.Text.Classes.{letter-not-digit, point-no-letter, digit-of-some, name-digit-of, name-letter}
-use Rattle.language.proofs.Text.Marks.{Laws, laws-1, shaped, led, is-plain, base-shape, slice-two}
+use Rattle.language.proofs.Text.Marks.{Laws, laws-1, led, base-shape, slice-two}
 use Rattle.language.proofs.Text.OnePiece.{one-piece}
-use Rattle.language.proofs.Text.OneSplit.{Step, over, put, Later, here, step, from-start, later-more}
+use Rattle.language.proofs.Text.OneSplit.{Step, over, put, Later, here, step, from-start}
 use Rattle.language.proofs.Text.Pieces.{Tells, number-piece}
 use Rattle.language.proofs.Text.Places.{sort-letter, view, View}
 use Rattle.language.proofs.Text.Places.Sort.{letters}
-use Rattle.language.proofs.Text.Runs.{Run}
 use Rattle.language.proofs.Text.Spellings.{byte-inside}
 use Rattle.language.proofs.Text.Tables.{every, spelling-of, passes, no-kind}
 use Rattle.language.specs.Sizes.{Sizes}
-use Rattle.language.specs.Sizes.{LARGEST}
-use Rattle.language.specs.Text.{byte, between, is-blank, is-letter, is-digit, is-hex-digit, worth, is-digit-of, is-name-byte}
-use Rattle.language.specs.Text.{Content, Form, Piece, Within, or-name, word-kind, number-from, token-of, Reaches, SplitsUnder}
-use Rattle.language.specs.Text.Content.{space, unclosed, token}
+use Rattle.language.specs.Text.{byte, between, is-letter, is-digit, is-hex-digit, worth, is-digit-of, is-name-byte}
+use Rattle.language.specs.Text.{Content, Form, Piece, word-kind, number-from, token-of, Reaches, SplitsUnder}
+use Rattle.language.specs.Text.Content.{space, token}
 use Rattle.language.specs.Text.Form.{blank, line, comment, unended, name, number, based, float, mark}
 use Rattle.language.specs.Text.Reaches.{start, skip, next}
 use Rattle.language.specs.Tokens.{Spelling, spell, same, Vocabulary, EDITION-1, words, marks, bases, spelled, Token, past, At, kind-at, NAME, NUMBER}

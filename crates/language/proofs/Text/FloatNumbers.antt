@@ -2,7 +2,7 @@
 -- and exactly the whole number before the point where only zeros stand behind it.
 use mathlib.Core.Path.{_≡_, refl, sym, ap, subst, _∙_}
 use mathlib.Core.Bool.{true, false}
-use mathlib.Core.List.{List, [], _∷_, _++_}
+use mathlib.Core.List.{[], _∷_, _++_}
 use Prim.Native.Nat.{ℕ, zero, suc, _+_, _-_, _*_, _^_, _≤_, _<_}
 use native.Mathlib.Nat.{pow-suc, pow-succ', pow-le-pow-right, one-le-pow, le-trans, le-of-lt, mul-assoc, mul-one, add-zero, zero-add, mul-lt-mul-of-pos-right}
 use native.Mathlib.Numerals.{add-one}

@@ -8,7 +8,7 @@ use mathlib.Core.Option.{none, some, Option·none-ne-some}
 use mathlib.Core.Path.{_≡_, refl, sym, _∙_, subst}
 use native.Mathlib.Nat.{le-refl}
 use native.Mathlib.Omega.{arith}
-use Prim.Native.Nat.{ℕ, suc, _+_, _-_, _≤_, _<_}
+use Prim.Native.Nat.{ℕ, _+_, _-_, _≤_, _<_}
 use Rattle.language.proofs.Text.Choices.{either}
 use Rattle.language.proofs.Text.Classes.{name-letter, digit-of-some}
 use Rattle.language.proofs.Text.Comments.{one-end, comment-bounds, open-inside}

@@ -1,6 +1,6 @@
 -- Tables of spellings: what each row passes is true of every spelling that the table gives a kind, and a spelling with a
 -- kind has a row.
-use borrow.Author.Tests.{eqb-true, ltb-true}
+use borrow.Author.Tests.{eqb-true}
 use lib.Dec.{eqb}
 use lib.ListN.{length, getD}
 use mathlib.Core.Bool.{Bool, true, false, _&&_, false≢true}

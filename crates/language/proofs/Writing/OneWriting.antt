@@ -1,6 +1,6 @@
 -- Of every lawful origin and everything lent with it there is exactly one answer of write: report, bytes written, and what is
 -- left in table memory and in the output. 44 is told exactly where it is to be.
-use mathlib.Core.List.{List, [], _++_}
+use mathlib.Core.List.{List, _++_}
 use mathlib.Core.Logic.{_⊎_, _↔_, inl, inr}
 use mathlib.Core.Path.{_≡_, refl, sym, ap, subst, _∙_}
 use Prim.Native.Nat.{ℕ, _≤_}
@@ -14,7 +14,7 @@ use Rattle.language.specs.Numbers.{Refusal, long-text, passed, refused}
 use Rattle.language.specs.Answers.{Origin, PassesUnder, RefusedUnder, by-origin, by-tokens, unread, faulty, left}
 use Rattle.language.specs.Writing.{written-out, TooLongUnder, FitsUnder, WriteReport, write-report, WroteUnder}
 use Rattle.language.specs.Writing.{write-short, write-refused, write-long, write-passed, WriteUnder}
-use Rattle.language.proofs.Answers.Origins.{LawfulUnder, Fate, fails, passes, Comes, fate, fate-comes, passes-is, refused-is, not-both}
+use Rattle.language.proofs.Answers.Origins.{LawfulUnder, Fate, fails, passes, Comes, fate, fate-comes, refused-is, not-both}
 
 -- a text does not both fit and not
 pub fits-or-not : {σ : Sizes} (ts : List Token) (room : ℕ) → TooLongUnder σ ts room → FitsUnder σ ts room → ⊥

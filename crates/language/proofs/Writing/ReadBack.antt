@@ -2,20 +2,20 @@
 use mathlib.Core.Bool.{true}
 use mathlib.Core.List.{List, [], _∷_, _++_, append-nil, append-assoc}
 use mathlib.Core.Path.{_≡_, refl, sym, ap, subst, _∙_}
-use Prim.Native.Nat.{ℕ, suc, _+_, _≤_, _<_}
+use Prim.Native.Nat.{ℕ, _+_, _≤_, _<_}
 use native.Mathlib.Omega.{arith}
 use lib.ListN.{length, getD, take, drop, length-append}
-use lib.Seq.{slice, length-slice, append-snoc, take-append-seam, drop-append-seam, take-append-le, getD-append-seam}
+use lib.Seq.{slice, length-slice, append-snoc, take-append-seam, drop-append-seam, getD-append-seam}
 use Rattle.language.specs.Sizes.{Sizes}
 use Rattle.language.specs.Tokens.{Token, Vocabulary, Spelling, SameButPlaces, same-none, same-more}
-use Rattle.language.specs.Text.{byte, is-blank, space, token, Within, Piece, token-of, Reaches, start, skip, next, SplitsUnder}
+use Rattle.language.specs.Text.{byte, is-blank, token, Piece, token-of, Reaches, start, skip, next, SplitsUnder}
 use Rattle.language.specs.Writing.{behind, written-out}
 use Rattle.language.proofs.Text.Marks.{Laws}
 use Rattle.language.proofs.Text.OnePiece.{form-bounds}
 use Rattle.language.proofs.Text.Pieces.{blank-piece}
-use Rattle.language.proofs.Text.Alone.{Copied, alone}
+use Rattle.language.proofs.Text.Alone.{alone}
 use Rattle.language.proofs.Answers.PlacesAside.{same-long}
-use Rattle.language.proofs.Writing.Spelled.{Spelled, AllSpelled, spelled-none, spelled-more, reached-spelled}
+use Rattle.language.proofs.Writing.Spelled.{Spelled, AllSpelled, spelled-more, reached-spelled}
 
 -- a token at another place
 abbrev pub moved : ℕ → Token → Token

@@ -1,6 +1,6 @@
 -- What is written is the same sheet (R03.3): it passes with the same tree and type, runs the same, places aside, and written
 -- again it is itself.
-use mathlib.Core.List.{List, [], _++_}
+use mathlib.Core.List.{List, _++_}
 use mathlib.Core.Path.{_≡_, refl, sym, ap, subst, _∙_}
 use Prim.Native.Nat.{ℕ, _≤_}
 use native.Mathlib.Omega.{arith}

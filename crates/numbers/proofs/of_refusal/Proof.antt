@@ -1,4 +1,3 @@
-use native.Mathlib.Omega.{arith}
 use borrow.Author.Needs.{needs}
 use Rattle.numbers.proofs.of_refusal.Statement.{statement}
 use Rattle.numbers.proofs.of_refusal.Tie as tie

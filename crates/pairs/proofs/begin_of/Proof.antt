@@ -1,5 +1,4 @@
 -- `begin_of` goes back byte for byte: the line stays the same until an LF or the front.
-use borrow.Author.Needs.{needs}
 use native.Mathlib.Omega.{arith}
 use Prim.Native.Nat.{_-_}
 use Rattle.pairs.proofs.Spans.{Back, back-none, back-here, back-on, back-all}

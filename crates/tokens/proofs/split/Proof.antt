@@ -7,7 +7,7 @@ use native.Mathlib.Omega.{arith}
 use Prim.Native.Nat.{ℕ, _-_, _≤_, _<_}
 use Rattle.language.proofs.Text.OnePiece.{form-bounds}
 use Rattle.language.proofs.Text.OneSplit.{reached-inside}
-use Rattle.language.specs.Sizes.{SOURCE, TABLE}
+use Rattle.language.specs.Sizes.{SOURCE}
 use Rattle.language.specs.Text.Flaw.{many-tokens}
 use Rattle.language.specs.Text.WrongUnder.{many}
 use Rattle.language.specs.Tokens.{Vocabulary}

@@ -1,6 +1,5 @@
 -- `put_all` goes token by token: so far the first ones stand at the front.
 use borrow.Author.Needs.{needs}
-use native.Mathlib.Omega.{arith}
 use Prim.Native.Nat.{_-_}
 use Rattle.writer.proofs.Steps.{Laying, laying-none, laying-long, laying-room, laying-more, laying-all}
 use Rattle.writer.proofs.put_all.Statement.{statement}

@@ -1,5 +1,5 @@
 -- `amount` puts the parts one behind the other.
-use Rattle.clerk.specs.Machines.{signed-line}
+use Rattle.wording.specs.Fields.{signed-line}
 use Rattle.page.proofs.Adding.{being, both}
 use mathlib.Core.Path.{ap}
 use mir.Facts.{toZ-ofZ}

@@ -5,7 +5,8 @@ use mir.Syntax.{w64}
 use mir.Val.{SFits}
 use Rattle.language.specs.Tokens.{spell}
 use Rattle.page.proofs.Adding.{being, both}
-use Rattle.clerk.specs.Machines.{signed-line, amount-lines}
+use Rattle.wording.specs.Fields.{signed-line}
+use Rattle.clerk.specs.Machines.{amount-lines}
 use borrow.Author.Needs.{needs}
 use Rattle.clerk.proofs.machines.amounts.Statement.{statement}
 use Rattle.clerk.proofs.machines.amounts.Tie as tie

@@ -1,5 +1,5 @@
 -- `stop` tells the count of the stop.
-use Rattle.clerk.specs.Machines.{number-line}
+use Rattle.wording.specs.Fields.{number-line}
 use Rattle.page.proofs.Adding.{worded}
 use mathlib.Core.Path.{sym}
 use borrow.Author.Needs.{needs}

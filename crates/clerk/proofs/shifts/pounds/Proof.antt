@@ -7,7 +7,7 @@ use mir.Facts.{toZ-ofZ}
 use mir.Syntax.{w64}
 use Rattle.page.specs.Money.{pounds-text}
 use Rattle.page.proofs.Adding.{being, both}
-use Rattle.clerk.proofs.Signs.{below, above}
+use Rattle.wording.proofs.Signs.{below, above}
 use borrow.Author.Needs.{needs}
 use Rattle.clerk.proofs.shifts.pounds.Statement.{statement}
 use Rattle.clerk.proofs.shifts.pounds.Tie as tie

@@ -1,7 +1,6 @@
 use borrow.Author.Needs.{needs}
 use mathlib.Core.Path.{refl}
 use Rattle.grumpy_c.specs.Profilings.{four}
-use Rattle.grumpy_c.proofs.ToldProfile.{fourth-inside}
 use Rattle.grumpy_c.proofs.reports.write_profile_report.Statement.{statement}
 use Rattle.grumpy_c.proofs.reports.write_profile_report.Tie as tie
 

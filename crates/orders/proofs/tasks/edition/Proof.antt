@@ -1,5 +1,4 @@
 -- `edition` looks whether there is a word.
-use mathlib.Core.Path.{_∙_}
 use borrow.Author.Needs.{needs}
 use borrow.Author.Tests.{eq-eqb, ne-eqb}
 use Rattle.orders.proofs.tasks.edition.Statement.{statement}

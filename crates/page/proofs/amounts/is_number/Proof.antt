@@ -1,6 +1,5 @@
 -- `is_number` goes over the digits: what it has passed are digits.
 use borrow.Author.Needs.{needs}
-use native.Mathlib.Omega.{arith}
 use borrow.Author.Tests.{not-true, not-false}
 use lib.ListN.{length}
 use mathlib.Core.Path.{sym, _∙_}

@@ -1,4 +1,4 @@
-use mathlib.Core.Path.{refl, _∙_}
+use mathlib.Core.Path.{refl}
 use borrow.Author.Needs.{needs}
 use Rattle.page.proofs.fields.is_here.Statement.{statement}
 use Rattle.page.proofs.fields.is_here.Tie as tie

@@ -1,6 +1,4 @@
-use mathlib.Core.Path.{sym, subst}
 use borrow.Author.Needs.{needs}
-use native.Mathlib.Omega.{arith}
 use Rattle.resolver.proofs.Framing.{name-noted}
 use Rattle.resolver.proofs.trees.name.Statement.{statement}
 use Rattle.resolver.proofs.trees.name.Tie as tie

@@ -1,4 +1,3 @@
-use native.Mathlib.Omega.{arith}
 use borrow.Author.Needs.{needs}
 use Rattle.shift.proofs.Learnt.{book-is-found, no-book-is-found, book-is-refused}
 use mathlib.Core.Logic.{inl, inr, ⊎-elim}

@@ -1,6 +1,6 @@
 use lib.Dec.{leb}
 use lib.Signed.{mag}
-use mathlib.Core.Path.{_≡_, refl, ap, _∙_}
+use mathlib.Core.Path.{refl, ap, _∙_}
 use Prim.Native.Nat.{ℕ, _*_, _≤_}
 use Rattle.language.specs.Combining.{paid-lines}
 use Rattle.language.specs.Sizes.{LARGEST, LINES}

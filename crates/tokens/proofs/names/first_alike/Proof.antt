@@ -2,7 +2,6 @@
 use native.Mathlib.Omega.{arith}
 use mathlib.Core.Path.{refl}
 use Prim.Native.Nat.{_<_}
-use Rattle.tokens.proofs.Planting.{link-inside}
 use Rattle.tokens.proofs.Seeking.{seekable, first-start, leaf-inside, hangable, hung-found, hung-none}
 use borrow.Author.Needs.{needs}
 use Rattle.tokens.proofs.names.first_alike.Statement.{statement}

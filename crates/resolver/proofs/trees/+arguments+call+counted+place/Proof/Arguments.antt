@@ -1,8 +1,7 @@
 -- What the borrow checker leaves of `arguments`.
-use mathlib.Core.Path.{refl, _∙_}
+use mathlib.Core.Path.{_∙_}
 use Rattle.resolver.proofs.Lists.{none-done, list-inside, list-room, part-ready, next-ready, more-done}
 use Prim.Native.Nat.{ℕ}
-use borrow.Author.Needs.{needs}
 use native.Mathlib.Omega.{arith}
 use Rattle.resolver.proofs.trees.arguments.Reads as arguments
 use Rattle.resolver.proofs.trees.+arguments+call+counted+place.Lts-arguments as lts

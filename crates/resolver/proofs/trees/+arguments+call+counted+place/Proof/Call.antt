@@ -3,7 +3,6 @@ use mathlib.Core.Path.{_∙_}
 use Rattle.resolver.proofs.Nodes.{inside}
 use Rattle.resolver.proofs.Calls.{heads-ready, call-ready, call-args, call-done}
 use Prim.Native.Nat.{ℕ}
-use borrow.Author.Needs.{needs}
 use native.Mathlib.Omega.{arith}
 use Rattle.resolver.proofs.trees.call.Reads as call
 use Rattle.resolver.proofs.trees.+arguments+call+counted+place.Lts-call as lts

@@ -3,7 +3,6 @@ use mathlib.Core.Path.{_∙_}
 use Rattle.resolver.proofs.Nodes.{inside}
 use Rattle.resolver.proofs.Passes.{bounds-ready, enter-ready, body-ready, for-done}
 use Prim.Native.Nat.{ℕ}
-use borrow.Author.Needs.{needs}
 use native.Mathlib.Omega.{arith}
 use Rattle.resolver.proofs.trees.counted.Reads as counted
 use Rattle.resolver.proofs.trees.+arguments+call+counted+place.Lts-counted as lts

@@ -7,7 +7,6 @@ use Rattle.resolver.proofs.Nodes.{inside}
 use Rattle.resolver.proofs.Parts.{first-ready, second-ready, third-ready, between-ready, at-most, leaf-done, one-done, two-done, three-done}
 use Rattle.resolver.proofs.Calls.{name-ready, name-done}
 use Prim.Native.Nat.{ℕ}
-use borrow.Author.Needs.{needs}
 use native.Mathlib.Omega.{arith}
 use Rattle.resolver.proofs.trees.place.Reads as place
 use Rattle.resolver.proofs.trees.+arguments+call+counted+place.Lts-place as lts

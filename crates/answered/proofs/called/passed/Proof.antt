@@ -1,0 +1,13 @@
+-- `passed` goes by the type's number.
+use borrow.Author.Tests.{eq-eqb, ne-eqb}
+use Rattle.answered.proofs.called.passed.Statement.{statement}
+use Rattle.answered.proofs.called.passed.Tie as tie
+
+returns : tie.Need-returns
+returns c = simp (eq-eqb _ _ (c .if1 .taken))
+
+returns-2 : tie.Need-returns-2
+returns-2 c = simp (ne-eqb _ _ (c .if1 .left))
+
+pub passed-spec : {M : Type 1} → statement M
+passed-spec = tie.close (tie.spec returns returns-2)

@@ -1,0 +1,12 @@
+pub mod BaseTexts
+pub mod Texts
+pub mod WrongPlaces
+pub mod Answers
+pub mod Further
+pub mod Floats
+pub mod Loops
+pub mod Writing
+pub mod Pairs
+pub mod Stored
+pub mod Profiles
+pub mod Shift
