@@ -2,9 +2,9 @@
 use mathlib.Core.Bool.{Bool, true, false, cond}
 use lib.Dec.{eqb}
 use Prim.Native.Nat.{ℕ}
-use Rattle.clerk.specs.declared.ends.End.{End}
-use Rattle.clerk.specs.declared.ends.End.the-variants.{Passed, Counted, Value, Refused, Stopped}
-use Rattle.clerk.specs.declared.limits.Most.{Most}
+use Rattle.wording.specs.declared.ends.End.{End}
+use Rattle.wording.specs.declared.ends.End.the-variants.{Passed, Counted, Value, Refused, Stopped}
+use Rattle.wording.specs.declared.limits.Most.{Most}
 use Rattle.grumpy.specs.declared.answers.PairChecked as pair-checked
 use Rattle.grumpy.specs.declared.answers.PairProfiled.{PairProfiled}
 use Rattle.grumpy.specs.declared.answers.PairRan as pair-ran

@@ -1,8 +1,8 @@
 -- What came of a whole sheet, from what the box answered, and what is known by its profile.
 use mathlib.Core.Bool.{Bool, false}
-use Rattle.clerk.specs.declared.ends.End.{End}
-use Rattle.clerk.specs.declared.ends.End.the-variants.{Passed, Counted, Value, Refused, Stopped}
-use Rattle.clerk.specs.declared.limits.Most.{Most}
+use Rattle.wording.specs.declared.ends.End.{End}
+use Rattle.wording.specs.declared.ends.End.the-variants.{Passed, Counted, Value, Refused, Stopped}
+use Rattle.wording.specs.declared.limits.Most.{Most}
 use Rattle.grumpy.specs.declared.answers.Checked as checked
 use Rattle.grumpy.specs.declared.answers.Profiled.{Profiled}
 use Rattle.grumpy.specs.declared.answers.Ran as ran

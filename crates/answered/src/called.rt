@@ -4,14 +4,14 @@ ghost use Rattle.answered.specs.Called.{sided, refused-under, passed-und
 ghost use Rattle.answered.specs.Called.{profiled-under, most-under, unread-under};
 use crate::refusals::is_long;
 use crate::refusals::is_unread;
-use clerk::ends::End;
-use clerk::limits::Most;
 use grumpy::answers::PairChecked;
 use grumpy::answers::PairProfiled;
 use grumpy::answers::PairRan;
 use numbers::Refusal;
 use pairs::Spot;
 use wording::causes::Cause;
+use wording::ends::End;
+use wording::limits::Most;
 
 const INT: u32 = 1;
 

@@ -2,12 +2,12 @@
 ghost use mathlib.Core.Path.{_≡_};
 ghost use Rattle.answered.specs.Whole.{checked-end, ran-end, profiled-end, most-of, unread-end};
 use crate::refusals::is_unread;
-use clerk::ends::End;
-use clerk::limits::Most;
 use grumpy::answers::Checked;
 use grumpy::answers::Profiled;
 use grumpy::answers::Ran;
 use wording::causes::Cause;
+use wording::ends::End;
+use wording::limits::Most;
 
 // What came of its check.
 pub fn of_check(answer: Checked) -> End

@@ -2,10 +2,6 @@
 ghost use Rattle.io.specs.Counts.{Counts};
 ghost use Rattle.page.specs.Text.{Adds};
 ghost use Rattle.clerk.specs.Told.{number-words, line-words, Positioned};
-use crate::ends::End;
-use crate::limits::Limits;
-use crate::limits::Most;
-use crate::places::Places;
 use page::blanks;
 use page::decimal;
 use page::put;
@@ -13,7 +9,11 @@ use page::shown;
 use page::spot;
 use wording::causes;
 use wording::causes::Cause;
+use wording::ends::End;
 use wording::fields;
+use wording::limits::Limits;
+use wording::limits::Most;
+use wording::places::Places;
 use wording::words;
 
 // A number, where there is one, and what is meant.

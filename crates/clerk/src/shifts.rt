@@ -1,37 +1,17 @@
 // What is told of a shift, for people: a name and what it comes to on each line, one below the other.
-ghost use mathlib.Core.Path.{_≡_};
 ghost use Prim.Native.Nat.{_<_};
 ghost use Rattle.io.specs.Counts.{Counts};
-ghost use Rattle.numbers.specs.Meanings.{stop-meant};
 ghost use Rattle.page.specs.Text.{Adds};
-ghost use Rattle.tally.specs.Stands.{report-in};
-ghost use Rattle.tally.specs.Sums.{stop-index};
 ghost use Rattle.clerk.specs.Shifts.{pounds-words, count-line, amount-line, progress-line};
 use numbers::Stop;
 use page::decimal;
 use page::magnitude;
 use page::put;
 use tally::sums::Sums;
+use tally::sums::stopped;
 use wording::causes::Cause;
 use wording::types::signed;
 use wording::words;
-
-// Where the lines of a stop are counted.
-fn index(why: Stop) -> usize
-    ensures { λ r. ⌜ (r ≡ stop-index why) × (r < 9) ⌝ }
-{
-    let number = numbers::of_stop(why);
-    (number - 50) as usize
-}
-
-// How many lines came to this stop.
-pub fn stopped(sums: Sums, why: Stop) -> u32
-    ensures { λ r. ⌜ r ≡ report-in sums .stops (stop-meant why) ⌝ }
-{
-    let i = index(why);
-    let stops = sums.stops;
-    stops[i]
-}
 
 // An amount in pounds and pence.
 fn pounds(out: &mut [u8], at: usize, pence: i64) -> usize

@@ -1,1 +1,1 @@
-pub mod Ended
+pub mod Examined

@@ -2,8 +2,8 @@
 use mathlib.Core.Bool.{Bool, false}
 use Rattle.answered.specs.Called.{refused-under}
 use Rattle.answered.specs.Refusals.{is-unread}
-use Rattle.clerk.specs.declared.ends.End.{End}
-use Rattle.clerk.specs.declared.ends.End.the-variants.{Refused}
+use Rattle.wording.specs.declared.ends.End.{End}
+use Rattle.wording.specs.declared.ends.End.the-variants.{Refused}
 use Rattle.pairs.specs.declared.Spot.{Spot}
 use Rattle.shift.specs.declared.Why.{Why}
 use Rattle.wording.specs.declared.causes.Cause as cause

@@ -3,10 +3,10 @@ ghost use mathlib.Core.Path.{_≡_};
 ghost use Rattle.slip.specs.Books.{shift-end, unread-shift};
 use answered::called;
 use answered::refusals::is_unread;
-use clerk::ends::End;
 use pairs::Spot;
 use shift::Why;
 use wording::causes::Cause;
+use wording::ends::End;
 
 // It is told as one with a call under it, unless it is no book, or its lines are too many.
 pub fn of_shift(why: Why, spot: Spot) -> End

@@ -1,14 +1,13 @@
 // The reports of the parts of a shift, each written by a `slip shift`, told together.
 ghost use Rattle.desk.specs.Statuses.{Status};
-use crate::reports;
-use clerk::readings;
-use clerk::readings::Reading;
 use desk::arguments;
 use desk::input;
 use desk::input::Sheet;
 use orders::asked;
 use orders::asked::Asked;
 use orders::tasks;
+use records::readings;
+use records::readings::Reading;
 use shift::Ending;
 use shift::Finished;
 use tally::sums;

@@ -9,7 +9,6 @@
 mod books;
 mod combining;
 mod profiling;
-mod reports;
 mod serve;
 mod shifts;
 mod storing;

@@ -1,15 +1,14 @@
 // The profile: whether a sheet must finish, and how many units it can use.
 ghost use Rattle.desk.specs.Statuses.{Status};
-use crate::reports;
 use answered::called;
 use answered::whole;
-use clerk::limits::unlimited;
 use desk::input;
 use desk::input::Sheet;
 use desk::rooms;
 use grumpy::answers::PairProfiled;
 use grumpy::answers::Profiled;
 use orders::asked::Asked;
+use wording::limits::unlimited;
 
 fn count(edition: u32, sheet: &[u8]) -> Profiled {
     let mut words = rooms::table();

@@ -1,16 +1,15 @@
 // What is done for each task: one function each, which answers the status, and one row in `serve`.
 ghost use Rattle.desk.specs.Statuses.{Status};
+ghost use Rattle.grumpy.specs.Reports.{checked-report, pair-checked-report};
+ghost use Rattle.language.specs.Answers.{CheckedUnder};
+ghost use Rattle.language.specs.Edition.{text-in, pair-in};
+ghost use Rattle.language.specs.Sizes.{BOX, TABLE};
 use crate::combining;
 use crate::profiling;
-use crate::reports;
 use crate::shifts;
 use crate::storing;
 use answered::called;
 use answered::whole;
-use clerk::ends;
-use clerk::ends::End;
-use clerk::limits::Limits;
-use clerk::limits::unlimited;
 use desk::arguments;
 use desk::help;
 use desk::input;
@@ -29,14 +28,25 @@ use orders::tasks;
 use orders::tasks::LARGEST;
 use page::Number;
 use wording::causes::Cause;
+use wording::ends;
+use wording::ends::End;
+use wording::limits::Limits;
+use wording::limits::unlimited;
 
-pub fn examine(edition: u32, source: &[u8]) -> Checked {
+// What check answers of a whole sheet.
+pub fn examine(edition: u32, source: &[u8]) -> Checked
+    ensures { λ r. ⌜ CheckedUnder BOX (text-in edition (now (source .entry))) TABLE (checked-report r) ⌝ }
+{
     let mut words = rooms::table();
     let table: &mut [u32] = &mut words;
     grumpy::check(edition, source, table)
 }
 
-fn examine_called(edition: u32, sheet: &[u8], call: &[u8]) -> PairChecked {
+// The same of a sheet with a call under it.
+fn examine_called(edition: u32, sheet: &[u8], call: &[u8]) -> PairChecked
+    ensures { λ r.
+        ⌜ CheckedUnder BOX (pair-in edition (now (sheet .entry)) (now (call .entry))) TABLE (pair-checked-report r) ⌝ }
+{
     let mut words = rooms::table();
     let table: &mut [u32] = &mut words;
     grumpy::check_pair(edition, sheet, call, table)

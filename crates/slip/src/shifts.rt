@@ -1,11 +1,8 @@
 // A shift: a book, and a file of lines that is read and fed piece by piece, so that it may have any size.
 ghost use Rattle.desk.specs.Statuses.{Status};
 use crate::books;
-use crate::reports;
 use crate::serve::examine;
 use answered::whole;
-use clerk::ends;
-use clerk::limits::unlimited;
 use desk::input;
 use desk::input::Sheet;
 use desk::output;
@@ -17,6 +14,8 @@ use shift::Admission;
 use shift::Ending;
 use shift::State;
 use shift::Why;
+use wording::ends;
+use wording::limits::unlimited;
 
 // After so many lines, and again after as many, a line on standard error says how far it is.
 const STRIDE: u32 = 8192;

@@ -1,13 +1,11 @@
 // Stored sheets: a sheet's stored form is written, or one is checked or run in the sheet's stead.
 ghost use Rattle.desk.specs.Statuses.{Status};
-use crate::reports;
+ghost use Rattle.grumpy.specs.Reports.{checked-report};
+ghost use Rattle.language.specs.Answers.{CheckedUnder};
+ghost use Rattle.language.specs.Edition.{stored-in};
+ghost use Rattle.language.specs.Sizes.{BOX, TABLE};
 use crate::serve;
 use answered::whole;
-use clerk::ends;
-use clerk::ends::End;
-use clerk::limits::Limits;
-use clerk::limits::Most;
-use clerk::limits::unlimited;
 use desk::input;
 use desk::input::Sheet;
 use desk::output;
@@ -15,6 +13,11 @@ use desk::rooms;
 use grumpy::answers::Checked;
 use orders::asked::Asked;
 use page::Number;
+use wording::ends;
+use wording::ends::End;
+use wording::limits::Limits;
+use wording::limits::Most;
+use wording::limits::unlimited;
 
 // Writes the stored form of a whole sheet, if it passes. There is room for that of every sheet.
 fn form(asked: Asked, edition: u32, sheet: &[u8]) -> u32
@@ -54,7 +57,10 @@ fn load(word: usize, bytes: &mut [u8]) -> Sheet {
     Sheet::Nothing
 }
 
-fn examine(edition: u32, stored: &[u8]) -> Checked {
+// What check answers of a stored sheet.
+fn examine(edition: u32, stored: &[u8]) -> Checked
+    ensures { λ r. ⌜ CheckedUnder BOX (stored-in edition (now (stored .entry))) TABLE (checked-report r) ⌝ }
+{
     let mut words = rooms::table();
     let table: &mut [u32] = &mut words;
     grumpy::check_stored(edition, stored, table)

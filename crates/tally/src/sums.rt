@@ -5,6 +5,8 @@ ghost use Rattle.language.specs.Shift.{lesser, greater};
 ghost use lib.Signed.{mag};
 ghost use Rattle.tally.specs.Sums.{no-sums, stop-index, counted, summed, with-bad, with-stop, with-pay, Small};
 ghost use Rattle.tally.specs.Sums.{added};
+ghost use Rattle.numbers.specs.Meanings.{stop-meant};
+ghost use Rattle.tally.specs.Stands.{report-in};
 use crate::LINES;
 use numbers::Stop;
 
@@ -59,6 +61,15 @@ fn index(why: Stop) -> usize
 {
     let number = numbers::of_stop(why);
     (number - 50) as usize
+}
+
+// How many lines came to this stop.
+pub fn stopped(sums: Sums, why: Stop) -> u32
+    ensures { λ r. ⌜ r ≡ report-in sums .stops (stop-meant why) ⌝ }
+{
+    let i = index(why);
+    let stops = sums.stops;
+    stops[i]
 }
 
 // The sum of two that are not too large; what no shift can come to is left as it is.

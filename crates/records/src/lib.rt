@@ -1,0 +1,3 @@
+// The report for machines, a name and a value on each line, and one of a shift that is read again: pure functions.
+pub mod machines;
+pub mod readings;
