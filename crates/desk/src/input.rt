@@ -1,5 +1,8 @@
 // Reading what the words name.
+ghost use mathlib.Core.Path.{_≡_};
 ghost use Rattle.io.specs.Counts.{Counts};
+ghost use Rattle.language.specs.Sizes.{ALLOWANCE};
+ghost use Rattle.desk.specs.Numbers.{UpTo};
 ghost use Rattle.desk.specs.Sheets.{Loaded};
 use crate::output;
 use orders::asked::Asked;
@@ -70,7 +73,9 @@ pub fn load(word: usize, bytes: &mut [u8]) -> Sheet
 }
 
 // What was read of a word that has to be a number up to a limit; where it is none, that is told.
-fn numbered(found: Number, what: &[u8], word: &[u8], most: u32) -> Number {
+fn numbered(found: Number, what: &[u8], word: &[u8], most: u32) -> Number
+    ensures { λ r. ⌜ r ≡ found ⌝ }
+{
     match found {
         Number::Of(_) => found,
         Number::None => {
@@ -83,7 +88,9 @@ fn numbered(found: Number, what: &[u8], word: &[u8], most: u32) -> Number {
 }
 
 // Reads a word that has to be a number up to a limit; where it is none, that was told.
-pub fn number(word: usize, what: &[u8], most: u32) -> Number {
+pub fn number(word: usize, what: &[u8], most: u32) -> Number
+    ensures { λ r. ⌜ UpTo most r ⌝ }
+{
     let mut name = io::buffer();
     let length = os::arg(word, &mut name);
     let found = page::up_to(&name[..length], most);
@@ -94,7 +101,9 @@ pub fn number(word: usize, what: &[u8], most: u32) -> Number {
 const UNITS: u32 = language::ALLOWANCE as u32;
 
 // The allowance that a word says, if there is one; where it is no number, that was told.
-pub fn allowance(word: usize) -> Number {
+pub fn allowance(word: usize) -> Number
+    ensures { λ r. ⌜ UpTo ALLOWANCE r ⌝ }
+{
     if word == 0 {
         return Number::Of(UNITS);
     }

@@ -9,6 +9,7 @@
 mod books;
 mod combining;
 mod profiling;
+mod rates;
 mod serve;
 mod shifts;
 mod storing;

@@ -1,14 +1,15 @@
 // What is done for each task: one function each, which answers the status, and one row in `serve`.
 ghost use Rattle.desk.specs.Statuses.{Status};
-ghost use Rattle.grumpy.specs.Reports.{checked-report, pair-checked-report};
+ghost use Rattle.grumpy.specs.Reports.{checked-report};
 ghost use Rattle.language.specs.Answers.{CheckedUnder};
-ghost use Rattle.language.specs.Edition.{text-in, pair-in};
+ghost use Rattle.language.specs.Edition.{text-in};
 ghost use Rattle.language.specs.Sizes.{BOX, TABLE};
 use crate::combining;
 use crate::profiling;
+use crate::rates;
+use crate::rates::Called;
 use crate::shifts;
 use crate::storing;
-use answered::called;
 use answered::whole;
 use desk::arguments;
 use desk::help;
@@ -17,15 +18,12 @@ use desk::input::Sheet;
 use desk::output;
 use desk::rooms;
 use grumpy::answers::Checked;
-use grumpy::answers::PairChecked;
 use grumpy::answers::Wrote;
-use language::ALLOWANCE;
 use language::SOURCE;
 use orders::asked::Asked;
 use orders::asked::Task;
 use orders::asked::Wanted;
 use orders::tasks;
-use orders::tasks::LARGEST;
 use page::Number;
 use wording::causes::Cause;
 use wording::ends;
@@ -42,18 +40,8 @@ pub fn examine(edition: u32, source: &[u8]) -> Checked
     grumpy::check(edition, source, table)
 }
 
-// The same of a sheet with a call under it.
-fn examine_called(edition: u32, sheet: &[u8], call: &[u8]) -> PairChecked
-    ensures { λ r.
-        ⌜ CheckedUnder BOX (pair-in edition (now (sheet .entry)) (now (call .entry))) TABLE (pair-checked-report r) ⌝ }
-{
-    let mut words = rooms::table();
-    let table: &mut [u32] = &mut words;
-    grumpy::check_pair(edition, sheet, call, table)
-}
-
 // Reports what came of a run; what was printed stands first in `out`.
-fn ran(asked: Asked, sheet: &[u8], out: &[u8], limits: Limits, end: End) -> u32
+pub fn ran(asked: Asked, sheet: &[u8], out: &[u8], limits: Limits, end: End) -> u32
     ensures { λ r. ⌜ Status r ⌝ }
 {
     let n = input::within(ends::printed(end), out);
@@ -79,23 +67,6 @@ fn run_whole(asked: Asked, edition: u32, sheet: &[u8], allowance: u64) -> u32
         Limits { allowance, most },
         whole::of_run(answer),
     )
-}
-
-// The same of a rate sheet with the call under it.
-fn run_called(asked: Asked, edition: u32, sheet: &[u8], call: &[u8]) -> u32
-    ensures { λ r. ⌜ Status r ⌝ }
-{
-    let mut words = rooms::table();
-    let mut cells = rooms::work();
-    let mut bytes = io::large_buffer();
-    let table: &mut [u32] = &mut words;
-    let work: &mut [u32] = &mut cells;
-    let out: &mut [u8] = &mut bytes;
-    let answer = grumpy::run_pair(edition, sheet, call, table, work, out, ALLOWANCE);
-    let most = called::known(grumpy::profile_pair(edition, sheet, call, table));
-    let allowance = ALLOWANCE;
-    let end = called::of_run(sheet.len(), answer);
-    ran(asked, sheet, out, Limits { allowance, most }, end)
 }
 
 fn check_whole(asked: Asked, edition: u32) -> u32
@@ -164,83 +135,13 @@ fn write(asked: Asked, edition: u32) -> u32
     rewrite(asked, edition, &bytes[..n])
 }
 
-// What a rate sheet with its call under it comes to; where that is no program, the sheet alone may be one.
-fn judge(edition: u32, sheet: &[u8], call: &[u8]) -> End {
-    let answer = examine_called(edition, sheet, call);
-    let end = called::of_check(answer);
-    if called::unread(answer) {
-        return ends::completed(end, whole::unread(examine(edition, sheet)));
-    }
-    end
-}
-
-// What is done with a rate sheet and the call under it, if they pass.
-enum Called {
-    Checked,
-    Counted,
-    Paid,
-}
-
-// Checks the sheet with the call under it and, if they pass, does what is asked.
-fn serve_called(asked: Asked, edition: u32, sheet: &[u8], call: &[u8], what: Called) -> u32
-    ensures { λ r. ⌜ Status r ⌝ }
-{
-    let end = judge(edition, sheet, call);
-    if ends::status(end) != 0 {
-        return reports::report(asked, sheet, b"", unlimited(), end);
-    }
-    match what {
-        Called::Checked => reports::report(asked, sheet, b"", unlimited(), end),
-        Called::Counted => profiling::count_called(asked, edition, sheet, call),
-        Called::Paid => run_called(asked, edition, sheet, call),
-    }
-}
-
-// Sets the call under the sheet, as a second sheet; it has no more than 26 bytes.
-fn call(asked: Asked, edition: u32, sheet: &[u8], picks: u32, rate: u32, what: Called) -> u32
-    ensures { λ r. ⌜ Status r ⌝ }
-{
-    let mut bytes = [0u8; 64];
-    let n = page::call(&mut bytes, picks as u64, rate as u64);
-    serve_called(asked, edition, sheet, &bytes[..n], what)
-}
-
-// Every call counts the same, whatever its numbers are.
-fn examine_rates(asked: Asked, edition: u32, what: Called) -> u32
-    ensures { λ r. ⌜ Status r ⌝ }
-{
-    let mut bytes = rooms::sheet();
-    let Sheet::Bytes(length) = input::load(asked.sheet, &mut bytes) else {
-        return reports::failed(asked);
-    };
-    let n = input::within(length, &bytes);
-    call(asked, edition, &bytes[..n], 0, 0, what)
-}
-
-fn pay(asked: Asked, edition: u32) -> u32
-    ensures { λ r. ⌜ Status r ⌝ }
-{
-    let mut bytes = rooms::sheet();
-    let Number::Of(picks) = input::number(asked.second, b"picks", LARGEST) else {
-        return reports::failed(asked);
-    };
-    let Number::Of(rate) = input::number(asked.third, b"rate", LARGEST) else {
-        return reports::failed(asked);
-    };
-    let Sheet::Bytes(length) = input::load(asked.sheet, &mut bytes) else {
-        return reports::failed(asked);
-    };
-    let n = input::within(length, &bytes);
-    call(asked, edition, &bytes[..n], picks, rate, Called::Paid)
-}
-
 // An edition that is neither 1 nor 2 is refused by the box.
 fn perform(asked: Asked, task: Task, edition: u32) -> u32
     ensures { λ r. ⌜ Status r ⌝ }
 {
     match task {
-        Task::Pay => pay(asked, edition),
-        Task::Check => examine_rates(asked, edition, Called::Checked),
+        Task::Pay => rates::pay(asked, edition),
+        Task::Check => rates::examine_rates(asked, edition, Called::Checked),
         Task::CheckWhole => check_whole(asked, edition),
         Task::Run => run(asked, edition),
         Task::Write => write(asked, edition),
@@ -248,7 +149,7 @@ fn perform(asked: Asked, task: Task, edition: u32) -> u32
         Task::CheckStored => storing::check(asked, edition),
         Task::RunStored => storing::run(asked, edition),
         Task::Shift => shifts::shift(asked, edition),
-        Task::Profile => examine_rates(asked, edition, Called::Counted),
+        Task::Profile => rates::examine_rates(asked, edition, Called::Counted),
         Task::ProfileWhole => profiling::count_whole(asked, edition),
         Task::Combine => combining::combine(asked),
         Task::Help => help::help(),

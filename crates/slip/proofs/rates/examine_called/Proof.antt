@@ -1,8 +1,8 @@
 -- `examine_called` lends check a table that is long enough for a sheet with a call under it.
 use borrow.Author.Needs.{needs}
 use Rattle.slip.proofs.Examined.{examined}
-use Rattle.slip.proofs.serve.examine_called.Statement.{statement}
-use Rattle.slip.proofs.serve.examine_called.Tie as tie
+use Rattle.slip.proofs.rates.examine_called.Statement.{statement}
+use Rattle.slip.proofs.rates.examine_called.Tie as tie
 
 table-requires : tie.Need-table-requires
 table-requires c κs = search needs
