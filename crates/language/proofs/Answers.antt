@@ -14,5 +14,6 @@ pub mod Follow
 pub mod Editions
 pub mod BothEditions
 pub mod PlacesAside
+pub mod GoesOn
 pub mod LetAfterElse
 pub mod BeforeFloats

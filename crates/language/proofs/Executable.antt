@@ -17,6 +17,7 @@ pub mod SettlesPrograms
 -- how far it looks, and that what it has passed can be completed
 pub mod Locality
 pub mod Agreement
+pub mod Usable
 pub mod Fresh
 pub mod Failing
 pub mod FailingPrograms

@@ -2,5 +2,6 @@
 pub mod Spelled
 pub mod LastByte
 pub mod ReadBack
+pub mod Completing
 pub mod OneWriting
 pub mod SameSheet

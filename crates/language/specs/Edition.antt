@@ -1,21 +1,18 @@
 -- The editions of the language: each is a vocabulary, which a caller names by a number (R12.2). An origin that reads by
 -- a vocabulary is one that reads by the caller's number; places are told alike in every edition.
-use mathlib.Core.Bool.{Bool, true, false, cond}
+use mathlib.Core.Bool.{Bool, true, false}
 use mathlib.Core.List.{List}
 use mathlib.Core.Option.{Option, none, some}
 use mathlib.Core.Path.{_≡_}
 use Prim.Native.Nat.{ℕ}
-use lib.Dec.{eqb}
 use Rattle.language.specs.Sizes.{Sizes, BOX}
-use Rattle.language.specs.Tokens.{Vocabulary, EDITION-1, EDITION-2, Token}
+use Rattle.language.specs.Tokens.{Vocabulary, EDITION-1, Token}
+-- the vocabulary that a number names
+unfoldable pub use Rattle.language.specs.Tokens.{edition}
 use Rattle.language.specs.Numbers.{Refusal, no-edition}
 use Rattle.language.specs.Answers.{Origin, text-under}
 use Rattle.language.specs.Stored.{stored-under}
 use Rattle.language.specs.Pairs.{Place, pair-under}
-
--- the vocabulary that a number names
-unfoldable pub edition : ℕ → Option Vocabulary
-edition n = cond (eqb n 1) (some EDITION-1) (cond (eqb n 2) (some EDITION-2) none)
 
 abbrev pub is-some : {A : Type 0} → Option A → Bool
 is-some none = false

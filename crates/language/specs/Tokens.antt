@@ -209,6 +209,10 @@ EDITION-2 = record {
   points = λ b. not (eqb b (code "."));
 }
 
+-- R12.2: the vocabulary that a caller's number names
+unfoldable pub edition : ℕ → Option Vocabulary
+edition n = cond (eqb n 1) (some EDITION-1) (cond (eqb n 2) (some EDITION-2) none)
+
 -- the kind that a table of spellings gives
 unfoldable pub spelled : List (Entry String ℕ) → Spelling → Option ℕ
 spelled [] s = none

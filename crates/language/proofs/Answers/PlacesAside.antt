@@ -8,14 +8,16 @@ use lib.ListN.{length, getD}
 use Rattle.language.specs.Sizes.{Sizes}
 use Rattle.language.specs.Tokens.{Token, past, SameToken, SameButPlaces, same-none, same-more}
 use Rattle.language.specs.Trees.{Ty, Program}
-use Rattle.language.specs.Grammar.{program}
+use Rattle.language.specs.Grammar.{program, Reading}
 use Rattle.language.specs.Numbers.{Refusal}
 use Rattle.language.specs.Answers.{Origin, Spot, nowhere, place-in, ProperUnder, DeniedUnder, PassesUnder, by-origin, by-tokens}
 use Rattle.language.specs.Answers.{Lent, RunReport, RanUnder, run-short, run-large, run-refused, run-ended}
-use Rattle.language.proofs.Executable.Parser.{read, parse}
+use Rattle.language.proofs.Executable.Parses.{got}
+use Rattle.language.proofs.Executable.Parser.{read, entire, parse}
+use Rattle.language.proofs.Executable.Settles.{Settles, settles-once, reading-settles, settled-reading}
 use Rattle.language.proofs.Executable.Locality.{one-token}
 use Rattle.language.proofs.Executable.Agreement.{agrees}
-use Rattle.language.proofs.Grammar.FirstWrong.{whole, plenty, comes-to}
+use Rattle.language.proofs.Grammar.FirstWrong.{whole, plenty, comes-to, settled}
 use Rattle.language.proofs.Answers.Origins.{LawfulUnder}
 use Rattle.language.proofs.Answers.Verdict.{verdict, by-comes, Says, verdict-says, proper-is, denied-is}
 
@@ -48,6 +50,12 @@ module _ {ts us : List Token} (same : SameButPlaces ts us) where
 
   same-comes : comes-to ts ≡ comes-to us
   same-comes = ap (whole ts) same-parse ∙ rw (same-long same) refl
+
+  -- the same reading
+  pub same-reading : {p : Program} → Reading ts p → Reading us p
+  same-reading {p} r =
+      let e : comes-to us ≡ got p (length ts) = sym same-comes ∙ settles-once (settled ts) (reading-settles r) in
+      settled-reading (subst (Settles us entire 0) e (settled us))
 
   -- the same verdict
   pub same-verdict : (σ : Sizes) → verdict σ ts ≡ verdict σ us

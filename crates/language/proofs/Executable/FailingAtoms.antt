@@ -1,5 +1,6 @@
 -- Atoms and arguments: what was passed when they fail can be completed.
 use mathlib.Core.List.{List, [], _∷_}
+use mathlib.Core.Path.{refl}
 use Prim.Native.Nat.{ℕ, _+_, _≤_}
 use native.Mathlib.Omega.{arith}
 use lib.ListN.{length}
@@ -27,7 +28,7 @@ module _ (ts : List Token) (h : ℕ) (ih : Able ts h) where
       fails-test _ _ _
       (λ e.
       let f = there ts (i + 1) LPAR e (omega arith) in
-      fails-made _ (ih (read actuals) (i + 2) (omega arith))
+      fails-made _ (ih (read actuals) (i + 2) (omega arith) refl)
       λ k s.
       let o = s .after in
       last ts (read atom) i s (omega arith) λ us j z p.
@@ -36,13 +37,13 @@ module _ (ts : List Token) (h : ℕ) (ih : Able ts h) where
       λ _.
       fails-test _ _ _
       (λ d.
-      fails-past _ (ih (until RPAR) (i + 1) (there ts i LPAR d (omega arith)))
+      fails-past _ (ih (until RPAR) (i + 1) (there ts i LPAR d (omega arith)) refl)
       λ k s.
       let o = s .after in
       last ts (read atom) i s (omega arith) λ us j z p. to-group us (kept-at z i (at ts i LPAR d) (omega arith)) p)
       λ _.
-      fails-need _ i _ (λ _. anew ts (read atom) i l) λ d.
-      fails-past _ (ih (until RBRACE) (i + 1) (there ts i LBRACE d (omega arith)))
+      fails-need _ i _ (λ _. anew ts (read atom) i refl l) λ d.
+      fails-past _ (ih (until RBRACE) (i + 1) (there ts i LBRACE d (omega arith)) refl)
       λ k s.
       let o = s .after in
       last ts (read atom) i s (omega arith) λ us j z p. to-block us (kept-at z i (at ts i LBRACE d) (omega arith)) p
@@ -51,18 +52,18 @@ module _ (ts : List Token) (h : ℕ) (ih : Able ts h) where
   unfolding step every
   at-actuals i l =
       fails-test _ _ _ (λ _. fine) λ _.
-      fails-same (ih closed i l) λ k s. last ts (read actuals) i s (omega arith) λ us j z p. p
+      fails-same (ih closed i l refl) λ k s. last ts (read actuals) i s (omega arith) λ us j z p. p
 
   pub at-args : (i : ℕ) → i ≤ length ts → Fails (Stop ts (read args) i) (step ts (parse ts h) (read args) i)
   unfolding step every
   at-args i l =
-      fails-then _ (ih (read seq) i l) (λ k s. last ts (read args) i s (omega arith) λ us j z p. (_, args-one (p .1)))
+      fails-then _ (ih (read seq) i l refl) (λ k s. last ts (read args) i s (omega arith) λ us j z p. (_, args-one (p .1)))
       λ e m d.
       let p = right ts h (read seq) i d .0 in
       let x = grows ts p in
       fails-test _ _ _
       (λ a.
-      fails-made _ (ih (read args) (m + 1) (there ts m COMMA a (omega arith)))
+      fails-made _ (ih (read args) (m + 1) (there ts m COMMA a (omega arith)) refl)
       λ k s.
       let o = s .after in
       last ts (read args) i s (omega arith) λ us j z q.
@@ -72,11 +73,11 @@ module _ (ts : List Token) (h : ℕ) (ih : Able ts h) where
   pub at-closed : (i : ℕ) → i ≤ length ts → Fails (Stop ts closed i) (step ts (parse ts h) closed i)
   unfolding step every
   at-closed i l =
-      fails-then _ (ih (read args) i l)
-      (λ k s. more ts closed i (RPAR ∷ []) s (omega arith) λ us n j z p t. close-actuals us (close us p t))
+      fails-then _ (ih (read args) i l refl)
+      (λ k s. more ts closed i (RPAR ∷ []) refl s (omega arith) λ us n j z p t. close-actuals us (close us p t))
       λ es k d.
       let p = right ts h (read args) i d in
       let x = grows ts p in
       fails-need _ k _
-      (λ _. stop ts closed i k (RPAR ∷ []) (omega arith) (within ts p) λ us j z t. close-actuals us (close us (kept z p (omega arith)) t))
+      (λ _. stop ts closed i k (RPAR ∷ []) refl (omega arith) (within ts p) λ us j z t. close-actuals us (close us (kept z p (omega arith)) t))
       λ _. fine

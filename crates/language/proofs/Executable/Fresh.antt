@@ -66,7 +66,8 @@ module _ (us : List Token) where
   Fit (read tail) i j = Clause i j
   Fit (read bound) i j = Spans us bound i j
   Fit (read item) i j = Clause i j
-  Fit (read counting) i j = Spans us counting i j
+  -- a For is wanted only where any other Item would do
+  Fit (read counting) i j = Clause i j
   Fit (read bounds) i j = Spans us bounds i j
   Fit (read assign) i j = Spans us assign i j
   Fit (read (tier t)) i j = Spans us (tier t) i j
@@ -168,7 +169,7 @@ fresh-of seq = NUMBER ∷ []
 fresh-of tail = NUMBER ∷ []
 fresh-of bound = LET ∷ NAME ∷ IS ∷ NUMBER ∷ IN ∷ NUMBER ∷ []
 fresh-of item = NUMBER ∷ []
-fresh-of counting = FOR ∷ NAME ∷ IN ∷ NUMBER ∷ UPTO ∷ NUMBER ∷ LBRACE ∷ NUMBER ∷ RBRACE ∷ []
+fresh-of counting = NUMBER ∷ []
 fresh-of bounds = NUMBER ∷ UPTO ∷ NUMBER ∷ []
 fresh-of assign = NUMBER ∷ []
 fresh-of (tier t) = NUMBER ∷ []
@@ -271,7 +272,7 @@ module _ (us : List Token) where
   fresh-sym tail s = a-clause s
   fresh-sym bound {i} s = fresh-let i (head s) (others s)
   fresh-sym item s = a-clause s
-  fresh-sym counting {i} s = fresh-for i (head s) (others s)
+  fresh-sym counting s = a-clause s
   fresh-sym bounds s = a-bounds s
   fresh-sym assign s = (_, assign-one (by-tier us (chain or) (number us s .1)))
   fresh-sym (tier t) s = (_, by-tier us t (number us s .1))

@@ -14,7 +14,7 @@ use borrow.Author.Tests.{eqb-true}
 use Rattle.language.specs.Tokens.{Token, past, kind-at}
 use Rattle.language.specs.Trees.{Program}
 use Rattle.language.specs.Grammar.{program, Reading}
-use Rattle.language.specs.Starts.{Starts, FirstWrong, wrong-token, wrong-end}
+use Rattle.language.specs.Starts.{Said, Starts, FirstWrong, wrong-token, wrong-end}
 use Rattle.language.proofs.Executable.Parses.{Result, failed, got, then, need}
 use Rattle.language.proofs.Executable.Parser.{read, entire, step, parse}
 use Rattle.language.proofs.Executable.ParserClaims.{run}
@@ -26,26 +26,19 @@ use Rattle.language.proofs.Executable.Failing.{Fails, fails, Stop}
 use Rattle.language.proofs.Executable.Completion.{able}
 use Rattle.language.proofs.Grammar.OneReading.{finds}
 use Rattle.language.proofs.Grammar.Prefixes.{Alike}
+use Rattle.language.proofs.Writing.Completing.{a-token, tokens, said-on}
 
 -- ---- tokens before the failing one start a program
-
--- a token of a kind, and tokens of these kinds
-abbrev token : ℕ → Token
-token k = record { kind = k; value = 0; spelling = []; place = 0 }
-
-abbrev tokens : List ℕ → List Token
-tokens [] = []
-tokens (k ∷ ks) = token k ∷ tokens ks
 
 stands : (pre : List Token) (ks : List ℕ) → Stand (pre ++ tokens ks) (length pre) ks (length (pre ++ tokens ks))
 unfolding kind-at
 stands pre [] = subst (λ (us : List Token). Stand us (length pre) [] (length us)) (sym (append-nil pre)) stand-end
 stands pre (k ∷ ks) =
-    let one = append-snoc pre (token k) (tokens ks) in
-    let more = length-append pre (token k ∷ []) in
-    let here = ap (λ (t : Token). t .kind) (getD-append-seam pre (token k) (tokens ks) past) in
-    let all = pre ++ (token k ∷ []) ++ tokens ks in
-    let rest = subst (λ (n : ℕ). Stand all n ks (length all)) more (stands (pre ++ (token k ∷ [])) ks) in
+    let one = append-snoc pre (a-token k) (tokens ks) in
+    let more = length-append pre (a-token k ∷ []) in
+    let here = ap (λ (t : Token). t .kind) (getD-append-seam pre (a-token k) (tokens ks) past) in
+    let all = pre ++ (a-token k ∷ []) ++ tokens ks in
+    let rest = subst (λ (n : ℕ). Stand all n ks (length all)) more (stands (pre ++ (a-token k ∷ [])) ks) in
     stand-next here (subst (λ (us : List Token). Stand us (length pre + 1) ks (length us)) one rest)
 
 -- before e the tokens of a prefix with others behind are those of the list
@@ -64,7 +57,12 @@ module _ (ts : List Token) where
       let us = take e ts ++ tokens (s .can .kinds) in
       let st = subst (λ (m : ℕ). Stand us m (s .can .kinds) (length us)) n (stands (take e ts) (s .can .kinds)) in
       let r = s .can .fits us (length us) (prefix-alike ts (tokens (s .can .kinds)) e (s .before)) st in
-      record { behind = tokens (s .can .kinds); program = r .0; reading = r .1 }
+      record {
+        behind = tokens (s .can .kinds);
+        program = r .0;
+        reading = r .1;
+        said = said-on ts e (s .can .kinds) (s .can .known);
+      }
 
   -- ---- no program goes on with the failing one
 
@@ -114,7 +112,16 @@ prefix-agrees ts us e h = record {
       one-token (sym (List·getD-append (take (suc e) ts) us past k (omega arith) ∙ getD-take (suc e) ts k past (omega arith)));
 }
 
-cut-off : (ts : List Token) {e : ℕ} → Settles ts entire 0 (failed e) → e < length ts → Starts (take (suc e) ts) → ⊥
+-- any tokens behind ts make a program, of whatever edition
+record Begun (ts : List Token) : Type 0 where
+  behind : List Token
+  program : Program
+  reading : Reading (ts ++ behind) program
+
+begun : {ts : List Token} → Starts ts → Begun ts
+begun s = record { behind = s .behind; program = s .program; reading = s .reading }
+
+cut-off : (ts : List Token) {e : ℕ} → Settles ts entire 0 (failed e) → e < length ts → Begun (take (suc e) ts) → ⊥
 unfolding parse step
 cut-off ts {e} x h s =
     let us = take (suc e) ts ++ s .behind in
@@ -132,18 +139,21 @@ failed-at : {P : ℕ → Type 0} {k : ℕ} → Fails {A = Program} P (failed k) 
 failed-at (fails p) = p
 
 module _ (ts : List Token) where
+  stopped : {e : ℕ} → Settles ts entire 0 (failed e) → Stop ts entire 0 e
+  stopped x = failed-at (subst (Fails (Stop ts entire 0)) (x .holds (x .enough) (omega arith)) (able ts (x .enough) entire 0 (omega arith) refl))
+
   -- where the parser fails is the place
   pub place : {e : ℕ} → Settles ts entire 0 (failed e) → FirstWrong ts e
   place {e} x = by (decLe (length ts) e)
     where
       s : Stop ts entire 0 e
-      s = failed-at (subst (Fails (Stop ts entire 0)) (x .holds (x .enough) (omega arith)) (able ts (x .enough) entire 0 (omega arith)))
+      s = stopped x
 
       by : Dec (length ts ≤ e) → FirstWrong ts e
       by (yes h) =
           let n : length ts ≡ e = omega (arith, s .before) in
           subst (FirstWrong ts) n (wrong-end (subst Starts (take-all e ts h) (completed ts s)) (settled-none x))
-      by (no h) = let l : e < length ts = omega (arith, h) in wrong-token l (completed ts s) (cut-off ts x l)
+      by (no h) = let l : e < length ts = omega (arith, h) in wrong-token l (completed ts s) (λ a. cut-off ts x l (begun a))
 
   -- the answer that a list comes to
   abbrev pub comes-to : Result Program
@@ -162,16 +172,15 @@ module _ (ts : List Token) where
 -- ---- there is one where there is no reading, and only one
 
 -- what starts a program starts one with less behind it
-starts-less : (xs ys : List Token) → Starts (xs ++ ys) → Starts xs
-starts-less xs ys s = record {
+begun-less : (xs ys : List Token) → Begun (xs ++ ys) → Begun xs
+begun-less xs ys s = record {
   behind = ys ++ s .behind;
   program = s .program;
   reading = subst (λ (us : List Token). Reading us (s .program)) (append-assoc xs ys (s .behind)) (s .reading);
 }
 
-module _ (ts : List Token) where
-  starts-front : (m : ℕ) → Starts ts → Starts (take m ts)
-  starts-front m s = starts-less (take m ts) (drop m ts) (subst Starts (sym (take-append-drop m ts)) s)
+begun-front : (ts : List Token) (m : ℕ) → Begun ts → Begun (take m ts)
+begun-front ts m s = begun-less (take m ts) (drop m ts) (subst Begun (sym (take-append-drop m ts)) s)
 
 take-take : (m n : ℕ) (ts : List Token) → m ≤ n → take m (take n ts) ≡ take m ts
 take-take zero n ts h = refl
@@ -180,7 +189,28 @@ take-take (suc m) (suc n) [] h = refl
 take-take (suc m) (suc n) (t ∷ ts) h = ap (λ (us : List Token). t ∷ us) (take-take m n ts (omega arith))
 
 reading-starts : (ts : List Token) (p : Program) → Reading ts p → Starts ts
-reading-starts ts p r = record { behind = []; program = p; reading = subst (λ (us : List Token). Reading us p) (sym (append-nil ts)) r }
+reading-starts ts p r = record {
+  behind = [];
+  program = p;
+  reading = subst (λ (us : List Token). Reading us p) (sym (append-nil ts)) r;
+  said = λ n voc e s. subst (Said voc) (sym (append-nil ts)) s;
+}
+
+-- Where any tokens go on to a program, some of the same edition do.
+begun-starts : (ts : List Token) → Begun ts → Starts ts
+begun-starts ts s = by (comes-to ts) (settled ts)
+  where
+    at-end : {e : ℕ} → Settles ts entire 0 (failed e) → Dec (length ts ≤ e) → Starts ts
+    at-end {e} x (yes h) = subst Starts (take-all e ts h) (completed ts (stopped ts x))
+    at-end {e} x (no h) = absurd (cut-off ts x (omega (arith, h)) (begun-front ts (suc e) s))
+
+    by : (r : Result Program) → Settles ts entire 0 r → Starts ts
+    by (failed e) x = at-end x (decLe (length ts) e)
+    by (got p j) x = reading-starts ts p (settled-reading x)
+
+module _ (ts : List Token) where
+  starts-front : (m : ℕ) → Starts ts → Starts (take m ts)
+  starts-front m s = begun-starts (take m ts) (begun-front ts m (begun s))
 
 module _ (ts : List Token) where
   starts-before : (m n : ℕ) → m ≤ n → Starts (take n ts) → Starts (take m ts)

@@ -2,19 +2,18 @@
 use mathlib.Core.Bool.{true}
 use mathlib.Core.List.{List, [], _∷_, _++_, append-nil, append-assoc}
 use mathlib.Core.Path.{_≡_, refl, sym, ap, subst, _∙_}
-use Prim.Native.Nat.{ℕ, _+_, _≤_, _<_}
+use Prim.Native.Nat.{ℕ, suc, _+_, _≤_, _<_}
 use native.Mathlib.Omega.{arith}
 use lib.ListN.{length, getD, take, drop, length-append}
 use lib.Seq.{slice, length-slice, append-snoc, take-append-seam, drop-append-seam, getD-append-seam}
 use Rattle.language.specs.Sizes.{Sizes}
 use Rattle.language.specs.Tokens.{Token, Vocabulary, Spelling, SameButPlaces, same-none, same-more}
-use Rattle.language.specs.Text.{byte, is-blank, token, Piece, token-of, Reaches, start, skip, next, SplitsUnder}
+use Rattle.language.specs.Text.{byte, is-blank, token, Piece, token-of, Reaches, start, skip, next, SplitsUnder, SplitsWhole}
 use Rattle.language.specs.Writing.{behind, written-out}
 use Rattle.language.proofs.Text.Marks.{Laws}
 use Rattle.language.proofs.Text.OnePiece.{form-bounds}
 use Rattle.language.proofs.Text.Pieces.{blank-piece}
 use Rattle.language.proofs.Text.Alone.{alone}
-use Rattle.language.proofs.Answers.PlacesAside.{same-long}
 use Rattle.language.proofs.Writing.Spelled.{Spelled, AllSpelled, spelled-more, reached-spelled}
 
 -- a token at another place
@@ -30,6 +29,11 @@ pub placed-same : (n : ℕ) (ts : List Token) → SameButPlaces ts (placed n ts)
 unfolding placed
 placed-same n [] = same-none
 placed-same n (t ∷ ts) = same-more record { kind = refl; value = refl; spelling = refl } (placed-same (n + length (t .spelling) + 1) ts)
+
+placed-long : (n : ℕ) (ts : List Token) → length (placed n ts) ≡ length ts
+unfolding placed
+placed-long n [] = refl
+placed-long n (t ∷ ts) = ap suc (placed-long (n + length (t .spelling) + 1) ts)
 
 pub behind-blank : (ts : List Token) → is-blank (behind ts) ≡ true
 unfolding behind is-blank
@@ -114,9 +118,13 @@ module _ {voc : Vocabulary} (laws : Laws voc) where
       let more = written-on ts vs (a ++ (s ++ (b ∷ []))) u xs (put-on a s b w u e) (rw l gap) in
       rw (l, append-snoc us (moved (length a) t)) at more
 
-  -- so it splits into the same tokens
+  -- so what is written for tokens that are spelled as tokens are splits into them
+  pub spelled-splits : {ts : List Token} → AllSpelled voc ts → SplitsWhole voc (written-out ts) (placed 0 ts)
+  spelled-splits {ts} x = written-on ts [] [] (written-out ts) x refl start
+
+  -- and what is written for those of a text into these
   pub written-splits : {σ : Sizes} {t : List ℕ} {ts : List Token} → SplitsUnder σ voc t ts → SplitsUnder σ voc (written-out ts) (placed 0 ts)
   written-splits {t} {ts} x = record {
-    whole = written-on ts [] [] (written-out ts) (reached-spelled (x .whole)) refl start;
-    few = omega (arith, x .few, same-long (placed-same 0 ts));
+    whole = spelled-splits (reached-spelled (x .whole));
+    few = omega (arith, x .few, placed-long 0 ts);
   }
