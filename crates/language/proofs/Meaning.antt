@@ -3,6 +3,8 @@ pub mod CellTypes
 pub mod GoodOutcomes
 pub mod Safety
 pub mod NeverStuck
+pub mod StrictMeaning
+pub mod StrictSafe
 pub mod Strict
 pub mod ValueTypes
 pub mod MoreUnits

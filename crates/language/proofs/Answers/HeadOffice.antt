@@ -50,7 +50,8 @@ pub record SoundUnder (σ : Sizes) {P : Type 0} (o : Origin P) (c : CheckReport 
   -- whatever is allowed and however long the output is, its meaning meets no operand of a wrong kind, no name without a
   -- binding and no argument that is missing: each of these is `stuck`, and what is stuck stays so to the end of the run
   pub never-stuck : (allowance room : ℕ) → run program allowance room ≡ stuck → ⊥
-  -- nor is an operand of a wrong kind there without being met: a meaning that asks each as soon as it is worked out is the same
+  -- nor is one of these there without being met: a meaning that asks each operand, bound and argument as soon as it is worked out,
+  -- and a call for its function and for the number of its arguments before the first of them, is the same
   pub none-unmet : (allowance room : ℕ) → strict-run program allowance room ≡ run program allowance room
   -- with the memory asked for and an allowance up to the limit, run answers with the same type, and a value or a stop
   pub ends : {table work output : List ℕ} {allowance : ℕ} {r : RunReport P} {table′ work′ output′ : List ℕ}

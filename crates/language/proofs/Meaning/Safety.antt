@@ -19,8 +19,8 @@ use Rattle.language.proofs.Meaning.CellTypes.{none-some, some-one, Grow
 use Rattle.language.proofs.Meaning.CellTypes.{fits-bool, fits-unit, FitsAll, fits-none, fits-more, EnvFits, env-empty}
 use Rattle.language.proofs.Meaning.CellTypes.{env-push, StateFits, keep-holds, env-find, fits-grows, env-grows}
 pub use Rattle.language.proofs.Meaning.GoodOutcomes.{Good, good-value, good-stop, Fair, FunFits, fun-putchar, fun-defined, Ready, Safe}
-pub use Rattle.language.proofs.Meaning.GoodOutcomes.{good-then, good-choose, good-begin, binary-good, settled}
-use Rattle.language.proofs.Meaning.GoodOutcomes.{good-int, good-bool, good-unit, good-when, unary-good, good-put, good-one, good-bounds}
+pub use Rattle.language.proofs.Meaning.GoodOutcomes.{good-then, good-choose, good-when, good-bounds, good-begin, binary-good, settled}
+use Rattle.language.proofs.Meaning.GoodOutcomes.{good-int, good-bool, good-unit, unary-good, good-put, good-one}
 use Rattle.language.proofs.Meaning.GoodOutcomes.{good-enter}
 
 -- every int within the range is what is asked
@@ -41,7 +41,7 @@ module _ {R : ℤ → Type 0} (wide : (z : ℤ) → in-range z ≡ true → R z)
         arguments-good env s₁ _ b (back (owns e) _ m) (env-grows g₁ h) p₁ λ Σ₂ vs s₂ g₂ p₂ q₂.
         f Σ₂ (v ∷ vs) s₂ (grows-trans g₁ g₂) p₂ (fits-more (fits-grows g₂ q₁) q₂)
 
-    invoke-good : {Σ : List Ty} {g : Fun} {s : Sig} (i : ℕ) (vs : List Value) (st : State)
+    pub invoke-good : {Σ : List Ty} {g : Fun} {s : Sig} (i : ℕ) (vs : List Value) (st : State)
         → FunFits σ R Δ g s → FitsAll R Σ vs (s .takes) → StateFits R Σ st → Good R Σ (s .gives) (invoke fs go i g vs st)
     unfolding invoke
     invoke-good i vs st fun-putchar q p = good-one wide _ q λ v r. good-int wide _ r λ z. good-put wide i z st p
@@ -61,7 +61,7 @@ module _ {R : ℤ → Type 0} (wide : (z : ℤ) → in-range z ≡ true → R z)
         good-unit wide _ q₂ (passes-good n env s₂ a m b k (env-grows (grows-trans g₁ g₂) h) p₂))
         λ _. good-value stays p₁ fits-unit
 
-    turns-good : {Σ : List Ty} {Γ : Scope Ty} {x : Name} {e : Exp} (n : ℕ) (through : Bool) (to by z : ℤ) (env : Env) (s : State)
+    pub turns-good : {Σ : List Ty} {Γ : Scope Ty} {x : Name} {e : Exp} (n : ℕ) (through : Bool) (to by z : ℤ) (env : Env) (s : State)
         → TypedUnder σ Δ (push x int Γ) e unit → Fair R (owns e) → EnvFits R Σ env Γ → StateFits R Σ s → R z
         → Good R Σ unit (turns fs go n x through to by z e env s)
     unfolding turns
