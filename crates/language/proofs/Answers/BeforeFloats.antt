@@ -11,19 +11,19 @@ use Rattle.language.specs.Trees.{Ty, Program}
 use Rattle.language.specs.State.{Outcome, value}
 use Rattle.language.specs.Meaning.{type-number, run}
 use Rattle.language.specs.Numbers.{passed}
-use Rattle.language.specs.Answers.{Origin, TextGivesUnder, text-under, PassesUnder, Ending, ending, CheckReport, check-report, CheckedUnder}
+use Rattle.language.specs.Answers.{Origin, TextGivesUnder, PassesUnder, Ending, ending, CheckReport, check-report, CheckedUnder}
 use Rattle.language.specs.Answers.{check-passed, Lent, EnoughUnder, RunReport, after-run, RanUnder, run-ended}
-use Rattle.language.specs.Pairs.{joined, pair-under}
+use Rattle.language.specs.Pairs.{joined}
+use Rattle.language.specs.Edition.{text-in-under, pair-in-under}
 use Rattle.language.proofs.Types.OldTypes.{OldHasType, still-has-type}
 use Rattle.language.proofs.Grammar.BeforeFloats.{ReadBefore, bare-before}
 use Rattle.language.proofs.Meaning.OldMeaning.{old-run}
 use Rattle.language.proofs.Meaning.SameAsBefore.{Plain, Same, same-value, same-stop, same-stuck, same-run, same-outcome}
-use Rattle.language.proofs.Text.Marks.{laws-1}
 use Rattle.language.proofs.Text.PointBefore.{without}
-use Rattle.language.proofs.Answers.Origins.{LawfulUnder, text-lawful}
+use Rattle.language.proofs.Answers.Origins.{LawfulUnder}
 use Rattle.language.proofs.Answers.Endings.{some-ending}
 use Rattle.language.proofs.Answers.OneAnswer.{one-checked, one-ran}
-use Rattle.language.proofs.Answers.Pairs.{pair-lawful}
+use Rattle.language.proofs.Answers.Editions.{text-in-lawful-under, pair-in-lawful-under, one-is}
 use Rattle.language.proofs.Answers.OlderTexts.{before-points}
 
 -- ---- an end that is no float
@@ -87,12 +87,13 @@ module _ {σ : Sizes} {source : List ℕ} {ts : List Token} {p : Program} {t : T
         let y = one-ran law l a (run-ended enough fair passes-now (x .1)) in
         (x .0, ended-so (l .allowance) (l .output) (x .1), y .0, y .1)
 
--- ---- a sheet by itself, and two sheets
+-- ---- a sheet by itself, and two sheets, in edition 1
 
 module _ {ts : List Token} {p : Program} {t : Ty} where
-  pub sheet-passes : {σ : Sizes} {source : List ℕ} → PassedBefore σ source ts p t → PassesUnder σ (text-under σ EDITION-1 source) ts p t
-  sheet-passes {source} old = passes-now old (text-lawful laws-1 source) (λ g. g)
+  pub sheet-passes : {σ : Sizes} {source : List ℕ} → PassedBefore σ source ts p t → PassesUnder σ (text-in-under σ 1 source) ts p t
+  sheet-passes {source} old = passes-now old (text-in-lawful-under 1 source) (λ g. record { words = EDITION-1; named = one-is; given = g })
 
   pub pair-passes : {σ : Sizes} {first second : List ℕ} → PassedBefore σ (joined first second) ts p t
-      → PassesUnder σ (pair-under σ EDITION-1 first second) ts p t
-  pair-passes {first} {second} old = passes-now old (pair-lawful laws-1 first second) (λ g. g)
+      → PassesUnder σ (pair-in-under σ 1 first second) ts p t
+  pair-passes {first} {second} old =
+      passes-now old (pair-in-lawful-under 1 first second) (λ g. record { words = EDITION-1; named = one-is; given = g })
