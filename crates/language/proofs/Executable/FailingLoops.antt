@@ -36,8 +36,8 @@ module _ (ts : List Token) (h : ℕ) (ih : Able ts h) where
       let a′ = there ts i FOR d (omega arith) in
       fails-need _ (i + 1) _
       (λ _.
-      stop ts (read counting) i (i + 1) (NAME ∷ IN ∷ NUMBER ∷ UPTO ∷ NUMBER ∷ LBRACE ∷ NUMBER ∷ RBRACE ∷ []) (upto-known ts (i + 1) (omega arith) a) (omega arith) a′
-      λ us j z s. clause-for us (fresh-for us i (kept-at z i a (omega arith)) s))
+      stop ts (read counting) i (i + 1) (NAME ∷ IN ∷ NUMBER ∷ UPTO ∷ NUMBER ∷ LBRACE ∷ NUMBER ∷ RBRACE ∷ [])
+      (upto-known ts (i + 1) (omega arith) a) (omega arith) a′ λ us j z s. clause-for us (fresh-for us i (kept-at z i a (omega arith)) s))
       λ e.
       let b = at ts (i + 1) NAME e in
       let b′ = there ts (i + 1) NAME e (omega arith) in

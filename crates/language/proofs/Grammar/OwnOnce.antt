@@ -6,8 +6,11 @@ use mathlib.Core.Option.{some}
 use Prim.Native.Nat.{ℕ, zero, suc, _+_, _≤_, _<_}
 use native.Mathlib.Omega.{arith}
 use lib.ListN.{length, getD}
-use lib.Dec.{leb, leb→le}
-use Rattle.language.specs.Tokens.{Token, kind-at, value-at, entry}
+use lib.Dec.{T, leb, leb→le}
+use lib.Ieee.{Float, nan, binary64, fits}
+use lib.Ieee.Fits.{nan-fits}
+use Rattle.language.specs.Tokens.{Token, kind-at, value-at, spelling-at, entry}
+use Rattle.language.specs.Decimals.{float-of}
 use Rattle.language.specs.Trees.{Literal, Program}
 use Rattle.language.specs.Grammar.{Of, tier, Sym, program, def, formals, params, type, seq, tail, bound, item, assign, atom, actuals, args}
 use Rattle.language.specs.Grammar.{constants, Reads, Reading, program-seq, program-def, def-is, formals-none, formals-some, params-one}
@@ -17,7 +20,8 @@ use Rattle.language.specs.Grammar.{atom-name, atom-call, atom-number, at
 use Rattle.language.specs.Grammar.{actuals-some, args-one, args-more, item-for, for-is, bounds-two, bounds-three, counting, bounds}
 use Rattle.language.proofs.Grammar.Entries.{every, entry-passes}
 use Rattle.language.proofs.Grammar.FirstTokens.{grows}
-use Rattle.language.proofs.Grammar.OwnTokens.{Own, plain, worth-of, owns, all-owns, def-owns, program-owns, All, all-none, all-more}
+use Rattle.language.proofs.Text.FloatNumbers.{float-fits}
+use Rattle.language.proofs.Grammar.OwnTokens.{Own, plain, worth-of, fraction-of, owns, all-owns, def-owns, program-owns, All, all-none, all-more}
 
 abbrev owns-of : (s : Sym) → Of s → List Own
 owns-of program p = program-owns p
@@ -38,18 +42,24 @@ owns-of args es = all-owns es
 owns-of (tier l) e = owns e
 
 module _ (ts : List Token) where
-  -- from i on each stands behind the one before, and all before j; none is worth more than its token
+  -- no number is worth more than its token, and every float is one of 64 bits
+  abbrev Worth : Own → Type 0
+  Worth o = (o .worth ≤ value-at ts (o .at)) × T (fits binary64 (o .fraction))
+
+  -- from i on each stands behind the one before, and all before j
   pub data Rising : ℕ → List Own → ℕ → Type 0 where
     rising-end : {i j : ℕ} → i ≤ j → Rising i [] j
     rising-next : {i j : ℕ} {o : Own} {os : List Own}
-        → i ≤ o .at → o .worth ≤ value-at ts (o .at) → Rising (o .at + 1) os j → Rising i (o ∷ os) j
+        → i ≤ o .at → Worth o → Rising (o .at + 1) os j → Rising i (o ∷ os) j
 
   ended : {i j : ℕ} → i ≤ j → Rising i [] j
   ended h = rising-end h
 
   -- a leaf
-  leaf : {i j : ℕ} (k n : ℕ) → i ≤ k → n ≤ value-at ts k → k < j → Rising i (record { at = k; worth = n } ∷ []) j
-  leaf {j = j} k n h v l = let m : k + 1 ≤ j = omega arith in rising-next {o = record { at = k; worth = n }} h v (rising-end m)
+  leaf : {i j : ℕ} (k n : ℕ) (x : Float) → i ≤ k → n ≤ value-at ts k → T (fits binary64 x) → k < j
+      → Rising i (record { at = k; worth = n; fraction = x } ∷ []) j
+  leaf {j = j} k n x h v f l =
+      let m : k + 1 ≤ j = omega arith in rising-next {o = record { at = k; worth = n; fraction = x }} h (v, f) (rising-end m)
 
   -- there may be others before and behind
   after : {i j a : ℕ} {os : List Own} → a ≤ i → Rising i os j → Rising a os j
@@ -67,7 +77,7 @@ module _ (ts : List Token) where
 
   -- a node that is worth nothing, and those behind it
   next : {i n j : ℕ} (k : ℕ) {os : List Own} → Rising n os j → i ≤ k → k < n → Rising i (plain k ∷ os) j
-  next k r h l = rising-next {o = plain k} h (omega arith) (after (omega arith) r)
+  next k r h l = rising-next {o = plain k} h (omega arith, nan-fits binary64) (after (omega arith) r)
 
   -- such a node between others
   middle : {i j : ℕ} (k : ℕ) {os ps : List Own} → Rising i os k → Rising (k + 1) ps j → Rising i (os ++ (plain k ∷ ps)) j
@@ -78,6 +88,10 @@ module _ (ts : List Token) where
   unfolding every
   constant-worth i {l} a =
       omega (arith, leb→le (worth-of l) 0 (entry-passes (λ c x. leb (worth-of x) 0) constants (kind-at ts i) tt a))
+
+  constant-fits : (i : ℕ) {l : Literal} → entry constants (kind-at ts i) ≡ some l → T (fits binary64 (fraction-of l))
+  unfolding every fits
+  constant-fits i a = entry-passes (λ c x. fits binary64 (fraction-of x)) constants (kind-at ts i) tt a
 
   rises : {s : Sym} {i j : ℕ} {x : Of s} → Reads ts s i j x → Rising i (owns-of s x) j
   unfolding owns def-owns program-owns
@@ -117,11 +131,12 @@ module _ (ts : List Token) where
   rises (cmp-two {m = m} p h q) = middle m (rises p) (rises q)
   rises (un-prefix {i} h p) = next i (rises p) (omega arith) (omega arith)
   rises (un-atom p) = rises p
-  rises (atom-name {i} a) = leaf i 0 (omega arith) (omega arith) (omega arith)
+  rises (atom-name {i} a) = leaf i 0 nan (omega arith) (omega arith) (nan-fits binary64) (omega arith)
   rises (atom-call {i} a b p) = next i (rises p) (omega arith) (omega arith)
-  rises (atom-number {i} a) = leaf i (value-at ts i) (omega arith) (omega arith) (omega arith)
-  rises (atom-float {i} a) = leaf i 0 (omega arith) (omega arith) (omega arith)
-  rises (atom-constant {i} {l} a) = leaf i (worth-of l) (omega arith) (constant-worth i a) (omega arith)
+  rises (atom-number {i} a) = leaf i (value-at ts i) nan (omega arith) (omega arith) (nan-fits binary64) (omega arith)
+  rises (atom-float {i} a) =
+      leaf i 0 (float-of (spelling-at ts i)) (omega arith) (omega arith) (float-fits (spelling-at ts i)) (omega arith)
+  rises (atom-constant {i} {l} a) = leaf i (worth-of l) (fraction-of l) (omega arith) (constant-worth i a) (constant-fits i a) (omega arith)
   rises (atom-group {i} a p b) = next i (until (rises p) (omega arith)) (omega arith) (omega arith)
   rises (atom-block {i} a p b) = next i (until (rises p) (omega arith)) (omega arith) (omega arith)
   rises (actuals-none a) = ended (omega arith)
@@ -153,7 +168,7 @@ module _ (ts : List Token) where
   few (rising-end h) = omega arith
   few (rising-next h v r) = omega (arith, few r)
 
-  each : {i j : ℕ} {os : List Own} → Rising i os j → All (λ o. (o .at < j) × (o .worth ≤ value-at ts (o .at))) os
+  each : {i j : ℕ} {os : List Own} → Rising i os j → All (λ o. (o .at < j) × Worth o) os
   each (rising-end h) = all-none
   each {j = j} (rising-next {o = o} h v r) = let l : o .at < j = omega (arith, span r) in all-more (l, v) (each r)
 
@@ -167,6 +182,6 @@ module _ (ts : List Token) where
         → getD (program-owns p) m (plain 0) .at < getD (program-owns p) n (plain 0) .at
     never-shared m n h l = apart m n own-rises h l
 
-    -- and each has one that was read, and no number is worth more than its token
-    pub own-inside : All (λ o. (o .at < length ts) × (o .worth ≤ value-at ts (o .at))) (program-owns p)
+    -- and each has one that was read, no number is worth more than its token, and every float is one of 64 bits
+    pub own-inside : All (λ o. (o .at < length ts) × Worth o) (program-owns p)
     own-inside = each own-rises

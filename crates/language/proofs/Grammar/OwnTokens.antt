@@ -1,21 +1,23 @@
--- What each node of a tree takes from the text: its own token (S042) and, of a number, what it is worth.
+-- What each node of a tree takes from the text: its own token (S042) and, of a number, what it is worth, be it an int or a float.
 use mathlib.Core.Path.{_≡_, refl}
 use mathlib.Core.List.{List, [], _∷_, _++_}
 use Prim.Native.Nat.{ℕ, _+_}
 use native.Mathlib.Omega.{arith}
 use lib.ListN.{length, length-append}
+use lib.Ieee.{Float, nan}
 use Rattle.language.specs.Trees.{Literal, whole, truth, trivial, decimal, Exp, name, literal, unary, binary, follow, group, block, call, bind}
 use Rattle.language.specs.Trees.{branch, loop, Exps, last, more, own, Def, Program, nodes, all-nodes, def-nodes, program-nodes, counted}
 
 -- ---- what a node takes
 
--- the ordinal of its own token, and of a number its worth, else 0
+-- the ordinal of its own token; of a number its worth, else 0; and of a float number its, else none
 pub record Own : Type 0 where
   pub at : ℕ
   pub worth : ℕ
+  pub fraction : Float
 
 abbrev pub plain : ℕ → Own
-plain i = record { at = i; worth = 0 }
+plain i = record { at = i; worth = 0; fraction = nan }
 
 abbrev pub worth-of : Literal → ℕ
 worth-of (whole n) = n
@@ -23,11 +25,17 @@ worth-of (truth b) = 0
 worth-of trivial = 0
 worth-of (decimal x) = 0
 
+abbrev pub fraction-of : Literal → Float
+fraction-of (whole n) = nan
+fraction-of (truth b) = nan
+fraction-of trivial = nan
+fraction-of (decimal x) = x
+
 -- of all nodes of a tree, in the order of the text
 unfoldable mutual
   pub owns : Exp → List Own
   owns (name i x) = plain i ∷ []
-  owns (literal i l) = record { at = i; worth = worth-of l } ∷ []
+  owns (literal i l) = record { at = i; worth = worth-of l; fraction = fraction-of l } ∷ []
   owns (unary i o e) = plain i ∷ owns e
   owns (binary i o e f) = owns e ++ (plain i ∷ owns f)
   owns (follow i e f) = owns e ++ (plain i ∷ owns f)

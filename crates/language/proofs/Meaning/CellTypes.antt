@@ -61,12 +61,16 @@ pub born-grows : {Σ Σ′ : List Ty} {b : ℕ} {t : Ty} → Grows Σ Σ′ → 
 born-grows stays p = p
 born-grows (gains g) p = older (born-grows g p)
 
--- R is what is asked of every int
-module _ (R : ℤ → Type 0) (Σ : List Ty) where
+-- what is asked of every int, and of every float
+pub record Asked : Type 1 where
+  pub ints : ℤ → Type 0
+  pub floats : Float → Type 0
+
+module _ (R : Asked) (Σ : List Ty) where
   -- v is a value of the type t
   pub data Fits : Value → Ty → Type 0 where
-    fits-int : {z : ℤ} → R z → Fits (number z) int
-    fits-float : {x : Float} → Fits (Value.float x) float
+    fits-int : {z : ℤ} → R .ints z → Fits (number z) int
+    fits-float : {x : Float} → R .floats x → Fits (Value.float x) float
     fits-bool : {b : Bool} → Fits (flag b) bool
     fits-unit : Fits nothing unit
     fits-ref : {b : ℕ} {t : Ty} → Born Σ b t → Fits (cell b) (ref t)
@@ -87,7 +91,7 @@ module _ (R : ℤ → Type 0) (Σ : List Ty) where
     pub counted : s .births ≡ length Σ
     pub holds : Holds (s .cells)
 
-module _ {R : ℤ → Type 0} (Σ : List Ty) where
+module _ {R : Asked} (Σ : List Ty) where
   pub keep-holds : (b : ℕ) (cs : Cells) → Holds R Σ cs → Holds R Σ (keep b cs)
   unfolding keep
   keep-holds b no-cell h = h
@@ -122,21 +126,21 @@ module _ {R : ℤ → Type 0} (Σ : List Ty) where
       go true e k = (v, refl, subst (Fits R Σ v) (some-one e) f)
       go false e k = k e
 
-pub fits-grows : {R : ℤ → Type 0} {Σ Σ′ : List Ty} {v : Value} {t : Ty} → Grows Σ Σ′ → Fits R Σ v t → Fits R Σ′ v t
+pub fits-grows : {R : Asked} {Σ Σ′ : List Ty} {v : Value} {t : Ty} → Grows Σ Σ′ → Fits R Σ v t → Fits R Σ′ v t
 fits-grows g (fits-int r) = fits-int r
-fits-grows g fits-float = fits-float
+fits-grows g (fits-float r) = fits-float r
 fits-grows g fits-bool = fits-bool
 fits-grows g fits-unit = fits-unit
 fits-grows g (fits-ref p) = fits-ref (born-grows g p)
 
-pub all-grows : {R : ℤ → Type 0} {Σ Σ′ : List Ty} {vs : List Value} {ts : List Ty} → Grows Σ Σ′ → FitsAll R Σ vs ts → FitsAll R Σ′ vs ts
+pub all-grows : {R : Asked} {Σ Σ′ : List Ty} {vs : List Value} {ts : List Ty} → Grows Σ Σ′ → FitsAll R Σ vs ts → FitsAll R Σ′ vs ts
 all-grows g fits-none = fits-none
 all-grows g (fits-more p q) = fits-more (fits-grows g p) (all-grows g q)
 
-pub env-grows : {R : ℤ → Type 0} {Σ Σ′ : List Ty} {env : Env} {Γ : Scope Ty} → Grows Σ Σ′ → EnvFits R Σ env Γ → EnvFits R Σ′ env Γ
+pub env-grows : {R : Asked} {Σ Σ′ : List Ty} {env : Env} {Γ : Scope Ty} → Grows Σ Σ′ → EnvFits R Σ env Γ → EnvFits R Σ′ env Γ
 env-grows g env-empty = env-empty
 env-grows g (env-push p q) = env-push (fits-grows g p) (env-grows g q)
 
-pub holds-grows : {R : ℤ → Type 0} {Σ Σ′ : List Ty} {cs : Cells} → Grows Σ Σ′ → Holds R Σ cs → Holds R Σ′ cs
+pub holds-grows : {R : Asked} {Σ Σ′ : List Ty} {cs : Cells} → Grows Σ Σ′ → Holds R Σ cs → Holds R Σ′ cs
 holds-grows g holds-none = holds-none
 holds-grows g (holds-live p q h) = holds-live (born-grows g p) (fits-grows g q) (holds-grows g h)

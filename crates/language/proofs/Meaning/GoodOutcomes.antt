@@ -7,8 +7,10 @@ use mathlib.Core.Option.{Option, none, some}
 use Prim.Native.Nat.{ℕ, zero, suc}
 use native.Mathlib.Omega.{arith}
 use lib.IntN.{ℤ, pos, negsuc}
-use lib.Ieee.{Float}
-use lib.Dec.{leb}
+use lib.Ieee as Ieee
+use lib.Ieee.{Float, binary64}
+use lib.Ieee.Fits.{add-fits, sub-fits, mul-fits, div-fits}
+use lib.Dec.{T, leb}
 use borrow.Author.Tests.{leb-true, le-leb}
 use Rattle.language.specs.Sizes.{Sizes, BYTE}
 use Rattle.language.specs.Trees.{Name, Ty, int, bool, unit, float, ref, Unary, Binary, Exp, Param, Scope, empty, push, nearest}
@@ -19,36 +21,50 @@ use Rattle.language.specs.State.{Stop, Value, flag, State, Outcome, valu
 use Rattle.language.specs.State.{as-bool, as-unit, as-cell, choose, when-some, want, alike, only}
 use Rattle.language.specs.Meaning.{Env, charge, begin, in-range, fit, create, apply-unary, quotient, apply-binary, settles}
 use Rattle.language.specs.Meaning.{emit, put, Fun, putchar, defined, enter, with-bounds}
-use Rattle.language.proofs.Grammar.OwnTokens.{Own, owns, All}
-use Rattle.language.proofs.Meaning.CellTypes.{Born, newest, Grows, stays, gains, grows-trans, Fits, fits-int, fits-float}
+use Rattle.language.proofs.Grammar.OwnTokens.{Own, owns, All, everywhere}
+use Rattle.language.proofs.Meaning.CellTypes.{Asked, Born, newest, Grows, stays, gains, grows-trans, Fits, fits-int, fits-float}
 use Rattle.language.proofs.Meaning.CellTypes.{fits-bool, fits-unit, fits-ref, FitsAll, fits-none, fits-more, holds-live, EnvFits}
 use Rattle.language.proofs.Meaning.CellTypes.{env-push, StateFits, store-holds, held-fits, fits-grows, holds-grows}
 
 -- not stuck; a value is of the type t, under the cells born up to then
-pub data Good (R : ℤ → Type 0) (Σ : List Ty) (t : Ty) : Outcome → Type 0 where
+pub data Good (R : Asked) (Σ : List Ty) (t : Ty) : Outcome → Type 0 where
   good-value : {Σ′ : List Ty} {v : Value} {s : State} → Grows Σ Σ′ → StateFits R Σ′ s → Fits R Σ′ v t → Good R Σ t (value v s)
   good-stop : {w : Stop} {i : ℕ} {s : State} → Good R Σ t (stop w i s)
 
 -- all numbers that are written are what is asked
-abbrev pub Fair : (ℤ → Type 0) → List Own → Type 0
-Fair R os = All (λ o. R (pos (o .worth))) os
+abbrev pub Fair : Asked → List Own → Type 0
+Fair R os = All (λ o. R .ints (pos (o .worth)) × R .floats (o .fraction)) os
 
 -- g is a function of the kind that s tells
-pub data FunFits (σ : Sizes) (R : ℤ → Type 0) (Δ : Scope Sig) : Fun → Sig → Type 0 where
+pub data FunFits (σ : Sizes) (R : Asked) (Δ : Scope Sig) : Fun → Sig → Type 0 where
   fun-putchar : FunFits σ R Δ putchar record { takes = int ∷ []; gives = int }
   fun-defined : {Γ : Scope Ty} {ps : List Param} {e : Exp} {ts : List Ty} {t : Ty}
       → TakesUnder σ empty ps Γ → ts ≡ map (λ (p : Param). p .type) ps → TypedUnder σ Δ Γ e t → Fair R (owns e)
       → FunFits σ R Δ (defined ps e) record { takes = ts; gives = t }
 
-abbrev pub Ready : Sizes → (ℤ → Type 0) → Scope Sig → Scope Fun → Type 0
+abbrev pub Ready : Sizes → Asked → Scope Sig → Scope Fun → Type 0
 Ready σ R Δ fs = (f : Name) (s : Sig) → nearest f Δ ≡ some s → (g : Fun) × (nearest f fs ≡ some g) × FunFits σ R Δ g s
 
-pub record Safe (σ : Sizes) (R : ℤ → Type 0) (Δ : Scope Sig) (go : Exp → Env → State → Outcome) : Type 0 where
+pub record Safe (σ : Sizes) (R : Asked) (Δ : Scope Sig) (go : Exp → Env → State → Outcome) : Type 0 where
   pub at : {Σ : List Ty} {Γ : Scope Ty} {e : Exp} {t : Ty} (env : Env) (s : State)
       → TypedUnder σ Δ Γ e t → Fair R (owns e) → EnvFits R Σ env Γ → StateFits R Σ s → Good R Σ t (go e env s)
 
--- every int within the range is what is asked
-module _ {R : ℤ → Type 0} (wide : (z : ℤ) → in-range z ≡ true → R z) where
+-- every int within the range, and every float of 64 bits, is what is asked
+pub record Wide (R : Asked) : Type 0 where
+  pub ints : (z : ℤ) → in-range z ≡ true → R .ints z
+  pub floats : (x : Float) → T (Ieee.fits binary64 x) → R .floats x
+
+-- where nothing is asked
+abbrev pub Any : Asked
+Any = record { ints = λ _. Unit {0}; floats = λ _. Unit {0} }
+
+pub any-wide : Wide Any
+any-wide = record { ints = λ _ _. tt; floats = λ _ _. tt }
+
+pub any-fair : (os : List Own) → Fair Any os
+any-fair os = everywhere os λ _. (tt, tt)
+
+module _ {R : Asked} (wide : Wide R) where
   lift : {Σ Σ′ : List Ty} {t : Ty} {o : Outcome} → Grows Σ Σ′ → Good R Σ′ t o → Good R Σ t o
   lift g (good-value h p q) = good-value (grows-trans g h) p q
   lift g good-stop = good-stop
@@ -85,7 +101,7 @@ module _ {R : ℤ → Type 0} (wide : (z : ℤ) → in-range z ≡ true → R z)
   good-floats : {Σ : List Ty} {u : Ty} {v w : Value} (f : ℤ → ℤ → Outcome) (g : Float → Float → Outcome) → Fits R Σ v float
       → Fits R Σ w float → ((x y : Float) → Good R Σ u (g x y)) → Good R Σ u (alike v w f g)
   unfolding alike when-some
-  good-floats f g (fits-float {x = x}) (fits-float {x = y}) h = h x y
+  good-floats f g (fits-float {x = x} p) (fits-float {x = y} q) h = h x y
 
   pub good-choose : {Σ : List Ty} {u : Ty} (b : Bool) (x y : Unit {0} → Outcome) → (b ≡ true → Good R Σ u (x tt))
       → (b ≡ false → Good R Σ u (y tt)) → Good R Σ u (choose b x y)
@@ -112,7 +128,7 @@ module _ {R : ℤ → Type 0} (wide : (z : ℤ) → in-range z ≡ true → R z)
 
   good-fit : {Σ : List Ty} (i : ℕ) (z : ℤ) (s : State) → StateFits R Σ s → Good R Σ int (fit i z s)
   unfolding fit
-  good-fit i z s p = good-choose _ _ _ (λ e. good-value stays p (fits-int (wide z e))) λ _. good-stop
+  good-fit i z s p = good-choose _ _ _ (λ e. good-value stays p (fits-int (wide .ints z e))) λ _. good-stop
 
   good-quotient : {Σ : List Ty} (i : ℕ) (x y : ℤ) (s : State) → StateFits R Σ s → Good R Σ int (quotient i x y s)
   unfolding quotient
@@ -141,13 +157,13 @@ module _ {R : ℤ → Type 0} (wide : (z : ℤ) → in-range z ≡ true → R z)
       → BinopType o t u r → StateFits R Σ s → Fits R Σ v t → Fits R Σ w u → Good R Σ r (apply-binary i o v w s)
   unfolding apply-binary
   binary-good i v w s (b-add of-int) p q r = good-ints _ _ q r λ x y. good-fit i _ s p
-  binary-good i v w s (b-add of-float) p q r = good-floats _ _ q r λ x y. good-value stays p fits-float
+  binary-good i v w s (b-add of-float) p q r = good-floats _ _ q r λ x y. good-value stays p (fits-float (wide .floats _ (add-fits binary64 x y)))
   binary-good i v w s (b-sub of-int) p q r = good-ints _ _ q r λ x y. good-fit i _ s p
-  binary-good i v w s (b-sub of-float) p q r = good-floats _ _ q r λ x y. good-value stays p fits-float
+  binary-good i v w s (b-sub of-float) p q r = good-floats _ _ q r λ x y. good-value stays p (fits-float (wide .floats _ (sub-fits binary64 x y)))
   binary-good i v w s (b-mul of-int) p q r = good-ints _ _ q r λ x y. good-fit i _ s p
-  binary-good i v w s (b-mul of-float) p q r = good-floats _ _ q r λ x y. good-value stays p fits-float
+  binary-good i v w s (b-mul of-float) p q r = good-floats _ _ q r λ x y. good-value stays p (fits-float (wide .floats _ (mul-fits binary64 x y)))
   binary-good i v w s (b-div of-int) p q r = good-ints _ _ q r λ x y. good-quotient i x y s p
-  binary-good i v w s (b-div of-float) p q r = good-floats _ _ q r λ x y. good-value stays p fits-float
+  binary-good i v w s (b-div of-float) p q r = good-floats _ _ q r λ x y. good-value stays p (fits-float (wide .floats _ (div-fits binary64 x y)))
   binary-good i v w s (b-less of-int) p q r = good-ints _ _ q r λ x y. good-value stays p fits-bool
   binary-good i v w s (b-less of-float) p q r = good-floats _ _ q r λ x y. good-value stays p fits-bool
   binary-good i v w s b-equal p q r = good-int _ q λ x. good-int _ r λ y. good-value stays p fits-bool
@@ -179,15 +195,15 @@ module _ {R : ℤ → Type 0} (wide : (z : ℤ) → in-range z ≡ true → R z)
   settled b-or e p = p
   settled b-assign e p = absurd (false-true e)
 
-  good-emit : {Σ : List Ty} (r i n : ℕ) (s : State) → R (pos n) → StateFits R Σ s → Good R Σ int (emit r i n s)
+  good-emit : {Σ : List Ty} (r i n : ℕ) (s : State) → R .ints (pos n) → StateFits R Σ s → Good R Σ int (emit r i n s)
   unfolding emit
   good-emit zero i n s q p = good-stop
   good-emit (suc r) i n s q p = good-value stays record { counted = p .counted; holds = p .holds } (fits-int q)
 
   -- a byte is in the range
-  byte-wide : (n : ℕ) → leb n BYTE ≡ true → R (pos n)
+  byte-wide : (n : ℕ) → leb n BYTE ≡ true → R .ints (pos n)
   unfolding in-range
-  byte-wide n e = wide (pos n) (le-leb n _ (omega (arith, leb-true n BYTE e)))
+  byte-wide n e = wide .ints (pos n) (le-leb n _ (omega (arith, leb-true n BYTE e)))
 
   pub good-put : {Σ : List Ty} (i : ℕ) (z : ℤ) (s : State) → StateFits R Σ s → Good R Σ int (put i z s)
   unfolding put
@@ -200,7 +216,7 @@ module _ {R : ℤ → Type 0} (wide : (z : ℤ) → in-range z ≡ true → R z)
   good-one k (fits-more {v = v} p fits-none) f = f v p
 
   pub good-bounds : {Σ : List Ty} {u : Ty} {vs : List Value} {ts : List Ty} → Bounds ts → (k : ℤ → ℤ → ℤ → Outcome) → FitsAll R Σ vs ts
-      → ((x y z : ℤ) → R x → Good R Σ u (k x y z)) → Good R Σ u (with-bounds vs k)
+      → ((x y z : ℤ) → R .ints x → Good R Σ u (k x y z)) → Good R Σ u (with-bounds vs k)
   unfolding with-bounds when-some
   good-bounds two k (fits-more (fits-int {z = x} p) (fits-more (fits-int {z = y} q) fits-none)) f = f x y _ p
   good-bounds three k (fits-more (fits-int {z = x} p) (fits-more (fits-int {z = y} q) (fits-more (fits-int {z = z} r) fits-none))) f = f x y z p

@@ -5,7 +5,6 @@ use mathlib.Core.List.{List, [], _∷_}
 use mathlib.Core.Option.{none, some}
 use Prim.Native.Nat.{ℕ}
 use lib.Dec.{eqb}
-use lib.IntN.{ℤ}
 use borrow.Author.Tests.{eqb-true}
 use Rattle.language.specs.Sizes.{Sizes, ACTIVE}
 use Rattle.language.specs.Tokens.{same}
@@ -14,10 +13,11 @@ use Rattle.language.specs.Types.{Sig, TypedUnder, t-name, t-whole, t-tru
 use Rattle.language.specs.Types.{t-follow, t-group, t-block, t-call, t-bind, t-branch, t-loop, TypedAllUnder, t-last}
 use Rattle.language.specs.Types.{t-more, fine, with-def, TypedFromUnder, typed-main, typed-def, given, HasTypeUnder, t-counted}
 use Rattle.language.specs.State.{Outcome, value, stop, stuck}
-use Rattle.language.specs.Meaning.{in-range, Fun, putchar, functions, start, run}
-use Rattle.language.proofs.Grammar.OwnTokens.{Own, owns, def-owns, program-owns, front, back, everywhere, main-owned}
-use Rattle.language.proofs.Meaning.CellTypes.{none-some, some-one, holds-none, env-empty}
-use Rattle.language.proofs.Meaning.Safety.{Good, good-value, good-stop, Fair, FunFits, fun-putchar, fun-defined, Ready, eval-good}
+use Rattle.language.specs.Meaning.{Fun, putchar, functions, start, run}
+use Rattle.language.proofs.Grammar.OwnTokens.{Own, owns, def-owns, program-owns, front, back, main-owned}
+use Rattle.language.proofs.Meaning.CellTypes.{Asked, none-some, some-one, holds-none, env-empty}
+use Rattle.language.proofs.Meaning.Safety.{Wide, any-wide, any-fair, Good, good-value, good-stop, Fair}
+use Rattle.language.proofs.Meaning.Safety.{FunFits, fun-putchar, fun-defined, Ready, eval-good}
 
 pub and-left : (a b : Bool) → a && b ≡ true → a ≡ true
 and-left true b e = refl
@@ -88,12 +88,12 @@ knows-final (typed-main p) f s h = h
 knows-final (typed-def {Δ} {d} (fine a b c m n) q) f s h = knows-final q f s (knows-push Δ (d .called) _ b f s h)
 
 -- functions and what they take and give, in one order
-data Tabled (σ : Sizes) (R : ℤ → Type 0) (Δ : Scope Sig) : Scope Fun → Scope Sig → Type 0 where
+data Tabled (σ : Sizes) (R : Asked) (Δ : Scope Sig) : Scope Fun → Scope Sig → Type 0 where
   tabled-none : Tabled σ R Δ empty empty
   tabled-push : {f : Name} {g : Fun} {s : Sig} {fs : Scope Fun} {ss : Scope Sig} → FunFits σ R Δ g s → Tabled σ R Δ fs ss
       → Tabled σ R Δ (push f g fs) (push f s ss)
 
-module _ {R : ℤ → Type 0} where
+module _ {R : Asked} where
   find : {σ : Sizes} {Δ ss : Scope Sig} {fs : Scope Fun} (f : Name) (s : Sig) → Tabled σ R Δ fs ss → nearest f ss ≡ some s
       → (g : Fun) × (nearest f fs ≡ some g) × FunFits σ R Δ g s
   unfolding nearest
@@ -120,13 +120,13 @@ main-typed (typed-main p) = p
 main-typed (typed-def p q) = main-typed q
 
 -- the functions of a program are what its types say
-pub program-ready : {σ : Sizes} {R : ℤ → Type 0} (p : Program) (t : Ty) → HasTypeUnder σ p t → Fair R (program-owns p)
+pub program-ready : {σ : Sizes} {R : Asked} (p : Program) (t : Ty) → HasTypeUnder σ p t → Fair R (program-owns p)
     → Ready σ R (final given (p .defs)) (functions (p .defs) (push PUTCHAR putchar empty))
 unfolding program-owns
 program-ready p t h m f s e = find f s (tables (owns (p .main)) h m (λ g r k. k) (tabled-push fun-putchar tabled-none)) e
 
--- a run is not stuck; with numbers that are what is asked, so is every int that it makes
-pub run-good : {σ : Sizes} {R : ℤ → Type 0} → ((z : ℤ) → in-range z ≡ true → R z) → (p : Program) (t : Ty) (allowance room : ℕ) → HasTypeUnder σ p t
+-- a run is not stuck; with numbers that are what is asked, so is every int and every float that it makes
+pub run-good : {σ : Sizes} {R : Asked} → Wide R → (p : Program) (t : Ty) (allowance room : ℕ) → HasTypeUnder σ p t
     → Fair R (program-owns p) → Good R [] t (run p allowance room)
 unfolding run program-owns
 run-good wide p t allowance room h m =
@@ -138,10 +138,10 @@ IsMoving (value v s) = Unit {0}
 IsMoving (stop n i s) = Unit {0}
 IsMoving stuck = ⊥
 
-pub not-stuck : {R : ℤ → Type 0} {Σ : List Ty} {t : Ty} {o : Outcome} → Good R Σ t o → o ≡ stuck → ⊥
+pub not-stuck : {R : Asked} {Σ : List Ty} {t : Ty} {o : Outcome} → Good R Σ t o → o ≡ stuck → ⊥
 not-stuck (good-value g p q) e = subst IsMoving e tt
 not-stuck good-stop e = subst IsMoving e tt
 
 -- never stuck
 pub never-stuck : {σ : Sizes} (p : Program) (t : Ty) (allowance room : ℕ) → HasTypeUnder σ p t → run p allowance room ≡ stuck → ⊥
-never-stuck p t a r h e = not-stuck (run-good {R = λ _. Unit {0}} (λ _ _. tt) p t a r h (everywhere _ λ _. tt)) e
+never-stuck p t a r h e = not-stuck (run-good any-wide p t a r h (any-fair (program-owns p))) e

@@ -1,6 +1,6 @@
 -- A node that has a type is never stuck, and its value is of the type.
 use mathlib.Core.Path.{_≡_, sym, subst, _∙_}
-use mathlib.Core.Bool.{Bool, true}
+use mathlib.Core.Bool.{Bool}
 use mathlib.Core.List.{List, [], _∷_}
 use mathlib.Core.Option.{some}
 use Prim.Native.Nat.{ℕ, zero, suc}
@@ -12,19 +12,20 @@ use Rattle.language.specs.Types.{TypedUnder, t-name, t-whole, t-truth}
 use Rattle.language.specs.Types.{t-trivial, t-decimal, t-unary, t-binary, t-follow, t-group, t-block, t-call, t-bind, t-branch}
 use Rattle.language.specs.Types.{t-loop, TypedAllUnder, t-last, t-more, t-counted}
 use Rattle.language.specs.State.{Value, State, Outcome}
-use Rattle.language.specs.Meaning.{Env, in-range, literal-value}
+use Rattle.language.specs.Meaning.{Env, literal-value}
 use Rattle.language.specs.Meaning.{Fun, arguments, invoke, passes, step, eval, turns}
 use Rattle.language.proofs.Grammar.OwnTokens.{owns, all-owns, first, rest, front, back}
-use Rattle.language.proofs.Meaning.CellTypes.{none-some, some-one, Grows, stays, grows-trans, Fits, fits-int, fits-float}
+use Rattle.language.proofs.Meaning.CellTypes.{Asked, none-some, some-one, Grows, stays, grows-trans, Fits, fits-int, fits-float}
 use Rattle.language.proofs.Meaning.CellTypes.{fits-bool, fits-unit, FitsAll, fits-none, fits-more, EnvFits, env-empty}
 use Rattle.language.proofs.Meaning.CellTypes.{env-push, StateFits, keep-holds, env-find, fits-grows, env-grows}
-pub use Rattle.language.proofs.Meaning.GoodOutcomes.{Good, good-value, good-stop, Fair, FunFits, fun-putchar, fun-defined, Ready, Safe}
+pub use Rattle.language.proofs.Meaning.GoodOutcomes.{Wide, Any, any-wide, any-fair, Good, good-value, good-stop}
+pub use Rattle.language.proofs.Meaning.GoodOutcomes.{Fair, FunFits, fun-putchar, fun-defined, Ready, Safe}
 pub use Rattle.language.proofs.Meaning.GoodOutcomes.{good-then, good-choose, good-when, good-bounds, good-begin, binary-good, settled}
 use Rattle.language.proofs.Meaning.GoodOutcomes.{good-int, good-bool, good-unit, unary-good, good-put, good-one}
 use Rattle.language.proofs.Meaning.GoodOutcomes.{good-enter}
 
--- every int within the range is what is asked
-module _ {R : ℤ → Type 0} (wide : (z : ℤ) → in-range z ≡ true → R z) where
+-- every int within the range, and every float of 64 bits, is what is asked
+module _ {R : Asked} (wide : Wide R) where
   module _ {σ : Sizes} (Δ : Scope Sig) (fs : Scope Fun) (ready : Ready σ R Δ fs) (go : Exp → Env → State → Outcome) (all : Safe σ R Δ go) where
     safe : {Σ : List Ty} {Γ : Scope Ty} {e : Exp} {t : Ty} (env : Env) (s : State)
         → TypedUnder σ Δ Γ e t → Fair R (owns e) → EnvFits R Σ env Γ → StateFits R Σ s → Good R Σ t (go e env s)
@@ -62,7 +63,7 @@ module _ {R : ℤ → Type 0} (wide : (z : ℤ) → in-range z ≡ true → R z)
         λ _. good-value stays p₁ fits-unit
 
     pub turns-good : {Σ : List Ty} {Γ : Scope Ty} {x : Name} {e : Exp} (n : ℕ) (through : Bool) (to by z : ℤ) (env : Env) (s : State)
-        → TypedUnder σ Δ (push x int Γ) e unit → Fair R (owns e) → EnvFits R Σ env Γ → StateFits R Σ s → R z
+        → TypedUnder σ Δ (push x int Γ) e unit → Fair R (owns e) → EnvFits R Σ env Γ → StateFits R Σ s → R .ints z
         → Good R Σ unit (turns fs go n x through to by z e env s)
     unfolding turns
     turns-good zero through to by z env s b k h p r = good-choose wide _ _ _ (λ _. good-stop) λ _. good-value stays p fits-unit
@@ -71,7 +72,7 @@ module _ {R : ℤ → Type 0} (wide : (z : ℤ) → in-range z ≡ true → R z)
         (λ _.
         good-then wide _ (safe (push _ _ env) s b k (env-push (fits-int r) h) p) λ Σ₁ v s₁ g₁ p₁ q₁.
         good-unit wide _ q₁
-        (good-choose wide _ _ _ (λ e. turns-good n through to by _ env s₁ b k (env-grows g₁ h) p₁ (wide _ e)) λ _. good-value stays p₁ fits-unit))
+        (good-choose wide _ _ _ (λ e. turns-good n through to by _ env s₁ b k (env-grows g₁ h) p₁ (wide .ints _ e)) λ _. good-value stays p₁ fits-unit))
         λ _. good-value stays p fits-unit
 
     pub step-good : {Σ : List Ty} {Γ : Scope Ty} {e : Exp} {t : Ty} (env : Env) (s : State)
@@ -81,10 +82,10 @@ module _ {R : ℤ → Type 0} (wide : (z : ℤ) → in-range z ≡ true → R z)
         let f = env-find Σ x t h e in
         good-when wide _ _ _ (λ v d. good-value stays p (subst (λ w. Fits R Σ w t) (some-one (sym (f .1) ∙ d)) (f .2)))
         λ d. absurd (none-some (sym d ∙ f .1))
-    step-good env s t-whole m h p = good-value stays p (fits-int (first m))
+    step-good env s t-whole m h p = good-value stays p (fits-int (first m .0))
     step-good env s t-truth m h p = good-value stays p fits-bool
     step-good env s t-trivial m h p = good-value stays p fits-unit
-    step-good env s t-decimal m h p = good-value stays p fits-float
+    step-good env s t-decimal m h p = good-value stays p (fits-float (first m .1))
     step-good env s (t-unary {i = i} a b) m h p =
         good-then wide _ (safe env s a (rest m) h p) λ Σ₁ v s₁ g₁ p₁ q₁. unary-good wide i v s₁ b p₁ q₁
     step-good env s (t-binary {i = i} {e = e} a b c) m h p =

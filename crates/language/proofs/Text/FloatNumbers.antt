@@ -1,5 +1,5 @@
 -- What a float number is worth (R08.3): its digits' whole number over the power of ten for those behind the point, rounded once;
--- and exactly the whole number before the point where only zeros stand behind it.
+-- exactly the whole number before the point where only zeros stand behind it; and always one of the floats of 64 bits.
 use mathlib.Core.Path.{_≡_, refl, sym, ap, subst, _∙_}
 use mathlib.Core.Bool.{true, false}
 use mathlib.Core.List.{[], _∷_, _++_}
@@ -8,9 +8,11 @@ use native.Mathlib.Nat.{pow-suc, pow-succ', pow-le-pow-right, one-le-pow, le-tra
 use native.Mathlib.Numerals.{add-one}
 use native.Mathlib.Omega.{arith}
 use borrow.Author.Tests.{ne-eqb}
-use lib.Dec.{lit<, lit≤, eqb}
+use lib.Dec.{T, lit<, lit≤, eqb}
 use lib.IntN.{pos}
-use lib.Ieee.{binary64, round, ofInt}
+use lib.Ieee.{Float, binary64, round, ofInt, fits}
+use lib.Ieee.Exact.{HasValue}
+use lib.Ieee.Fits.{div-fits}
 use lib.ListN.{length, replicate, length-replicate}
 use lib.Pow.{pow-add}
 use Rattle.language.specs.Sizes.{DIGITS}
@@ -18,7 +20,7 @@ use Rattle.language.specs.Tokens.{Spelling}
 use Rattle.language.specs.Text.{is-digit}
 use Rattle.language.specs.Decimals.{digits-from, behind-point, float-of}
 use Rattle.language.proofs.Text.Classes.{digit-bounds}
-use Rattle.language.proofs.Text.Fractions.{divided-once, divided-even}
+use Rattle.language.proofs.Text.Fractions.{exact, divided-once, divided-even}
 
 -- digits alone
 pub data Digits : Spelling → Type 0 where
@@ -89,7 +91,7 @@ module _ (b a : Spelling) (front : Digits b) (back : Digits a) (few : length b +
       (divided-once binary64 whole (10 ^ length a) (ten-pos (length a)) whole-small
       (small (10 ^ length a) (length a) (omega arith) (omega arith)))
 
--- `12.`, `12.0` and `12.000` are 12
+-- `12.`, `12.0` and `12.000` are what 12 is as a float
 pub whole-valued : (b : Spelling) (k : ℕ) → Digits b → length b + k ≤ DIGITS
     → float-of (b ++ (46 ∷ replicate k 48)) ≡ ofInt binary64 (pos (digits-from 0 b))
 unfolding float-of
@@ -102,3 +104,15 @@ whole-valued b k front few =
     let l : behind-point (b ++ (46 ∷ replicate k 48)) ≡ k = behind b (replicate k 48) front ∙ length-replicate {A = ℕ} k 48 in
     rw (e, l)
     (divided-even binary64 n (10 ^ k) (ten-pos k) (small (n * 10 ^ k) (length b + k) few g) (small (10 ^ k) k (omega arith) (omega arith)))
+
+-- and that is 12, with nothing lost: finite, not negative, and twelve over one in size
+pub whole-exact : (b : Spelling) (k : ℕ) → Digits b → length b + k ≤ DIGITS → HasValue (float-of (b ++ (46 ∷ replicate k 48))) false (digits-from 0 b) 1
+whole-exact b k front few =
+    let n = digits-from 0 b in
+    let f : n < 10 ^ length b = rw zero-add at (below 0 0 b front (lit< tt)) in
+    subst (λ (x : Float). HasValue x false n 1) (sym (whole-valued b k front few)) (exact binary64 n (small n (length b) (omega arith) (le-of-lt f)))
+
+-- whatever the spelling, it is a float of 64 bits
+pub float-fits : (s : Spelling) → T (fits binary64 (float-of s))
+unfolding float-of
+float-fits s = div-fits binary64 (ofInt binary64 (pos (digits-from 0 s))) (ofInt binary64 (pos (10 ^ behind-point s)))

@@ -17,7 +17,7 @@ use borrow.Author.Tests.{ne-eqb}
 
 module _ (f : Format) where
   -- a whole number of as many binary digits as the format has is a float with nothing lost
-  exact : (n : ℕ) → n ≤ 2 ^ prec f → HasValue (ofInt f (pos n)) false n 1
+  pub exact : (n : ℕ) → n ≤ 2 ^ prec f → HasValue (ofInt f (pos n)) false n 1
   unfolding ofInt
   exact n h = round-whole f false n h
 

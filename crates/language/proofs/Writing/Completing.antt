@@ -70,9 +70,13 @@ lone-1 : Lone EDITION-1 shared
 unfolding lone spelling
 lone-1 = refl also refl also refl also refl also refl also refl also refl also refl also refl also refl also refl also refl also refl also refl also none-more
 
+shared-2 : Lone EDITION-2 shared
+unfolding lone spelling
+shared-2 = refl also refl also refl also refl also refl also refl also refl also refl also refl also refl also refl also refl also refl also refl also none-more
+
 lone-2 : Lone EDITION-2 (UPTO ∷ shared)
 unfolding lone spelling
-lone-2 = refl also refl also refl also refl also refl also refl also refl also refl also refl also refl also refl also refl also refl also refl also refl also none-more
+lone-2 = refl also shared-2
 
 module _ {voc : Vocabulary} (laws : Laws voc) where
   lone-spelled : (k : ℕ) → lone voc (spelling k) ≡ some (a-token k) → Spelled voc (a-token k)
