@@ -10,3 +10,4 @@ pub mod Pairs
 pub mod Stored
 pub mod Profiles
 pub mod Shift
+pub mod Strict

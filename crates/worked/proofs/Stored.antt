@@ -1,12 +1,13 @@
 -- Texts and what is stored of them, and stored sheets and what they come to: tables, and one statement over the whole of each, by
 -- computation.
 use mathlib.Core.Bool.{Bool, true, false, _&&_}
-use mathlib.Core.List.{List, [], _∷_}
+use mathlib.Core.List.{List, [], _∷_, _++_}
 use mathlib.Core.Path.{_≡_, refl}
 use lib.Dec.{eqb}
 use native.Mathlib.Decide.{decLe, decLt, ℕ-discrete}
 use lib.ListN.{length}
-use Prim.Native.Nat.{ℕ}
+use Prim.Native.Char.{code}
+use Prim.Native.Nat.{ℕ, zero, suc}
 use Prim.Native.String.{String}
 use Rattle.language.specs.Sizes.{Sizes, BOX}
 use Rattle.language.specs.Tokens.{Entry, _is_, spell, same, spelled, entry, kind-at, value-at, spelling-at, Vocabulary, EDITION-1, EDITION-2}
@@ -78,7 +79,7 @@ examples-good = refl
 -- 60: the first line
 pub examples-first :
     reads BOX EDITION-1
-    ("" is (60 is 1) ∷ "\n" is (60 is 1) ∷ "0000" is (60 is 1) ∷ "0401" is (60 is 1) ∷ "000\n" is (60 is 1) ∷ "00\n" is (60 is 1) ∷
+    ("" is (60 is 1) ∷ "\n" is (60 is 1) ∷ "0000" is (60 is 1) ∷ "0551" is (60 is 1) ∷ "000\n" is (60 is 1) ∷ "00\n" is (60 is 1) ∷
     "00000\n" is (60 is 1) ∷ "000000\n" is (60 is 1) ∷ "000a\n" is (60 is 1) ∷ "000G\n" is (60 is 1) ∷ "0001\r\n31\r\n" is (60 is 1) ∷
     " 0001\n" is (60 is 1) ∷ [])
     ≡ true
@@ -103,13 +104,30 @@ pub examples-tokens :
 unfolding reads
 examples-tokens = refl
 
--- 14 before later lines, 61 behind them
+-- 14 before later lines, 61 behind them: `0550` is the largest count, with which the next line is looked at
 pub examples-counts :
     reads BOX EDITION-1
-    ("FFFF\n3\n" is (14 is 1) ∷ "FFFF\n" is (14 is 1) ∷ "0002\n31\n" is (61 is 1) ∷ "0000\n31\n" is (61 is 1) ∷ [])
+    ("0550\n3\n" is (60 is 2) ∷ "0550\n31\n" is (61 is 1) ∷ "0551\n3\n" is (14 is 1) ∷ "0551\n" is (14 is 1) ∷ "FFFF\n3\n" is (14 is 1) ∷
+    "FFFF\n" is (14 is 1) ∷ "0002\n31\n" is (61 is 1) ∷ "0000\n31\n" is (61 is 1) ∷ [])
     ≡ true
 unfolding reads
 examples-counts = refl
+
+-- a whole sheet of so many tokens, each of them 1
+abbrev ones : ℕ → List ℕ
+ones zero = []
+ones (suc n) = code "3" ∷ code "1" ∷ code "\n" ∷ ones n
+
+-- R13.2: 1,360 tokens are read, one more is not, nor one more than the count says
+pub limit-reached : comes (read-stored BOX EDITION-1 (spell "0550\n" ++ ones 1360)) 0 1360 ≡ true
+unfolding read-stored
+limit-reached = refl
+
+pub limit-passed :
+    (comes (read-stored BOX EDITION-1 (spell "0551\n" ++ ones 1361)) 14 1 && comes (read-stored BOX EDITION-1 (spell "0550\n" ++ ones 1361)) 61 1)
+    ≡ true
+unfolding read-stored
+limit-passed = refl
 
 -- R12.12: a line is a token by the caller's edition
 pub examples-editions : (reads BOX EDITION-1 ("0001\n2E2E\n" is (62 is 2) ∷ []) && reads BOX EDITION-2 ("0001\n2E2E\n" is (0 is 1) ∷ [])) ≡ true

@@ -247,3 +247,9 @@ module _ (ts : List Token) where
       by : (r : Result Program) → Settles ts entire 0 r → Settles ts entire 0 (failed i)
       by (failed e) x = subst (λ (k : ℕ). Settles ts entire 0 (failed k)) (one-place (place ts x) w) x
       by (got p j) x = absurd (unread w p (settled-reading x))
+
+  -- and no tokens whatever, of an edition or of none, go on with the one that is told
+  pub none-goes-on : {i : ℕ} → FirstWrong ts i → i < length ts → (behind : List Token) (p : Program) → Reading (take (suc i) ts ++ behind) p → ⊥
+  none-goes-on (wrong-token {i} h s w) l behind p r =
+      w (begun-starts (take (suc i) ts) record { behind = behind; program = p; reading = r })
+  none-goes-on (wrong-end s w) l behind p r = absurd (omega arith)
