@@ -1,25 +1,30 @@
 -- What is asked of pay sheets (Req 10), as theorems about whatever meets the contracts of profile, check and run.
 use mathlib.Core.List.{List}
 use mathlib.Core.Logic.{_↔_}
-use mathlib.Core.Path.{_≡_}
+use mathlib.Core.Path.{_≡_, sym, ap, _∙_}
 use Prim.Native.Nat.{ℕ, _≤_}
-use lib.ListN.{length}
+use native.Mathlib.Omega.{arith}
+use lib.ListN.{length, take}
 use Rattle.language.specs.Sizes.{TABLE, WORK}
 use Rattle.language.specs.Trees.{Ty}
 use Rattle.language.specs.State.{Stop}
 use Rattle.language.specs.Meaning.{type-number}
-use Rattle.language.specs.Numbers.{endless-node, many-units, passed, refused, stopped}
+use Rattle.language.specs.Numbers.{endless-node, many-units, passed, refused, stopped, number}
 use Rattle.language.specs.Answers.{Check, Run, left}
 use Rattle.language.specs.Profile.{ProfileReport, Profile}
-use Rattle.language.specs.Edition.{text-in, pair-in}
+use Rattle.language.specs.Writing.{Store}
+use Rattle.language.specs.Edition.{text-in, pair-in, stored-in}
 use Rattle.language.proofs.Answers.Demand1.{Listed, profiled-listed, profile-never-stops}
 use Rattle.language.proofs.Answers.Editions.{text-in-lawful, pair-in-lawful}
 use Rattle.language.proofs.Profiles.PaySheets.{EndlessSheet, DearSheet, PaySheet, WithinCount, endless-exactly, dear-exactly, pay-exactly}
-use Rattle.language.proofs.Profiles.PaySheets.{passed-exactly, pay-sheet-finishes}
-use Rattle.grumpy.specs.Reports.{checked-report, ran-report, profiled-report, pair-ran-report, pair-profiled-report}
+use Rattle.language.proofs.Profiles.PaySheets.{passed-exactly, within-count, pay-sheet-finishes}
+use Rattle.language.proofs.Stored.Editions.{stored-in-lawful}
+use Rattle.language.proofs.Stored.SameSheet.{sheet-stored}
+use Rattle.grumpy.specs.Reports.{checked-report, ran-report, wrote-report, profiled-report, pair-ran-report, pair-profiled-report}
 use Rattle.grumpy.specs.declared.answers.Checked.{Checked}
 use Rattle.grumpy.specs.declared.answers.Ran.{Ran}
 use Rattle.grumpy.specs.declared.answers.Profiled.{Profiled}
+use Rattle.grumpy.specs.declared.answers.Wrote.{Wrote}
 use Rattle.grumpy.specs.declared.answers.PairProfiled.{PairProfiled}
 use Rattle.grumpy.specs.declared.answers.PairRan.{PairRan}
 
@@ -70,3 +75,22 @@ pub profile-pair-finishes : {edition : ℕ} {first second table table′ : List 
     → Run (pair-in edition first second) words work output allowance (pair-ran-report q) words′ work′ output′
     → pair-profiled-report r .count ≤ allowance → WithinCount (pair-profiled-report r .count) (pair-ran-report q)
 profile-pair-finishes {edition} {first} {second} r q a e b k = pay-sheet-finishes (pair-in-lawful edition first second) a e b k
+
+-- and of a sheet that was stored: whoever runs its stored form with an allowance of at least the count that the profile told of its
+-- source uses no more and does not end in 50
+pub profile-stored-finishes : {edition : ℕ} {source table table′ room out room′ out′ : List ℕ} {words work output : List ℕ} {allowance : ℕ}
+    {words′ work′ output′ : List ℕ} (r : Profiled) (s : Wrote) (q : Ran) → Profile (text-in edition source) table (profiled-report r) table′
+    → profiled-report r .told ≡ passed → Store (text-in edition source) room out (wrote-report s) room′ out′ → wrote-report s .told ≡ passed
+    → Run (stored-in edition (take (wrote-report s .written) out′)) words work output allowance (ran-report q) words′ work′ output′
+    → profiled-report r .count ≤ allowance → WithinCount (profiled-report r .count) (ran-report q)
+profile-stored-finishes {edition} {source} r s q a e b f c k =
+    let x = sheet-stored b f .runs-back (c .answer) in
+    let w = within-count (text-in-lawful edition source) (a .answer) e (x .1) k in
+    record { units = omega (arith, w .units, x .2 .units); told = λ n. w .told (sym (ap number (x .2 .told)) ∙ n) }
+
+-- the same by the profile of the stored sheet itself, which no service tells: that of its own tokens
+pub stored-finishes : {edition : ℕ} {input table table′ : List ℕ} {words work output : List ℕ} {allowance : ℕ} {words′ work′ output′ : List ℕ}
+    {r : ProfileReport ℕ} (q : Ran) → Profile (stored-in edition input) table r table′ → r .told ≡ passed
+    → Run (stored-in edition input) words work output allowance (ran-report q) words′ work′ output′
+    → r .count ≤ allowance → WithinCount (r .count) (ran-report q)
+stored-finishes {edition} {input} q a e b k = pay-sheet-finishes (stored-in-lawful edition input) a e b k
