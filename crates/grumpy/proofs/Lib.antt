@@ -15,3 +15,4 @@ pub mod PairDemands
 pub mod Knowing
 pub mod Profiling
 pub mod PayDemands
+pub mod BothEditions
