@@ -1,8 +1,7 @@
--- The three demands on the box, in their own words, as theorems about whatever meets the contracts of check and run; and those
--- on write.
+-- The three demands on the box, in their own words, as theorems about whatever meets the contracts of check and run on a text; and
+-- those on write. `AnyOrigin` has what they rest on, `PairDemands` and `StoredDemands` say them of two sheets and of a stored one.
 use mathlib.Core.List.{List, _++_}
 use mathlib.Core.Logic.{_↔_}
-use mathlib.Core.Option.{some}
 use mathlib.Core.Path.{_≡_, ap, _∙_}
 use Prim.Native.Nat.{ℕ, _≤_}
 use lib.ListN.{length, take, drop}
@@ -10,71 +9,47 @@ use Rattle.language.specs.Sizes.{TABLE, WORK, ALLOWANCE}
 use Rattle.language.specs.Tokens.{Token}
 use Rattle.language.specs.Trees.{Ty, Program}
 use Rattle.language.specs.State.{Stop}
-use Rattle.language.specs.Meaning.{run, type-number}
+use Rattle.language.specs.Meaning.{type-number}
 use Rattle.language.specs.Numbers.{Refusal, no-reading, passed, refused, stopped, long-text}
-use Rattle.language.specs.Answers.{Passes, left, Ending, ending, CheckReport, Check, Enough, RunReport, after-run, run-ended, Run}
+use Rattle.language.specs.Answers.{Passes, left, Check, Run}
 use Rattle.language.specs.Writing.{WriteReport, Write}
 use Rattle.language.specs.Edition.{text-in}
 use Rattle.language.proofs.Answers.Editions.{text-in-lawful}
-use Rattle.language.proofs.Answers.OneAnswer.{one-ran}
 use Rattle.language.proofs.Answers.Endings.{IsRun}
-use Rattle.language.proofs.Answers.Demand1.{Listed, ran-listed, checked-listed, wrote-listed, check-never-stops, write-never-stops, silent, unwritten}
-use Rattle.language.proofs.Answers.Demand3.{IsProgram, NoProgram, check-type-exactly, check-none-exactly, run-type-exactly, run-none-exactly}
+use Rattle.language.proofs.Answers.Demand1.{Listed, ran-listed, checked-listed, wrote-listed, write-never-stops, unwritten}
+use Rattle.language.proofs.Answers.Demand3.{IsProgram, NoProgram}
 use Rattle.language.proofs.Writing.OneWriting.{LongProgram, long-exactly}
 use Rattle.language.proofs.Writing.SameSheet.{SameSheet, written-sheet}
 use Rattle.grumpy.specs.Reports.{checked-report, ran-report, wrote-report}
 use Rattle.grumpy.specs.declared.answers.Checked.{Checked}
 use Rattle.grumpy.specs.declared.answers.Ran.{Ran}
 use Rattle.grumpy.specs.declared.answers.Wrote.{Wrote}
+use Rattle.grumpy.proofs.AnyOrigin.{CheckDemand1, RunDemand1, check-listed, run-listed, RunDemand2, check-three, check-three-none}
+use Rattle.grumpy.proofs.AnyOrigin.{run-two, run-three, run-three-none}
 
 -- ---- demand 1
 
--- Whatever edition is named and whatever is lent, what check tells is a row of the table, at the place that the row sets, and memory is left as it says.
-pub record CheckDemand1 (edition : ℕ) (source table : List ℕ) (report : CheckReport ℕ) (table′ : List ℕ) : Type 0 where
-  pub listed : Listed edition source record { table = length table; work = WORK; output = 0; allowance = 0 } (report .told) (report .place)
-  pub no-stop : (w : Stop) → report .told ≡ stopped w → ⊥
-  pub table-left : table′ ≡ left (report .told) TABLE table
-
+-- Whatever edition is named and whatever is lent, what check tells is a row of the table, at the place that the row sets, and memory is
+-- left as it says.
 pub check-demand-one : {edition : ℕ} {source table t′ : List ℕ} (r : Checked) → Check (text-in edition source) table (checked-report r) t′
-    → CheckDemand1 edition source table (checked-report r) t′
-check-demand-one {edition} {source} r a = record {
-  listed = checked-listed edition source _ (a .answer);
-  no-stop = check-never-stops (a .answer);
-  table-left = a .table-left;
-}
+    → CheckDemand1 (Listed edition source) table (checked-report r) t′
+check-demand-one {edition} {source} r a = check-listed (Listed edition source) a (checked-listed edition source _ (a .answer))
 
 -- The same of run; and where nothing is run, nothing is printed and the output is as it was.
-pub record RunDemand1 (edition : ℕ) (source table work output : List ℕ) (allowance : ℕ) (report : RunReport ℕ) (table′ work′ output′ : List ℕ) : Type 0 where
-  pub listed : Listed edition source record { table = length table; work = length work; output = length output; allowance = allowance }
-      (report .told) (report .place)
-  pub table-left : table′ ≡ left (report .told) TABLE table
-  pub work-left : work′ ≡ left (report .told) WORK work
-  pub silent : (y : Refusal) → report .told ≡ refused y → (report .printed ≡ 0) × (output′ ≡ output)
-
 pub run-demand-one : {edition : ℕ} {source table work output : List ℕ} {allowance : ℕ} {t′ w′ o′ : List ℕ} (r : Ran)
     → Run (text-in edition source) table work output allowance (ran-report r) t′ w′ o′
-    → RunDemand1 edition source table work output allowance (ran-report r) t′ w′ o′
-run-demand-one {edition} {source} {output = output} r a = record {
-  listed = ran-listed edition source _ (a .answer);
-  table-left = a .table-left;
-  work-left = a .work-left;
-  silent = λ y e.
-      let s = silent (a .answer) y e in
-      (s .0, a .output-left ∙ ap (λ (bs : List ℕ). bs ++ drop (length bs) output) (s .1));
-}
+    → RunDemand1 (Listed edition source) table work output allowance (ran-report r) t′ w′ o′
+run-demand-one {edition} {source} r a = run-listed (Listed edition source) a (ran-listed edition source _ (a .answer))
 
 -- ---- demand 2
 
 -- A sheet that passes, with memory and allowance in order, is answered exactly by the end of its meaning: value or stop and
 -- its place, units and bytes printed.
-pub demand-two : {edition : ℕ} {source table work output : List ℕ} {allowance : ℕ} {t′ w′ o′ : List ℕ} {ts : List Token} {p : Program} {t : Ty} {e : Ending}
-    → TABLE ≤ length table → WORK ≤ length work → allowance ≤ ALLOWANCE → Passes (text-in edition source) ts p t
-    → ending allowance (run p allowance (length output)) ≡ some e → (r : Ran)
+pub demand-two : {edition : ℕ} {source table work output : List ℕ} {allowance : ℕ} {t′ w′ o′ : List ℕ} {ts : List Token} {p : Program} {t : Ty}
+    → TABLE ≤ length table → WORK ≤ length work → allowance ≤ ALLOWANCE → Passes (text-in edition source) ts p t → (r : Ran)
     → Run (text-in edition source) table work output allowance (ran-report r) t′ w′ o′
-    → (ran-report r ≡ after-run (text-in edition source) ts t e) × (o′ ≡ e .printed ++ drop (length (e .printed)) output)
-demand-two {edition} {source} {output = output} long wide fair passes ends r a =
-    let x = one-ran (text-in-lawful edition source) _ (a .answer) (run-ended record { table = long; work = wide } fair passes ends) in
-    (x .0, a .output-left ∙ ap (λ (bs : List ℕ). bs ++ drop (length bs) output) (x .1))
+    → RunDemand2 (text-in edition source) ts p t output allowance (ran-report r) o′
+demand-two {edition} {source} long wide fair passes r a = run-two (text-in-lawful edition source) a long wide fair passes
 
 -- ---- demand 3
 
@@ -83,22 +58,19 @@ demand-two {edition} {source} {output = output} long wide fair passes ends r a =
 module _ {edition : ℕ} {source table t′ : List ℕ} (long : TABLE ≤ length table) (r : Checked)
     (a : Check (text-in edition source) table (checked-report r) t′) where
   pub check-demand-three : (t : Ty) → ((checked-report r .told ≡ passed) × (checked-report r .type ≡ type-number t)) ↔ IsProgram (text-in edition source) t
-  check-demand-three t = check-type-exactly (text-in-lawful edition source) long (a .answer) t
+  check-demand-three t = check-three (text-in-lawful edition source) a long t
 
   pub check-demand-three-none : (checked-report r .told ≡ refused no-reading) ↔ NoProgram (text-in edition source)
-  check-demand-three-none = check-none-exactly (text-in-lawful edition source) long (a .answer)
+  check-demand-three-none = check-three-none (text-in-lawful edition source) a long
 
 -- Run ends in a value or a stop with the type t exactly then, and says "not a program" exactly then.
 module _ {edition : ℕ} {source table work output : List ℕ} {allowance : ℕ} {t′ w′ o′ : List ℕ} (long : TABLE ≤ length table) (wide : WORK ≤ length work)
     (fair : allowance ≤ ALLOWANCE) (r : Ran) (a : Run (text-in edition source) table work output allowance (ran-report r) t′ w′ o′) where
-  enough : Enough record { table = length table; work = length work; output = length output; allowance = allowance }
-  enough = record { table = long; work = wide }
-
   pub run-demand-three : (t : Ty) → (IsRun (ran-report r .told) × (ran-report r .type ≡ type-number t)) ↔ IsProgram (text-in edition source) t
-  run-demand-three t = run-type-exactly (text-in-lawful edition source) enough fair (a .answer) t
+  run-demand-three t = run-three (text-in-lawful edition source) a long wide fair t
 
   pub run-demand-three-none : (ran-report r .told ≡ refused no-reading) ↔ NoProgram (text-in edition source)
-  run-demand-three-none = run-none-exactly (text-in-lawful edition source) enough fair (a .answer)
+  run-demand-three-none = run-three-none (text-in-lawful edition source) a long wide fair
 
 -- ---- write (R03)
 

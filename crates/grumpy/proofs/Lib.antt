@@ -3,6 +3,7 @@ pub mod Runs
 pub mod Resolving
 pub mod Services
 pub mod Determined
+pub mod AnyOrigin
 pub mod Demands
 pub mod Rewriting
 pub mod StoreDemands
@@ -10,6 +11,8 @@ pub mod StoredDemands
 pub mod HeadOffice
 pub mod Moves
 pub mod TwoSheets
+pub mod PairDemands
 pub mod Knowing
 pub mod Profiling
 pub mod PayDemands
+pub mod BothEditions

@@ -93,10 +93,10 @@ ran-by passed r = PairRan.Value (r .type) (value-of (r .value)) (r .units) (r .p
 ran-by (refused y) r = PairRan.Refused (refusal-of y) (spot-of (r .place))
 ran-by (stopped w) r = PairRan.Stopped (stop-of w) (spot-of (r .place)) (r .type) (r .units) (r .printed)
 
-abbrev ran-of : RunReport Place → PairRan
+abbrev pub ran-of : RunReport Place → PairRan
 ran-of r = ran-by (r .told) r
 
-ran-back : (r : PairRan) → ran-of (pair-ran-report r) ≡ r
+pub ran-back : (r : PairRan) → ran-of (pair-ran-report r) ≡ r
 ran-back (PairRan.Value t v u n) = ap (λ (v : Value). PairRan.Value t v u n) (value-back v)
 ran-back (PairRan.Stopped w x t u n) = ap (λ (w : Stop). PairRan.Stopped w x t u n) (stop-back w)
 ran-back (PairRan.Refused y x) = ap (λ (y : Refusal). PairRan.Refused y x) (refusal-back y)

@@ -6,6 +6,7 @@ pub mod OneAnswer
 pub mod Demand1
 pub mod Demand3
 pub mod HeadOffice
+pub mod LentLonger
 pub mod NotAgain
 pub mod OldSheets
 pub mod Pairs

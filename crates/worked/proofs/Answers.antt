@@ -1,9 +1,9 @@
 -- Examples in either edition, by computation: a table, and one statement over the whole of it. Here the paper's fifteen marked
 -- P, in edition 1.
 use mathlib.Core.Bool.{Bool, true, _&&_}
-use mathlib.Core.List.{List, [], _∷_}
+use mathlib.Core.List.{List, [], _∷_, _++_}
 use mathlib.Core.Option.{Option, none, some}
-use mathlib.Core.Path.{_≡_, refl, sym, ap, subst}
+use mathlib.Core.Path.{_≡_, refl, sym, ap, subst, _∙_}
 use Prim.Native.Nat.{ℕ, _≤_}
 use Prim.Native.String.{String}
 use native.Mathlib.Decide.{decLe, decLt, ℕ-discrete}
@@ -11,7 +11,7 @@ use native.Mathlib.Omega.{arith}
 use lib.Dec.{leb}
 use lib.Ieee as Ieee
 use lib.IntN.{ℤ, pos, negsuc}
-use lib.ListN.{length}
+use lib.ListN.{length, drop}
 use borrow.Author.Tests.{leb-true}
 use Rattle.language.specs.Sizes.{BOX, ALLOWANCE, TABLE, WORK}
 use Rattle.language.specs.Tokens.{spell, same, spelled, entry, kind-at, value-at, spelling-at, place-at, Token}
@@ -23,7 +23,7 @@ use Rattle.language.specs.Meaning.{put, literal-value, enter, arguments, invoke
 use Rattle.language.specs.Meaning.{step, eval, functions, run, value-number, type-number}
 use Rattle.language.specs.Faults.{unsuited}
 use Rattle.language.specs.Numbers.{short-memory, number}
-use Rattle.language.specs.Answers.{Ending, ending, RunReport, Lent, refusal, after-run, Ran, run-refused, run-ended}
+use Rattle.language.specs.Answers.{Ending, ending, RunReport, Lent, Enough, refusal, after-run, Ran, run-refused, run-ended, Run}
 use Rattle.language.proofs.Executable.Parses as Parses
 use Rattle.language.proofs.Executable.Parser as Parser
 use Rattle.language.proofs.Executable.Checks as Types
@@ -35,6 +35,8 @@ use Rattle.language.proofs.Answers.Editions.{text-in-lawful}
 use Rattle.language.proofs.Answers.Origins.{Fate, fails, Comes, fate, fate-comes}
 use Rattle.language.proofs.Answers.Origins as Origins
 use Rattle.language.proofs.Answers.Endings.{some-ending}
+use Rattle.language.proofs.Answers.LentLonger.{ran-longer}
+use Rattle.language.proofs.Answers.OneAnswer.{one-ran}
 use Rattle.language.proofs.Meaning.NeverStuck.{and-left, and-right}
 
 -- ---- the answer, worked out, with memory enough
@@ -93,7 +95,6 @@ pub record Example : Type 0 where
   pub edition : ℕ
   pub source : String
   pub allowance : ℕ
-  pub output : ℕ
   pub report : Figures
   pub printed : List ℕ
 
@@ -102,7 +103,6 @@ example-in edition s allowance n i t v u bs = record {
   edition = edition;
   source = s;
   allowance = allowance;
-  output = 10;
   report = record { number = n; place = i; type = t; value = v; units = u; printed = length bs };
   printed = bs;
 }
@@ -132,11 +132,17 @@ examples =
 
 -- ---- the statement
 
--- this is what run answers
-abbrev pub Answered : Example → Type 0
-Answered e =
-    (r : RunReport ℕ) × (figures r ≡ e .report)
-    × Ran (text-in (e .edition) (spell (e .source))) (lent (e .edition) (e .allowance) (e .output)) r (e .printed)
+-- an output of n bytes has room for those that are printed, and where it is told to be full for no more
+pub record Roomy (e : Example) (n : ℕ) : Type 0 where
+  pub long : length (e .printed) ≤ n
+  pub full : e .report .number ≡ 57 → n ≡ length (e .printed)
+
+-- Whatever meets the contract of run on this sheet, lent any memories and any output that are long enough, tells these figures and
+-- leaves these bytes in the output. That there is such an answer is `OneAnswer.some-run`.
+pub record Answered (e : Example) : Type 0 where
+  pub right : {table work output : List ℕ} {r : RunReport ℕ} {t′ w′ o′ : List ℕ} → TABLE ≤ length table → WORK ≤ length work → Roomy e (length output)
+      → Run (text-in (e .edition) (spell (e .source))) table work output (e .allowance) r t′ w′ o′
+      → (figures r ≡ e .report) × (o′ ≡ e .printed ++ drop (length (e .printed)) output)
 
 abbrev pub All : List Example → Type 0
 All [] = Unit {0}
@@ -149,7 +155,7 @@ pub record Said : Type 0 where
 
 unfoldable worked : Example → Answer
 worked e =
-    answered (e .edition) (e .allowance) (e .output) (spell (e .source)) (fate (text-in-lawful (e .edition) (spell (e .source))))
+    answered (e .edition) (e .allowance) (length (e .printed)) (spell (e .source)) (fate (text-in-lawful (e .edition) (spell (e .source))))
 
 unfoldable pub worked-out : List Example → List Said
 unfolding worked answered at-end ending fate text-in-lawful edition decLe decLt ℕ-discrete Parser.parse Parser.step
@@ -179,21 +185,31 @@ later : {x y : Said} {xs ys : List Said} → (x ∷ xs) ≡ (y ∷ ys) → xs �
 later e = cc
 
 worked-right : (e : Example) → e .allowance ≤ ALLOWANCE
-    → Right (e .edition) (e .allowance) (e .output) (spell (e .source)) (worked e)
+    → Right (e .edition) (e .allowance) (length (e .printed)) (spell (e .source)) (worked e)
 unfolding worked
 worked-right e low =
     let law = text-in-lawful (e .edition) (spell (e .source)) in
-    answered-right (e .edition) (e .allowance) (e .output) (spell (e .source)) low (fate law) (fate-comes law)
+    answered-right (e .edition) (e .allowance) (length (e .printed)) (spell (e .source)) low (fate law) (fate-comes law)
+
+-- what is worked out with just the memories that are asked for is what run answers with any that are long enough
+run-is : (e : Example) → e .allowance ≤ ALLOWANCE → figures (worked e .report) ≡ e .report → worked e .printed ≡ e .printed → Answered e
+run-is e low same-figures same-bytes = record {
+  right = λ {table} {work} {output} long wide roomy a.
+      let full : number (worked e .report .told) ≡ 57 → length output ≡ length (e .printed) =
+      λ q. roomy .full (sym (ap (λ (x : Figures). x .number) same-figures) ∙ q) in
+      let enough : Enough (lent (e .edition) (e .allowance) (length (e .printed))) = record { table = omega arith; work = omega arith } in
+      let x = ran-longer enough long wide (roomy .long) full (worked-right e low) in
+      let z = one-ran (text-in-lawful (e .edition) (spell (e .source))) _ (a .answer) x in
+      (ap figures (z .0) ∙ same-figures, a .output-left ∙ ap (λ (bs : List ℕ). bs ++ drop (length bs) output) (z .1 ∙ same-bytes));
+}
 
 -- where the two are the same, the table is right
 pub by-computation : (es : List Example) → worked-out es ≡ written-down es → fair es ≡ true → All es
 unfolding worked-out
 by-computation [] h f = tt
 by-computation (e ∷ es) h f =
-    let low = leb-true (e .allowance) ALLOWANCE (and-left (leb (e .allowance) ALLOWANCE) (fair es) f) in
-    let same-bytes = ap (λ (x : Said). x .printed) (first h) in
-    let ran : List ℕ → Type 0 = λ bs. Right (e .edition) (e .allowance) (e .output) (spell (e .source)) record { report = worked e .report; printed = bs } in (
-      (worked e .report, ap (λ (x : Said). x .report) (first h), subst ran same-bytes (worked-right e low)),
+    let low = leb-true (e .allowance) ALLOWANCE (and-left (leb (e .allowance) ALLOWANCE) (fair es) f) in (
+      run-is e low (ap (λ (x : Said). x .report) (first h)) (ap (λ (x : Said). x .printed) (first h)),
       by-computation es (later h) (and-right (leb (e .allowance) ALLOWANCE) (fair es) f),
     )
 

@@ -16,11 +16,6 @@ use Rattle.language.specs.Answers.{RefusedUnder, by-origin, too-long}
 use Rattle.language.specs.Edition.{edition, known, text-in-under}
 use Rattle.worked.proofs.Answers.{Example, example, All, worked-out, by-computation}
 
--- with an output of this length
-abbrev in-room : ℕ → Example → Example
-in-room n e =
-    record { edition = e .edition; source = e .source; allowance = e .allowance; output = n; report = e .report; printed = e .printed }
-
 -- numbers and their operators: S015, S032 to S034, S039, S059
 abbrev pub arithmetic : List Example
 arithmetic =
@@ -124,8 +119,7 @@ calls =
     ∷ example "putchar(0)+putchar(255)" 100 0 0 1 (pos 255) 5 (0 ∷ 255 ∷ [])
     ∷ example "putchar(256)" 100 56 0 1 (pos 0) 2 []
     ∷ example "putchar(-1)" 100 56 0 1 (pos 0) 3 []
-    ∷ in-room 0 (example "putchar(65)" 100 57 0 1 (pos 0) 2 [])
-    ∷ in-room 0 (example "putchar(256)" 100 56 0 1 (pos 0) 2 [])
+    ∷ example "putchar(65)" 100 57 0 1 (pos 0) 2 []
     ∷ example "1+2" 0 50 1 1 (pos 0) 0 []
     ∷ example "1+2" 1 50 0 1 (pos 0) 1 []
     ∷ example "1+2" 2 50 2 1 (pos 0) 2 []

@@ -1,5 +1,5 @@
 -- A sheet with none of the words and marks of counted loops is answered the same in both editions (R12.3, R12.14): by check, run,
--- write and store, of a text and of two sheets, with all that they leave behind.
+-- write, store and profile, of a text and of two sheets, with all that they leave behind.
 use mathlib.Core.List.{List}
 use mathlib.Core.Logic.{_↔_}
 use mathlib.Core.Path.{refl}
@@ -11,12 +11,13 @@ use Rattle.language.specs.Numbers.{Refusal}
 use Rattle.language.specs.Answers as Answers
 use Rattle.language.specs.Answers.{Origin, TextDeniesUnder, TextGivesUnder, text-under, PassesUnder, CheckReport, CheckUnder, RunReport, RunUnder}
 use Rattle.language.specs.Writing.{WriteReport, WriteUnder, StoreUnder}
+use Rattle.language.specs.Profile.{ProfileReport, ProfileUnder}
 use Rattle.language.specs.Pairs.{joined, Place, PairDeniesUnder, too-long, flawed, pair-under}
 use Rattle.language.specs.Edition.{text-in-under, pair-in-under}
 use Rattle.language.proofs.Text.NothingNew.{Every, OldWord, OldKind, NothingNew, same-split, same-flaw, nothing-in-tokens, nothing-in-kinds}
 use Rattle.language.proofs.Answers.Origins.{text-lawful}
 use Rattle.language.proofs.Answers.Follow.{Follows, follows-on, follows-back, passes-follow, check-follow, run-follow, write-follow}
-use Rattle.language.proofs.Answers.Follow.{store-follow}
+use Rattle.language.proofs.Answers.Follow.{store-follow, profile-follow}
 use Rattle.language.proofs.Answers.Editions.{text-alike, pair-alike, text-in-lawful-under, pair-in-lawful-under, named-follows, named-back, two-is}
 use Rattle.language.proofs.Answers.Editions.{text-as-it-was, pair-as-it-was}
 
@@ -40,6 +41,10 @@ module _ {P : Type 0} {o q : Origin P} (same : Same o q) where
   pub same-store : {σ : Sizes} {table output table′ output′ : List ℕ} {r : WriteReport P}
       → StoreUnder σ o table output r table′ output′ ↔ StoreUnder σ q table output r table′ output′
   same-store = (store-follow (same .0), store-follow (same .1))
+
+  -- the profile of it, too (R10)
+  pub same-profile : {σ : Sizes} {table table′ : List ℕ} {r : ProfileReport P} → ProfileUnder σ o table r table′ ↔ ProfileUnder σ q table r table′
+  same-profile = (profile-follow (same .0), profile-follow (same .1))
 
 -- ---- a text
 

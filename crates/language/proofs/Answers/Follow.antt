@@ -13,6 +13,8 @@ use Rattle.language.specs.Answers.{CheckReport, check-report, CheckedUnd
 use Rattle.language.specs.Answers.{RunReport, Lent, RanUnder, run-short, run-large, run-refused, run-ended, RunUnder}
 use Rattle.language.specs.Writing.{WriteReport, write-report, WroteUnder, write-short, write-refused, write-long, write-passed, WriteUnder}
 use Rattle.language.specs.Writing.{StoresUnder, store-short, store-refused, store-long, store-passed, StoreUnder}
+use Rattle.language.specs.Profile.{ProfileReport, profile-report, ProfiledUnder, profile-short, profile-refused, profile-endless}
+use Rattle.language.specs.Profile.{profile-many, profile-passed, ProfileUnder}
 use Rattle.language.proofs.Answers.Origins.{LawfulUnder}
 
 pub record Follows {P : Type 0} (o q : Origin P) : Type 0 where
@@ -107,6 +109,23 @@ module _ {P : Type 0} {o q : Origin P} (f : Follows o q) where
   pub store-follow : {σ : Sizes} {table output table′ output′ : List ℕ} {r : WriteReport P} → StoreUnder σ o table output r table′ output′
       → StoreUnder σ q table output r table′ output′
   store-follow x = record { form = x .form; answer = stores-follow (x .answer); table-left = x .table-left; output-left = x .output-left }
+
+  -- ---- profile
+
+  profile-at : {σ : Sizes} {table : ℕ} (r : ProfileReport P) {x y : P} → x ≡ y
+      → ProfiledUnder σ q table (profile-report (r .told) x (r .type) (r .count)) → ProfiledUnder σ q table (profile-report (r .told) y (r .type) (r .count))
+  profile-at {σ} {table} r e a = subst (λ (x : P). ProfiledUnder σ q table (profile-report (r .told) x (r .type) (r .count))) e a
+
+  pub profiled-follow : {σ : Sizes} {table : ℕ} {r : ProfileReport P} → ProfiledUnder σ o table r → ProfiledUnder σ q table r
+  profiled-follow {r = r} (profile-short h) = profile-at r (sym (f .nowhere)) (profile-short h)
+  profiled-follow (profile-refused h x) = profile-refused h (refused-follow x)
+  profiled-follow {r = r} (profile-endless {ts = ts} {i = i} h x k) = profile-at r (sym (f .at ts i)) (profile-endless h (passes-follow x) k)
+  profiled-follow {r = r} (profile-many h x k m) = profile-at r (sym (f .nowhere)) (profile-many h (passes-follow x) k m)
+  profiled-follow {r = r} (profile-passed h x k m) = profile-at r (sym (f .nowhere)) (profile-passed h (passes-follow x) k m)
+
+  -- its contract, the table left included
+  pub profile-follow : {σ : Sizes} {table table′ : List ℕ} {r : ProfileReport P} → ProfileUnder σ o table r table′ → ProfileUnder σ q table r table′
+  profile-follow x = record { answer = profiled-follow (x .answer); table-left = x .table-left }
 
 -- ---- further, and the other way
 

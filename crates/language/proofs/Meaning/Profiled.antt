@@ -1,16 +1,18 @@
--- A program without endless nodes, run with at least the units that are worked out before, uses no more and never ends in 50 (R10.6).
+-- A program without endless nodes, run with at least the units that are worked out before, uses no more and never ends in 50 (R10.6):
+-- a program that has a type, under whatever sizes (R13.5).
 use mathlib.Core.Path.{_≡_, refl, sym, ap, subst, _∙_}
 use mathlib.Core.Bool.{Bool, true, false, cond}
 use mathlib.Core.List.{List, [], _∷_}
 use mathlib.Core.Option.{Option, none, some}
 use Prim.Native.Nat.{ℕ, _+_, _-_, _≤_}
 use native.Mathlib.Omega.{arith}
-use Rattle.language.specs.Sizes.{ACTIVE}
+use Rattle.language.specs.Sizes.{Sizes, ACTIVE}
 use Rattle.language.specs.Tokens.{same}
 use Rattle.language.specs.Trees.{Name, Ty, Exp, name, literal, unary, binary, follow, group, block, call, bind, branch}
 use Rattle.language.specs.Trees.{loop, Exps, last, more, Def, Program, Scope, empty, push, nearest, PUTCHAR, counted}
-use Rattle.language.specs.Types.{Sig, Typed, t-name, t-whole, t-truth, t-trivial, t-unary, t-binary, t-follow, t-group, t-block, t-call, t-bind, t-branch}
-use Rattle.language.specs.Types.{t-loop, TypedAll, t-last, t-more, fine, with-def, TypedFrom, typed-main, typed-def, HasType, t-decimal, t-counted}
+use Rattle.language.specs.Types.{Sig, TypedUnder, t-name, t-whole, t-truth, t-trivial, t-unary, t-binary, t-follow, t-group, t-block}
+use Rattle.language.specs.Types.{t-call, t-bind, t-branch, t-loop, t-decimal, t-counted, TypedAllUnder, t-last, t-more, fine, with-def}
+use Rattle.language.specs.Types.{TypedFromUnder, typed-main, typed-def, HasTypeUnder}
 use Rattle.language.specs.State.{Stop, no-unit, Value, State, Outcome, value, stop}
 use Rattle.language.specs.Meaning.{Fun, functions, start, run}
 use Rattle.language.specs.Profile.{or-else, endless, any-endless, endless-from, first-endless, or-zero, cost, all-cost, body-costs, units-most}
@@ -55,12 +57,12 @@ picked : (b : Bool) (i : ℕ) → cond b (some i) none ≡ none → b ≡ false
 picked true i e = absurd (none-some (sym e))
 picked false i e = refl
 
-module _ (self : Name → Bool) (Δ : Scope Sig) (A B : Scope ℕ)
+module _ {σ : Sizes} (self : Name → Bool) (Δ : Scope Sig) (A B : Scope ℕ)
     (agree : (f : Name) (s : Sig) → nearest f Δ ≡ some s → self f ≡ false → nearest f A ≡ nearest f B) where
   mutual
     unfolding endless cost
 
-    cost-same : {Γ : Scope Ty} {e : Exp} {t : Ty} → Typed Δ Γ e t → endless self e ≡ none → cost A e ≡ cost B e
+    cost-same : {Γ : Scope Ty} {e : Exp} {t : Ty} → TypedUnder σ Δ Γ e t → endless self e ≡ none → cost A e ≡ cost B e
     cost-same (t-name p) h = refl
     cost-same t-whole h = refl
     cost-same t-truth h = refl
@@ -82,7 +84,7 @@ module _ (self : Name → Bool) (Δ : Scope Sig) (A B : Scope ℕ)
     cost-same (t-counted {i = i} {es = es} {e = e} p q r) h =
         absurd (none-some (sym (right-none (endless self e) (some i) (right-none (any-endless self es) _ h))))
 
-    all-same : {Γ : Scope Ty} {es : Exps} {ts : List Ty} → TypedAll Δ Γ es ts → any-endless self es ≡ none → all-cost A es ≡ all-cost B es
+    all-same : {Γ : Scope Ty} {es : Exps} {ts : List Ty} → TypedAllUnder σ Δ Γ es ts → any-endless self es ≡ none → all-cost A es ≡ all-cost B es
     all-same t-last h = refl
     all-same (t-more p q) h = rw (cost-same p (left-none _ _ h), all-same q (right-none _ _ h)) refl
 
@@ -122,7 +124,7 @@ kept cs g n e f c h = by (same f g) refl
     by false d = h
 
 -- so a cost stays as it is while further functions come
-stays : {Δ : Scope Sig} {ds : List Def} {e : Exp} {t : Ty} {cs : Scope ℕ} (f : Name) (c : ℕ) → TypedFrom Δ ds e t → Named Δ cs
+stays : {σ : Sizes} {Δ : Scope Sig} {ds : List Def} {e : Exp} {t : Ty} {cs : Scope ℕ} (f : Name) (c : ℕ) → TypedFromUnder σ Δ ds e t → Named Δ cs
     → nearest f cs ≡ some c → nearest f (body-costs ds cs) ≡ some c
 unfolding body-costs
 stays f c (typed-main p) m h = h
@@ -147,16 +149,16 @@ affordable {F} f g (beside-push {f = h} {g = r} {c = c} {fs = fs} {cs = cs} p q)
     by false e k = k e
 
 -- what a body calls is in sight and not the function itself, so it costs in the end what it cost when it was worked out
-body-same : {Δ : Scope Sig} {Γ : Scope Ty} {t : Ty} (d : Def) (F cs : Scope ℕ) → Named Δ cs
+body-same : {σ : Sizes} {Δ : Scope Sig} {Γ : Scope Ty} {t : Ty} (d : Def) (F cs : Scope ℕ) → Named Δ cs
     → ((f : Name) (c : ℕ) → nearest f cs ≡ some c → nearest f F ≡ some c)
-    → Typed (with-def Δ d) Γ (d .body) t → endless (λ f. same f (d .called)) (d .body) ≡ none → cost F (d .body) ≡ cost cs (d .body)
+    → TypedUnder σ (with-def Δ d) Γ (d .body) t → endless (λ f. same f (d .called)) (d .body) ≡ none → cost F (d .body) ≡ cost cs (d .body)
 unfolding nearest
-body-same {Δ} d F cs m up p h = cost-same (λ f. same f (d .called)) (with-def Δ d) F cs agree p h
+body-same {Δ = Δ} d F cs m up p h = cost-same (λ f. same f (d .called)) (with-def Δ d) F cs agree p h
   where
     agree : (f : Name) (s : Sig) → nearest f (with-def Δ d) ≡ some s → same f (d .called) ≡ false → nearest f F ≡ nearest f cs
     agree f s e k = let c = sighted f s m (rw k at e) in up f (c .0) (c .1) ∙ sym (c .1)
 
-beside-all : {Δ : Scope Sig} {ds : List Def} {e : Exp} {t : Ty} {fs : Scope Fun} {cs : Scope ℕ} (F : Scope ℕ) → TypedFrom Δ ds e t
+beside-all : {σ : Sizes} {Δ : Scope Sig} {ds : List Def} {e : Exp} {t : Ty} {fs : Scope Fun} {cs : Scope ℕ} (F : Scope ℕ) → TypedFromUnder σ Δ ds e t
     → endless-from ds e ≡ none → Named Δ cs → body-costs ds cs ≡ F → Beside F fs cs → Beside F (functions ds fs) F
 unfolding endless-from body-costs functions
 beside-all F (typed-main p) h m k q = subst (Beside F _) k q
@@ -174,7 +176,7 @@ last-endless (d ∷ ds) e h = last-endless ds e (right-none _ _ h)
 
 -- ---- a run
 
-run-in : (p : Program) (t : Ty) (allowance room : ℕ) → HasType p t → first-endless p ≡ none → units-most p ≤ allowance
+run-in : {σ : Sizes} (p : Program) (t : Ty) (allowance room : ℕ) → HasTypeUnder σ p t → first-endless p ≡ none → units-most p ≤ allowance
     → Within (units-most p) allowance (run p allowance room)
 unfolding units-most run
 run-in p t a r h k l =
@@ -195,7 +197,8 @@ stop-used {n} {u} {i} {w = w} {s = s} h e = used (subst (Within n u) e h)
     used (in-stop a k) = (a, k .most)
 
 -- R10.6: the units used are those that the allowance has lost
-module _ (p : Program) (t : Ty) (allowance room : ℕ) (typed : HasType p t) (ends : first-endless p ≡ none) (enough : units-most p ≤ allowance) where
+module _ {σ : Sizes} (p : Program) (t : Ty) (allowance room : ℕ) (typed : HasTypeUnder σ p t) (ends : first-endless p ≡ none)
+    (enough : units-most p ≤ allowance) where
   pub value-in-count : (v : Value) (s : State) → run p allowance room ≡ value v s → allowance - s .units ≤ units-most p
   value-in-count v s e = omega (arith, value-used (run-in p t allowance room typed ends enough) e)
 

@@ -1,6 +1,7 @@
 -- What is answered under some sizes is answered under larger ones, with the table memory that those ask for (R13.4): check tells the
--- same number, place and type, run the same end at the same place, value, units and bytes, write and store the same bytes. Only what
--- is a matter of size may change: 10, 14, 30, 34, 40 and 44. It is said over any origin; `Wider` has the three there are.
+-- same number, place and type, run the same end at the same place, value, units and bytes, write and store the same bytes, profile the
+-- same number, place, type and count. Only what is a matter of size may change: 10, 14, 30, 34, 40 and 44. It is said over any origin;
+-- `Wider` has the three there are.
 use mathlib.Core.Bool.{false}
 use mathlib.Core.List.{List}
 use mathlib.Core.Path.{_≡_, refl, sym, subst}
@@ -16,6 +17,8 @@ use Rattle.language.specs.Answers.{left, CheckReport, check-report, Chec
 use Rattle.language.specs.Answers.{Lent, EnoughUnder, RunReport, RanUnder, run-short, run-large, run-refused, run-ended, RunUnder}
 use Rattle.language.specs.Writing.{WriteReport, write-report, WroteUnder, write-short, write-refused, write-long, write-passed}
 use Rattle.language.specs.Writing.{StoresUnder, store-short, store-refused, store-long, store-passed}
+use Rattle.language.specs.Profile.{ProfileReport, profile-report, ProfiledUnder, profile-short, profile-refused, profile-endless}
+use Rattle.language.specs.Profile.{profile-many, profile-passed, ProfileUnder}
 use Rattle.language.proofs.Sizes.Larger.{Larger, of-both, of-size, told-of-size}
 use Rattle.language.proofs.Sizes.TypesLarger.{type-larger}
 use Rattle.language.proofs.Sizes.FaultsLarger.{has-fault-larger}
@@ -116,3 +119,23 @@ module _ {σ τ : Sizes} (l : Larger σ τ) {P : Type 0} {o q : Origin P} (w : W
   stores-larger n h k (store-refused b a) = store-refused h (refused-larger k a)
   stores-larger n h k (store-long b a c) = of-both k
   stores-larger n {r} h k (store-passed b a c) = store-at r (sym (w .nowhere)) (store-passed h (passes-larger a) c)
+
+  -- ---- profile
+
+  profile-at : {table : ℕ} (r : ProfileReport P) {x y : P} → x ≡ y → ProfiledUnder τ q table (profile-report (r .told) x (r .type) (r .count))
+      → ProfiledUnder τ q table (profile-report (r .told) y (r .type) (r .count))
+  profile-at {table} r e a = subst (λ (x : P). ProfiledUnder τ q table (profile-report (r .told) x (r .type) (r .count))) e a
+
+  -- what passes the profile passes it with the same type and count; 43 stays at its node, and so does 45
+  pub profiled-larger : {table : ℕ} (n : ℕ) {r : ProfileReport P} → τ .table ≤ n → told-of-size (r .told) ≡ false
+      → ProfiledUnder σ o table r → ProfiledUnder τ q n r
+  profiled-larger n h k (profile-short a) = of-both k
+  profiled-larger n h k (profile-refused b a) = profile-refused h (refused-larger k a)
+  profiled-larger n {r} h k (profile-endless {ts = ts} {i = i} b a e) = profile-at r (sym (w .at ts i)) (profile-endless h (passes-larger a) e)
+  profiled-larger n {r} h k (profile-many b a e m) = profile-at r (sym (w .nowhere)) (profile-many h (passes-larger a) e m)
+  profiled-larger n {r} h k (profile-passed b a e m) = profile-at r (sym (w .nowhere)) (profile-passed h (passes-larger a) e m)
+
+  -- its contract
+  pub profile-larger : {table after : List ℕ} (table′ : List ℕ) {r : ProfileReport P} → τ .table ≤ length table′ → told-of-size (r .told) ≡ false
+      → ProfileUnder σ o table r after → ProfileUnder τ q table′ r (left (r .told) (τ .table) table′)
+  profile-larger table′ h k a = record { answer = profiled-larger (length table′) h k (a .answer); table-left = refl }

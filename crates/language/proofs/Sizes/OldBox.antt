@@ -13,13 +13,14 @@ use Rattle.language.specs.Text.{many-tokens}
 use Rattle.language.specs.Numbers.{text, refused}
 use Rattle.language.specs.Answers.{Origin, RefusedUnder, by-origin, CheckReport, check-report, CheckedUnder, check-refused}
 use Rattle.language.specs.Answers.{Lent, EnoughUnder, RunReport, refusal, RanUnder, run-refused}
+use Rattle.language.specs.Profile.{ProfileReport, ProfiledUnder}
 use Rattle.language.specs.Stored.{COUNT, capital, hex, line, count-line, FirstCount, large-count}
 use Rattle.language.specs.Edition.{edition, known, text-in-under, stored-in-under, pair-in-under}
 use Rattle.language.proofs.Answers.OneAnswer.{one-checked, one-ran}
 use Rattle.language.proofs.Stored.Editions.{stored-in-lawful-under}
 use Rattle.language.proofs.Sizes.Larger.{Larger, told-of-size}
 use Rattle.language.proofs.Sizes.Wider.{Wider, text-in-wider, pair-in-wider, stored-in-wider}
-use Rattle.language.proofs.Sizes.AnswersLarger.{with-table, checked-larger, ran-larger}
+use Rattle.language.proofs.Sizes.AnswersLarger.{with-table, checked-larger, ran-larger, profiled-larger}
 
 -- ---- a count above the size, under any sizes that a count can tell
 
@@ -84,6 +85,10 @@ module _ {P : Type 0} {o q : Origin P} (w : Wider o q) where
   pub run-stays : {l : Lent} (table′ : ℕ) {r : RunReport P} {bs : List ℕ} → BOX .table ≤ table′ → told-of-size (r .told) ≡ false
       → RanUnder OLD o l r bs → RanUnder BOX q (with-table table′ l) r bs
   run-stays = ran-larger box-larger w
+
+  pub profile-stays : {table : ℕ} (table′ : ℕ) {r : ProfileReport P} → BOX .table ≤ table′ → told-of-size (r .told) ≡ false
+      → ProfiledUnder OLD o table r → ProfiledUnder BOX q table′ r
+  profile-stays = profiled-larger box-larger w
 
 module _ (n : ℕ) where
   pub old-text : (source : List ℕ) → Wider (text-in-under OLD n source) (text-in-under BOX n source)
