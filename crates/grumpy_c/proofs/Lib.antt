@@ -1,3 +1,4 @@
+pub mod Distance
 pub mod TwosComplement
 pub mod Told
 pub mod ToldProfile

@@ -7,7 +7,7 @@ use Rattle.language.specs.Sizes.{LARGEST, LINES}
 use Rattle.tally.specs.Combining.{not-paid}
 use Rattle.tally.specs.Stands.{report-in}
 use Rattle.tally.specs.declared.sums.Sums.{Sums}
-use Rattle.tally.proofs.Combined.{swap-lt, swap-le, sized, long-not, others-not, sum-not, least-not, largest-last}
+use Rattle.tally.proofs.Combined.{swap-lt, swap-le, long-not, others-not, sum-not, least-not, largest-last}
 use borrow.Author.Needs.{needs}
 use Rattle.tally.proofs.combining.possible.Statement.{statement}
 use Rattle.tally.proofs.combining.possible.Tie as tie
