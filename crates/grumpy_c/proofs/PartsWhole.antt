@@ -19,11 +19,10 @@ use Rattle.language.specs.Shift as Shift
 use Rattle.language.specs.Sizes.{LINES}
 use Rattle.language.specs.State as State
 use Rattle.language.proofs.Shift.Combining.{combined-is-whole}
-use Rattle.language.proofs.Shift.Joins.{report-possible}
+use Rattle.language.proofs.Shift.Possible.{Possible, possible-so, report-possible, sum-size, least-size, largest-size}
 use Rattle.language.proofs.Shift.LineOutcomes.{Admitted}
 use Rattle.language.proofs.Shift.Totals.{all-in-range, come-long}
 use Rattle.language.proofs.Text.Choices.{either}
-use Rattle.tally.proofs.Combined.{Possible, possible-so}
 use Rattle.tally.specs.Stands.{report-in}
 use Rattle.shift.specs.Combining.{told-in}
 use Rattle.grumpy_c.specs.Combining.{capped, ending-in, counts-in, finished-in, told-of-both, CombinedC, combine-no-room, combine-told}
@@ -68,9 +67,9 @@ module _ (w : List ℕ) (n : ℕ) (r : Report) (p : Possible r) where
   report-back : report-in (counts-in (with-front w (report-words n r))) ≡ r
   unfolding with-front report-words
   report-back =
-      let sum : SFits w64 (r .sum) = record { sfits = omega (arith, p .sum, p .lines) } in
-      let least : SFits w64 (r .least) = record { sfits = omega (arith, p .least) } in
-      let largest : SFits w64 (r .largest) = record { sfits = omega (arith, p .largest) } in
+      let sum : SFits w64 (r .sum) = record { sfits = omega (arith, sum-size p, p .lines) } in
+      let least : SFits w64 (r .least) = record { sfits = omega (arith, least-size p) } in
+      let largest : SFits w64 (r .largest) = record { sfits = omega (arith, largest-size p) } in
       λ i. record {
         lines = capped-same (r .lines) (p .lines) i;
         bad = capped-same (r .bad) (omega (arith, p .others, p .lines)) i;
@@ -103,7 +102,7 @@ module _ {ed : ℕ} {book : List ℕ} {l : Lent} (ready : Admitted ed book l) wh
   shift-possible {input} {r = r} x =
       let few : length (x .outcomes) ≤ LINES = omega (arith, come-long (x .come), length-take LINES (lines input)) in
       possible-so r
-      (subst (λ (r : Report). possible r ≡ true) (sym (x .reports)) (report-possible (x .outcomes) few (all-in-range ready (x .come))))
+      (subst (λ (r : Report). possible r ≡ true) (sym (x .reports)) (report-possible (record { few = few; ints = all-in-range ready (x .come) })))
 
   read-part : {input output w w′ output′ : List ℕ} {n : ℕ} (x : Reported ed book l input output w w′ n output′)
       → told-in (finished-in w′) ≡ record { told = x .told; report = x .written }

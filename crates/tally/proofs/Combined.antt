@@ -93,7 +93,8 @@ module _ (r : Report) where
         → b ≡ possible r
     unfolding possible
     pays-last o e x y z t =
-        let f = t ∙ rw (back {z = r .sum} x, back {z = r .least} y, back {z = r .largest} z, e) in
+        let f : _ ≡ payable (paid-lines r) (r .sum) (r .least) (r .largest) =
+        t ∙ rw (back {z = r .sum} x, back {z = r .least} y, back {z = r .largest} z, e) in
         rw (le-leb (r .lines) LINES l, le-leb (not-paid r) (r .lines) o) f
 
     pub paid-few-lines : {n : ℕ} → n ≡ paid-lines r → n ≤ LINES

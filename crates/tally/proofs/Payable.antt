@@ -6,7 +6,8 @@ use mathlib.Core.Bool.{Bool, true, false, _&&_}
 use mathlib.Core.Path.{_≡_, refl, sym, ap, subst, _∙_}
 use borrow.Author.Tests.{ltb-true, ltb-false, le-leb, lt-leb, lt-ltb, le-ltb, eq-eqb, ne-eqb}
 use mir.Syntax.{w64}
-use mir.Val.{SFits}
+use mir.Facts.{toZ-ofZ, toZ-pos}
+use mir.Val.{SFits, toZ, ofZ}
 use native.Mathlib.Nat.{mul-le-mul}
 use native.Mathlib.Omega.{arith}
 use Prim.Native.Nat.{ℕ, zero, suc, _+_, _-_, _*_, _^_, _≤_, _<_}
@@ -69,10 +70,10 @@ neg-mag zero = omega arith
 neg-mag (suc n) = omega arith
 
 times-mag : (n : ℕ) (z : ℤ) → n ≤ LINES → mag z ≤ LARGEST → mag (pos n *ℤ z) ≤ 140737488355328
-times-mag n (pos k) h l = omega (arith, mul-le-mul {a = n} {b = LINES} {c = k} {d = LARGEST} h l)
+times-mag n (pos k) h l = omega (arith, mul-le-mul h l)
 times-mag n (negsuc k) h l =
     let m : suc k ≤ 2147483648 = omega arith in
-    omega (arith, neg-mag (n * suc k), mul-le-mul {a = n} {b = LINES} {c = suc k} {d = 2147483648} h m)
+    omega (arith, neg-mag (n * suc k), mul-le-mul h m)
 
 module _ (n : ℕ) (y z : ℤ) (p : (in-range y ≡ true) × (in-range z ≡ true) × (n ≤ LINES)) where
   pub times-fits : SFits w64 (pos n *ℤ z)
@@ -80,6 +81,44 @@ module _ (n : ℕ) (y z : ℤ) (p : (in-range y ≡ true) × (in-range z ≡ tru
 
   pub with-fits : SFits w64 (y +ℤ pos n *ℤ z)
   with-fits = record { sfits = omega (arith, mag-plus y (pos n *ℤ z), range-mag y (p .0), times-mag n z (p .2) (range-mag z (p .1))) }
+
+-- ---- read from their bits
+
+-- a count that is small
+pub plain : (n : ℕ) → n ≤ LINES → toZ w64 n ≡ pos n
+plain n h = toZ-pos w64 (omega arith)
+
+pub told-back : (f : ℤ → Bool) {b : Bool} {z : ℤ} → SFits w64 z → b ≡ f (toZ w64 (ofZ w64 z)) → b ≡ f z
+told-back f h e = e ∙ rw (toZ-ofZ {w = w64} h)
+
+pub told-three : (f : ℤ → ℤ → ℤ → Bool) {b : Bool} {x y z : ℤ} → SFits w64 x → SFits w64 y → SFits w64 z
+    → b ≡ f (toZ w64 (ofZ w64 x)) (toZ w64 (ofZ w64 y)) (toZ w64 (ofZ w64 z)) → b ≡ f x y z
+told-three f h k l e = e ∙ rw (toZ-ofZ {w = w64} h, toZ-ofZ {w = w64} k, toZ-ofZ {w = w64} l)
+
+pub ints-back : {z : ℤ} → SFits w64 z → in-range z ≡ true → in-range (toZ w64 (ofZ w64 z)) ≡ true
+ints-back h e = rw (toZ-ofZ {w = w64} h) e
+
+pub others-back : (n : ℕ) {x y z : ℤ} → SFits w64 y → SFits w64 z → x ≡ toZ w64 (ofZ w64 y) +ℤ pos n *ℤ toZ w64 (ofZ w64 z)
+    → x ≡ y +ℤ pos n *ℤ z
+others-back n h k e = e ∙ rw (toZ-ofZ {w = w64} h, toZ-ofZ {w = w64} k)
+
+-- whether a sum is between two
+abbrev pub in-between : ℕ → ℤ → ℤ → ℤ → Bool
+in-between n s l g = leZ (g +ℤ pos n *ℤ l) s && leZ s (l +ℤ pos n *ℤ g)
+
+pub between-back : (n : ℕ) {s l g : ℤ} {b : Bool} → SFits w64 s → SFits w64 l → SFits w64 g
+    → b ≡ in-between n (toZ w64 (ofZ w64 s)) (toZ w64 (ofZ w64 l)) (toZ w64 (ofZ w64 g)) → b ≡ in-between n s l g
+between-back n h k l e = told-three (in-between n) h k l e
+
+module _ (n : ℕ) (s l g : ℤ) {x y : ℤ} (p : x ≡ g +ℤ pos n *ℤ l) (q : y ≡ l +ℤ pos n *ℤ g) where
+  pub low-not : ltZ s x ≡ true → false ≡ in-between n s l g
+  low-not e = rw (less-not s (g +ℤ pos n *ℤ l) (rw p at e))
+
+  pub high-not : ltZ s x ≡ false → ltZ y s ≡ true → false ≡ in-between n s l g
+  high-not e f = rw (not-less s (g +ℤ pos n *ℤ l) (rw p at e), less-not (l +ℤ pos n *ℤ g) s (rw q at f))
+
+  pub both-so : ltZ s x ≡ false → ltZ y s ≡ false → true ≡ in-between n s l g
+  both-so e f = rw (not-less s (g +ℤ pos n *ℤ l) (rw p at e), not-less (l +ℤ pos n *ℤ g) s (rw q at f))
 
 -- ---- nobody
 

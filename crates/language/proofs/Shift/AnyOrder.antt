@@ -1,6 +1,6 @@
 -- Reports may be combined in whichever order, two by two as they come: whatever they are, it does not matter which two are
--- combined first; a report of no lines changes nothing, and where nothing but 46 was told it does not matter which of two is
--- the first (R14.6).
+-- combined first; a report of no lines changes nothing, and where neither is refused it does not matter which of two is the
+-- first (R14.6).
 use lib.Dec.{eqb, leb}
 use lib.IntN.{ℤ, pos, negsuc, +ℤ-comm}
 use lib.ListN.{length, length-append}
@@ -9,8 +9,8 @@ use mathlib.Core.Bool.{Bool, true, false, cond, _&&_}
 use mathlib.Core.List.{List, [], _∷_, _++_, append-assoc}
 use mathlib.Core.Logic.{_⊎_, inl, inr, ⊎-elim}
 use mathlib.Core.Option.{Option, none, some}
-use mathlib.Core.Path.{_≡_, refl, sym, ap, subst, _∙_}
-use borrow.Author.Tests.{ltb-true, ltb-false, eqb-true}
+use mathlib.Core.Path.{_≡_, refl, sym, ap, ap₂, subst, _∙_}
+use borrow.Author.Tests.{ltb-true, ltb-false, leb-true, eqb-true}
 use native.Mathlib.Nat.{add-comm}
 use native.Mathlib.Omega.{arith}
 use Prim.Native.Nat.{ℕ, _+_, _≤_, _<_}
@@ -18,11 +18,11 @@ use Rattle.language.specs.Sizes.{LINES}
 use Rattle.language.specs.Shift.{Outcome, tally, is-bad, is-stop, pays, total, lesser, greater, chosen, Report, report-of}
 use Rattle.language.specs.Shift.{ShiftRefusal, sheet, no-book, many-lines}
 use Rattle.language.specs.Combining.{paid-lines, possible, either-pay, both, addable, Ending, no-report, without-sums, together, combined}
-use Rattle.language.proofs.Text.Choices.{either, clash, outcome}
+use Rattle.language.proofs.Text.Choices.{either, clash, outcome, and-both}
 use Rattle.language.proofs.Shift.Totals.{AllInRange, all-none, all-more}
 use Rattle.language.proofs.Shift.Joins.{pays-join, paid-counted, report-join, report-none}
-use Rattle.language.proofs.Shift.Possible.{Few, possible-came}
-use Rattle.language.proofs.Shift.Combining.{add-few, add-many}
+use Rattle.language.proofs.Shift.Possible.{Few, report-possible, possible-came}
+use Rattle.language.proofs.Shift.Combining.{lines-told, add-few, add-many}
 
 abbrev told : List Outcome → Ending
 told os = record { told = none; report = report-of os }
@@ -175,17 +175,32 @@ combined-assoc x y z =
     ∙ sym (a .first (combined (b .other) (c .other)))
     ∙ sym (ap (combined x) yz)
 
+-- what is added is possible again
+pub both-possible : (r q : Report) → addable r q ≡ true → possible (both r q) ≡ true
+unfolding addable
+both-possible r q h =
+    let a = and-both (possible r) _ h in
+    let b = and-both (possible q) _ (a .1) in
+    let x = possible-came r (a .0) in
+    let y = possible-came q (b .0) in
+    let n : r .lines + q .lines ≤ LINES = leb-true _ _ (b .1) in
+    let e = ap₂ both (sym (x .reported)) (sym (y .reported)) ∙ sym (report-join (x .outcomes) (y .outcomes)) in
+    let i : length (x .outcomes) ≡ r .lines = sym (lines-told (x .outcomes)) ∙ ap (λ (r : Report). r .lines) (x .reported) in
+    let j : length (y .outcomes) ≡ q .lines = sym (lines-told (y .outcomes)) ∙ ap (λ (r : Report). r .lines) (y .reported) in
+    rw e (report-possible (join-few (x .real) (y .real) (omega (arith, n, i, j))))
+
 -- ---- no lines
 
 none-few : Few []
 unfolding pays
 none-few = record { few = omega arith; ints = all-none }
 
-pub combined-with-none : {os : List Outcome} → Few os
-    → combined (record { told = none; report = no-report }) (told os) ≡ told os
-combined-with-none {os} h =
-    subst (λ (r : Report). together r (report-of os) ≡ told os) report-none
-    (add-few none-few h (omega (arith, h .few)))
+pub combined-with-none : (r : Report) → possible r ≡ true → combined (plain no-report) (plain r) ≡ plain r
+combined-with-none r e =
+    let x = possible-came r e in
+    subst (λ (r : Report). together no-report r ≡ plain r) (x .reported)
+    (subst (λ (q : Report). together q (report-of (x .outcomes)) ≡ told (x .outcomes)) report-none
+    (add-few none-few (x .real) (omega (arith, x .real .few))))
 
 -- ---- which is the first
 
@@ -241,7 +256,7 @@ unpaid f os e = go (pays os) (sym (paid-counted os) ∙ e)
     go [] h = chosen-none f
     go (z ∷ zs) h = absurd (omega arith)
 
-pub both-comm : (os ps : List Outcome) → both (report-of os) (report-of ps) ≡ both (report-of ps) (report-of os)
+both-comm : (os ps : List Outcome) → both (report-of os) (report-of ps) ≡ both (report-of ps) (report-of os)
 unfolding both report-of
 both-comm os ps =
     let n = paid-lines (report-of os) in
@@ -257,11 +272,23 @@ both-comm os ps =
       largest = g i;
     }
 
-pub combined-comm : {os ps : List Outcome} → Few os → Few ps → combined (told os) (told ps) ≡ combined (told ps) (told os)
-combined-comm {os} {ps} h k = go (either LINES (length os + length ps))
+few-comm : {os ps : List Outcome} → Few os → Few ps → combined (told os) (told ps) ≡ combined (told ps) (told os)
+few-comm {os} {ps} h k = go (either LINES (length os + length ps))
   where
     go : (LINES < length os + length ps) ⊎ (length os + length ps ≤ LINES) → combined (told os) (told ps) ≡ combined (told ps) (told os)
     go (inl n) = add-many h k n ∙ sym (add-many k h (omega arith))
     go (inr n) =
         let e = report-join os ps ∙ both-comm os ps ∙ sym (report-join ps os) in
         add-few h k n ∙ ap (λ (r : Report). record { told = none; report = r }) e ∙ sym (add-few k h (omega arith))
+
+-- whatever the two are
+pub combined-comm : (r q : Report) → combined (plain r) (plain q) ≡ combined (plain q) (plain r)
+combined-comm r q = go (outcome (possible r)) (outcome (possible q))
+  where
+    go : (possible r ≡ true) ⊎ (possible r ≡ false) → (possible q ≡ true) ⊎ (possible q ≡ false) → together r q ≡ together q r
+    go (inr e) f = first-not r q e ∙ sym (second-not r q e)
+    go (inl e) (inr f) = second-not q r f ∙ sym (first-not q r f)
+    go (inl e) (inl f) =
+        let a = possible-came r e in
+        let b = possible-came q f in
+        ap₂ together (sym (a .reported)) (sym (b .reported)) ∙ few-comm (a .real) (b .real) ∙ ap₂ together (b .reported) (a .reported)

@@ -82,7 +82,7 @@ told-few : (ls : List Line) → length ls ≤ LINES → told-of ls ≡ none
 unfolding told-of
 told-few ls h = rw (le-ltb LINES (length ls) h)
 
-lines-told : (os : List Outcome) → report-of os .lines ≡ length os
+pub lines-told : (os : List Outcome) → report-of os .lines ≡ length os
 unfolding report-of
 lines-told os = refl
 
