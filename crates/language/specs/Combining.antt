@@ -24,7 +24,7 @@ all-stops n =
     + (n out-of-range
     + (n zero-divisor + (n cell-freed + (n cells-full + (n not-a-byte + (n output-full + n zero-step)))))))
 
--- lines that were paid; least and largest say nothing where there is none
+-- lines that were paid
 abbrev pub paid-lines : Report → ℕ
 paid-lines r = r .lines - (r .bad + all-stops (r .stops))
 
@@ -41,7 +41,7 @@ payable (suc others) sum least largest =
     && (leZ (largest +ℤ pos others *ℤ least) sum && leZ sum (least +ℤ pos others *ℤ largest))))
 
 -- Whether counts and sums can be those of a shift: not too many lines, no more bad and stopped ones than there are, and
--- pays that the others can have had. Some outcomes come to exactly these (proofs/Shift/Possible).
+-- pays that the others can have had. These are exactly the reports that some outcomes have (proofs/Shift/Possible).
 unfoldable pub possible : Report → Bool
 possible r =
     leb (r .lines) LINES
@@ -63,7 +63,7 @@ both r q = record {
   largest = either-pay greater (paid-lines r) (r .largest) (paid-lines q) (q .largest);
 }
 
--- they are reports of as many lines together as a shift may have
+-- they can be those of shifts, and are of no more lines together than one may have
 unfoldable pub addable : Report → Report → Bool
 addable r q = possible r && (possible q && leb (r .lines + q .lines) LINES)
 

@@ -1,16 +1,16 @@
 -- Laws over plain numbers that the proofs of `tally::paying` cite.
-use lib.Dec.{leb, ltb}
+use lib.Dec.{eqb}
 use lib.IntN.{ℤ, pos, negsuc, negℤ, _+ℤ_, _*ℤ_}
 use lib.Signed.{mag, ltZ, leZ}
 use mathlib.Core.Bool.{Bool, true, false, _&&_}
-use mathlib.Core.Path.{_≡_, refl, sym, ap, subst, _∙_}
-use borrow.Author.Tests.{ltb-true, ltb-false, le-leb, lt-leb, lt-ltb, le-ltb, eq-eqb, ne-eqb}
+use mathlib.Core.Path.{_≡_, refl, sym, subst, _∙_}
+use borrow.Author.Tests.{ltb-true, ltb-false, le-leb, lt-leb, ne-eqb}
 use mir.Syntax.{w64}
 use mir.Facts.{toZ-ofZ, toZ-pos}
 use mir.Val.{SFits, toZ, ofZ}
 use native.Mathlib.Nat.{mul-le-mul}
 use native.Mathlib.Omega.{arith}
-use Prim.Native.Nat.{ℕ, zero, suc, _+_, _-_, _*_, _^_, _≤_, _<_}
+use Prim.Native.Nat.{ℕ, zero, suc, _-_, _*_, _^_, _≤_}
 use Rattle.language.specs.Sizes.{LARGEST, LINES}
 use Rattle.language.specs.Meaning.{in-range, is-zero}
 use Rattle.language.specs.Combining.{payable}
@@ -34,20 +34,11 @@ unfolding in-range
 within (pos n) e f = sym (le-leb n LARGEST (ltb-false 2147483647 n f))
 within (negsuc n) e f = sym (le-leb n LARGEST (ltb-false 2147483647 n e))
 
-pub below-zero : (z : ℤ) → ltZ z (pos 0) ≡ true → false ≡ is-zero z
+-- by its bits
+pub zero-bits : (z : ℤ) → SFits w64 z → eqb (ofZ w64 z) 0 ≡ is-zero z
 unfolding is-zero
-below-zero (pos n) e = let h : n < 0 = ltb-true n 0 e in absurd (omega arith)
-below-zero (negsuc n) e = refl
-
-pub above-zero : (z : ℤ) → ltZ (pos 0) z ≡ true → false ≡ is-zero z
-unfolding is-zero
-above-zero (pos n) e = let h : 0 < n = ltb-true 0 n e in sym (ne-eqb n 0 (λ k. omega arith))
-above-zero (negsuc n) e = refl
-
-pub at-zero : (z : ℤ) → ltZ z (pos 0) ≡ false → ltZ (pos 0) z ≡ false → true ≡ is-zero z
-unfolding is-zero
-at-zero (pos n) e f = let h : n ≤ 0 = ltb-false 0 n f in sym (eq-eqb n 0 (omega arith))
-at-zero (negsuc n) e f = absurd (clash refl e)
+zero-bits (pos n) f = refl
+zero-bits (negsuc n) f = ne-eqb (2 ^ 64 - suc n) 0 (λ e. omega (arith, f .sfits))
 
 -- ---- an order by the other test
 

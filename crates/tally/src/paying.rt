@@ -28,13 +28,7 @@ fn is_int(z: i64) -> bool
 fn is_none(z: i64) -> bool
     ensures { λ r. ⌜ r ≡ is-zero z ⌝ }
 {
-    if z < 0 {
-        return false;
-    }
-    if 0 < z {
-        return false;
-    }
-    true
+    z == 0
 }
 
 // Where nobody was paid there is nothing to tell.

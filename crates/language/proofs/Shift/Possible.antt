@@ -20,9 +20,9 @@ use Rattle.language.specs.Combining.{all-stops, paid-lines, payable, pos
 use Rattle.language.proofs.Text.Choices.{clash, and-both}
 use Rattle.language.proofs.Shift.Totals.{AllInRange, all-none, all-more, range-mag, total-mag}
 use Rattle.language.proofs.Shift.Joins.{stops-in, each-counted, paid-counted}
-use Rattle.language.proofs.Shift.Sides.{above, below, Under, le-under, under-le}
+use Rattle.language.proofs.Shift.Sides.{above, below, le-under, under-le}
 use Rattle.language.proofs.Shift.Spread.{Each, each-none, each-more, Within, least-first, least-each, largest-first, largest-each}
-use Rattle.language.proofs.Shift.Spread.{sum-over, sum-under, Spread, spread}
+use Rattle.language.proofs.Shift.Spread.{sum-over, sum-under, spread}
 
 -- outcomes that are few enough, and their pays ints
 pub record Few (os : List Outcome) : Type 0 where
@@ -222,7 +222,9 @@ module _ (r : Report) (zs : List ℤ) where
   came-pays = bad-unpaid (r .bad) _ ∙ stopped-pays (r .stops) (all-paid zs) ∙ paid-pays zs
 
   came-bad : tally is-bad came ≡ r .bad
-  came-bad = omega (arith, many-tally is-bad (r .bad) bad (all-stopped (r .stops) (all-paid zs)), stopped-tally (r .stops) is-bad (all-paid zs), paid-not-bad zs)
+  came-bad =
+      let rest = many-tally is-bad (r .bad) bad (all-stopped (r .stops) (all-paid zs)) in
+      omega (arith, rest, stopped-tally (r .stops) is-bad (all-paid zs), paid-not-bad zs)
 
   module _ (s : State.Stop) where
     rest-told : tally (is-stop s) came ≡ 0 + tally (is-stop s) (all-stopped (r .stops) (all-paid zs))

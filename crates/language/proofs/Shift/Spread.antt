@@ -7,9 +7,9 @@ use mathlib.Core.Bool.{Bool, true, false}
 use mathlib.Core.List.{List, [], _∷_}
 use mathlib.Core.Path.{_≡_, refl, ap, subst, _∙_}
 use native.Mathlib.Omega.{arith}
-use Prim.Native.Nat.{ℕ, zero, suc, _+_, _≤_}
+use Prim.Native.Nat.{ℕ, zero, suc}
 use Rattle.language.specs.Shift.{total, lesser, greater, chosen-from, chosen}
-use Rattle.language.proofs.Shift.Sides.{above, below, Under, under-same, plus-sides, minus-sides, zero-sides, times-none, times-more}
+use Rattle.language.proofs.Shift.Sides.{Under, under-same, plus-sides, minus-sides, zero-sides, times-none, times-more}
 use Rattle.language.proofs.Shift.Sides.{less-under, not-less-under, lesser-first, lesser-second, greater-first, greater-second}
 use Rattle.language.proofs.Shift.Sides.{lesser-is-first, greater-is-first, greater-is-second, greater-over, lesser-under}
 
@@ -54,7 +54,8 @@ unfolding chosen-from total
 sum-over l y [] h each-none = over-one l y
 sum-over l y (z ∷ zs) h (each-more k ks) =
     let j = sum-over l (greater y z) zs (omega (arith, greater-first y z)) ks in
-    rw (times-more (length zs) l) (over-step (chosen-from greater (greater y z) zs) (pos (length zs) *ℤ l) l y z (greater y z) (total zs) j (greater-over y z l h k))
+    rw (times-more (length zs) l)
+    (over-step (chosen-from greater (greater y z) zs) (pos (length zs) *ℤ l) l y z (greater y z) (total zs) j (greater-over y z l h k))
 
 under-one : (g y : ℤ) → Under (y +ℤ pos 0) (y +ℤ pos 0 *ℤ g)
 under-one g y = rw (times-none g) (omega arith)
@@ -69,7 +70,8 @@ unfolding chosen-from total
 sum-under g y [] h each-none = under-one g y
 sum-under g y (z ∷ zs) h (each-more k ks) =
     let j = sum-under g (lesser y z) zs (omega (arith, lesser-first y z)) ks in
-    rw (times-more (length zs) g) (under-step (chosen-from lesser (lesser y z) zs) (pos (length zs) *ℤ g) g y z (lesser y z) (total zs) j (lesser-under y z g h k))
+    rw (times-more (length zs) g)
+    (under-step (chosen-from lesser (lesser y z) zs) (pos (length zs) *ℤ g) g y z (lesser y z) (total zs) j (lesser-under y z g h k))
 
 -- ---- every sum between is one
 
@@ -184,8 +186,10 @@ unfolding total chosen chosen-from
 spread zero s l g p h k =
     let a = rw (times-none l) at h in
     let b = rw (times-none g) at k in
-    let e : s ≡ l = under-same s l (omega (arith, plus-sides l (pos 0), zero-sides .0, zero-sides .1)) (omega (arith, plus-sides g (pos 0), zero-sides .0, zero-sides .1)) in
-    let f : s ≡ g = under-same s g (omega (arith, plus-sides l (pos 0), zero-sides .0, zero-sides .1)) (omega (arith, plus-sides g (pos 0), zero-sides .0, zero-sides .1)) in
+    let low : Under g s = omega (arith, plus-sides g (pos 0), zero-sides .0, zero-sides .1) in
+    let high : Under s l = omega (arith, plus-sides l (pos 0), zero-sides .0, zero-sides .1) in
+    let e : s ≡ l = under-same s l high (omega arith) in
+    let f : s ≡ g = under-same s g (omega arith) low in
     record {
       pays = s ∷ [];
       many = refl;

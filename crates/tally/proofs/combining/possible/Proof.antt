@@ -1,5 +1,4 @@
 use Rattle.tally.specs.Stands.{report-in}
-use Rattle.tally.specs.declared.sums.Sums.{Sums}
 use Rattle.tally.proofs.Combined.{swap-lt, swap-le, long-not, others-not, pays-last, paid-few-lines}
 use borrow.Author.Needs.{needs}
 use Rattle.tally.proofs.combining.possible.Statement.{statement}

@@ -1,20 +1,9 @@
-use mir.Facts.{toZ-ofZ}
-use mir.Syntax.{w64}
-use Rattle.tally.proofs.Payable.{below-zero, above-zero, at-zero}
+use Rattle.tally.proofs.Payable.{zero-bits}
 use Rattle.tally.proofs.paying.is_none.Statement.{statement}
 use Rattle.tally.proofs.paying.is_none.Tie as tie
 
 returns : tie.Need-returns
-returns c = below-zero (c .before .args .z) (rw (toZ-ofZ {w = w64} (c .before .fits .z)) at (c .if1 .taken))
-
-returns-2 : tie.Need-returns-2
-returns-2 c = above-zero (c .before .before .args .z) (rw (toZ-ofZ {w = w64} (c .before .before .fits .z)) at (c .if2 .taken))
-
-returns-3 : tie.Need-returns-3
-returns-3 c =
-    let start = c .before .before in
-    at-zero (start .args .z) (rw (toZ-ofZ {w = w64} (start .fits .z)) at (c .before .if1 .left))
-    (rw (toZ-ofZ {w = w64} (start .fits .z)) at (c .if2 .left))
+returns c = zero-bits (c .args .z) (c .fits .z)
 
 pub is-none-spec : {M : Type 1} → statement M
-is-none-spec = tie.close (tie.spec returns returns-2 returns-3)
+is-none-spec = tie.close (tie.spec returns)
