@@ -10,3 +10,4 @@ pub mod ShiftWhole
 pub mod OneShift
 pub mod ToldCombined
 pub mod PartsWhole
+pub mod AnyWords

@@ -5,7 +5,7 @@
 pub mod calls;
 pub mod combining;
 pub mod lines;
-pub mod paying;
+mod paying;
 pub mod sums;
 
 // Lines of a shift.
