@@ -108,9 +108,27 @@
  * combined two by two, in any order: grumpy_shift_combine takes two reports as grumpy_shift_finish writes them, of
  * GRUMPY_SHIFT_FINISH_REPORT words each, and writes that of both. Where the first part ends at a line's end it is
  * that of the whole, if they were paid by the same book with the same edition and allowance, and lent memories of
- * the same lengths. With more than GRUMPY_SHIFT_LINES lines together, or where one of the two says so, the number is
- * GRUMPY_MANY_LINES and all other words are 0; GRUMPY_NO_EDITION is told again, with 0 likewise. Words that no shift
- * can come to are answered with GRUMPY_MANY_LINES too.
+ * the same lengths. Nothing is believed of the words. In this order:
+ *
+ *     where [0] of one of the two is GRUMPY_NO_EDITION    the number is that, and all other words are 0
+ *     where [0] of one of the two is otherwise not 0      the number is GRUMPY_MANY_LINES, all other words 0
+ *     where no shift can come to one of the two           the same
+ *     where [1] of both together is more than GRUMPY_SHIFT_LINES    the same
+ *     else    the number is 0; [1] to [12] are those of both added; [13] and [14] are the lesser and the greater of
+ *             both, of parts in which a line was paid, and 0 where none was in either
+ *
+ * A shift can come to a report exactly where all of this holds of its words, in numbers that do not wrap, [12] to
+ * [14] each as an (int64_t):
+ *
+ *     [1] is at most GRUMPY_SHIFT_LINES
+ *     [2] + [3] + .. + [11] is at most [1]; the lines that were paid are [1] less that sum
+ *     where no line was paid, [12], [13] and [14] are 0
+ *     where some were, [13] and [14] are each from -2147483648 to 2147483647, and [13] is at most [14]
+ *     where some were, [14] + (paid - 1) * [13] is at most [12], and [12] is at most [13] + (paid - 1) * [14]
+ *
+ * By the last, the three are the same where one line was paid, and [12] is [13] + [14] where two were. These are the
+ * reports that some lines of bad ones, stops and ints have, and no others. So it does not matter which two of three
+ * reports are combined first, whatever stands in them.
  *
  * A state or report that is too short is answered with GRUMPY_SHORT_MEMORY, and nothing is changed.
  */

@@ -1,3 +1,4 @@
+pub mod Distance
 pub mod TwosComplement
 pub mod Told
 pub mod ToldProfile
@@ -9,3 +10,4 @@ pub mod ShiftWhole
 pub mod OneShift
 pub mod ToldCombined
 pub mod PartsWhole
+pub mod AnyWords

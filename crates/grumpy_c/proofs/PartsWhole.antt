@@ -14,16 +14,16 @@ use native.Mathlib.Omega.{arith}
 use Prim.Native.Nat.{ℕ, _≤_, _<_}
 use Rattle.language.specs.Answers.{Lent}
 use Rattle.language.specs.Combining.{all-stops, possible, Ending, combined, shown, AtLineEnd}
-use Rattle.language.specs.Shift.{ShiftRefusal, many-lines, lines, Report, told-of}
+use Rattle.language.specs.Numbers.{no-edition}
+use Rattle.language.specs.Shift.{ShiftRefusal, sheet, many-lines, lines, Report, told-of}
 use Rattle.language.specs.Shift as Shift
 use Rattle.language.specs.Sizes.{LINES}
 use Rattle.language.specs.State as State
 use Rattle.language.proofs.Shift.Combining.{combined-is-whole}
-use Rattle.language.proofs.Shift.Joins.{report-possible}
+use Rattle.language.proofs.Shift.Possible.{Possible, possible-so, report-possible, sum-size, least-size, largest-size}
 use Rattle.language.proofs.Shift.LineOutcomes.{Admitted}
 use Rattle.language.proofs.Shift.Totals.{all-in-range, come-long}
 use Rattle.language.proofs.Text.Choices.{either}
-use Rattle.tally.proofs.Combined.{Possible, possible-so}
 use Rattle.tally.specs.Stands.{report-in}
 use Rattle.shift.specs.Combining.{told-in}
 use Rattle.grumpy_c.specs.Combining.{capped, ending-in, counts-in, finished-in, told-of-both, CombinedC, combine-no-room, combine-told}
@@ -49,6 +49,12 @@ stop-few n State.not-a-byte = omega arith
 stop-few n State.output-full = omega arith
 stop-few n State.zero-step = omega arith
 
+-- what is told with the numbers that stand for themselves
+pub data Readable : Option ShiftRefusal → Type 0 where
+  read-none : Readable none
+  read-many : Readable (some many-lines)
+  read-edition : Readable (some (sheet no-edition))
+
 module _ (w : List ℕ) (n : ℕ) (r : Report) (p : Possible r) where
   stop-back : (s : State.Stop) → capped (r .stops s) ≡ r .stops s
   stop-back s = capped-same (r .stops s) (omega (arith, stop-few (r .stops) s, p .others, p .lines))
@@ -68,9 +74,9 @@ module _ (w : List ℕ) (n : ℕ) (r : Report) (p : Possible r) where
   report-back : report-in (counts-in (with-front w (report-words n r))) ≡ r
   unfolding with-front report-words
   report-back =
-      let sum : SFits w64 (r .sum) = record { sfits = omega (arith, p .sum, p .lines) } in
-      let least : SFits w64 (r .least) = record { sfits = omega (arith, p .least) } in
-      let largest : SFits w64 (r .largest) = record { sfits = omega (arith, p .largest) } in
+      let sum : SFits w64 (r .sum) = record { sfits = omega (arith, sum-size p, p .lines) } in
+      let least : SFits w64 (r .least) = record { sfits = omega (arith, least-size p) } in
+      let largest : SFits w64 (r .largest) = record { sfits = omega (arith, largest-size p) } in
       λ i. record {
         lines = capped-same (r .lines) (p .lines) i;
         bad = capped-same (r .bad) (omega (arith, p .others, p .lines)) i;
@@ -80,12 +86,13 @@ module _ (w : List ℕ) (n : ℕ) (r : Report) (p : Possible r) where
         largest = toZ-ofZ {w = w64} largest i;
       }
 
-  -- with the number that a report of lines has
-  pub words-back : (t : Option ShiftRefusal) → (t ≡ none) ⊎ (t ≡ some many-lines) → n ≡ told-number t
+  -- with a number that a report has
+  pub words-back : {t : Option ShiftRefusal} → Readable t → n ≡ told-number t
       → told-in (finished-in (with-front w (report-words n r))) ≡ record { told = t; report = r }
   unfolding finished-in with-front report-words ending-in
-  words-back t (inl e) m = rw (m, e) (λ i. record { told = none; report = report-back i })
-  words-back t (inr e) m = rw (m, e) (λ i. record { told = some many-lines; report = report-back i })
+  words-back read-none m = rw m (λ i. record { told = none; report = report-back i })
+  words-back read-many m = rw m (λ i. record { told = some many-lines; report = report-back i })
+  words-back read-edition m = rw m (λ i. record { told = some (sheet no-edition); report = report-back i })
 
 -- ---- what is told of a shift can be read again
 
@@ -97,19 +104,23 @@ told-either t input e = go (either LINES (length (lines input)))
     go (inl h) = inr (e ∙ rw (lt-ltb LINES (length (lines input)) h) refl)
     go (inr h) = inl (e ∙ rw (le-ltb LINES (length (lines input)) h) refl)
 
+told-readable : {t : Option ShiftRefusal} → (t ≡ none) ⊎ (t ≡ some many-lines) → Readable t
+told-readable (inl e) = subst Readable (sym e) read-none
+told-readable (inr e) = subst Readable (sym e) read-many
+
 module _ {ed : ℕ} {book : List ℕ} {l : Lent} (ready : Admitted ed book l) where
   shift-possible : {input output output′ : List ℕ} {told : Option ShiftRefusal} {r : Report} → Shift.Shift ed book l input output told r output′
       → Possible r
   shift-possible {input} {r = r} x =
       let few : length (x .outcomes) ≤ LINES = omega (arith, come-long (x .come), length-take LINES (lines input)) in
       possible-so r
-      (subst (λ (r : Report). possible r ≡ true) (sym (x .reports)) (report-possible (x .outcomes) few (all-in-range ready (x .come))))
+      (subst (λ (r : Report). possible r ≡ true) (sym (x .reports)) (report-possible (record { few = few; ints = all-in-range ready (x .come) })))
 
   read-part : {input output w w′ output′ : List ℕ} {n : ℕ} (x : Reported ed book l input output w w′ n output′)
       → told-in (finished-in w′) ≡ record { told = x .told; report = x .written }
   read-part {input} {w = w} {n = n} x =
       ap (λ (v : List ℕ). told-in (finished-in v)) (x .words)
-      ∙ words-back w n (x .written) (shift-possible (x .shift)) (x .told) (told-either (x .told) input (x .shift .refuses)) (x .number)
+      ∙ words-back w n (x .written) (shift-possible (x .shift)) (told-readable (told-either (x .told) input (x .shift .refuses))) (x .number)
 
   -- ---- combined
 

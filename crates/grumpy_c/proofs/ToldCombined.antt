@@ -74,7 +74,7 @@ module _ (first second report report′ : List ℕ) where
       (t ∙ ap (λ (e : Ending). with-front report (report-words n (e .report))) q)
 
 -- no two answers, nor two reports left
-short-not : {A : Type 0} (a b c : ℕ) → (a < FINISH) ⊎ ((b < FINISH) ⊎ (c < FINISH)) → FINISH ≤ a → FINISH ≤ b → FINISH ≤ c → A
+pub short-not : {A : Type 0} (a b c : ℕ) → (a < FINISH) ⊎ ((b < FINISH) ⊎ (c < FINISH)) → FINISH ≤ a → FINISH ≤ b → FINISH ≤ c → A
 short-not a b c (inl x) h k l = absurd (omega arith)
 short-not a b c (inr (inl x)) h k l = absurd (omega arith)
 short-not a b c (inr (inr x)) h k l = absurd (omega arith)

@@ -9,7 +9,7 @@ use borrow.Author.Tests.{ltb-true, lt-ltb, le-ltb}
 use mir.Facts.{toZ-ofZ, toZ-pos}
 use mir.Syntax.{w64}
 use mir.Val.{toZ, ofZ, SFits}
-use Rattle.tally.proofs.Distance.{below-fits}
+use Rattle.grumpy_c.proofs.Distance.{below-fits}
 
 pub complement-below : (z : ℤ) → ltZ z (pos 0) ≡ true → SFits w64 z → 18446744073709551615 - mag z ≡ ofZ w64 z
 complement-below (pos n) e f = let l : n < 0 = ltb-true n 0 e in absurd (omega arith)

@@ -12,6 +12,9 @@ pub mod Cuts
 pub mod Whole
 pub mod Totals
 pub mod Joins
+pub mod Sides
+pub mod Spread
+pub mod Possible
 pub mod Combining
 pub mod AnyOrder
 pub mod Books

@@ -4,13 +4,14 @@ use mathlib.Core.Bool.{Bool, cond, _&&_}
 use mathlib.Core.List.{List, [], _∷_, _++_}
 use mathlib.Core.Option.{Option, none, some}
 use Prim.Native.Char.{code}
-use Prim.Native.Nat.{ℕ, _+_, _-_, _*_, _^_}
+use Prim.Native.Nat.{ℕ, zero, suc, _+_, _-_}
 use lib.Dec.{eqb, leb}
-use lib.IntN.{ℤ, pos, _+ℤ_}
-use lib.Signed.{mag}
-use Rattle.language.specs.Sizes.{LARGEST, LINES}
+use lib.IntN.{ℤ, pos, _+ℤ_, _*ℤ_}
+use lib.Signed.{leZ}
+use Rattle.language.specs.Sizes.{LINES}
 use Rattle.language.specs.State.{Stop, no-unit, too-deep, out-of-range, zero-divisor, cell-freed, cells-full}
 use Rattle.language.specs.State.{not-a-byte, output-full, zero-step}
+use Rattle.language.specs.Meaning.{in-range, is-zero}
 use Rattle.language.specs.Shift.{lesser, greater, Report, ShiftRefusal, sheet, no-book, many-lines}
 
 -- ---- a report by itself
@@ -23,17 +24,28 @@ all-stops n =
     + (n out-of-range
     + (n zero-divisor + (n cell-freed + (n cells-full + (n not-a-byte + (n output-full + n zero-step)))))))
 
--- lines that were paid; least and largest say nothing where there is none
+-- lines that were paid
 abbrev pub paid-lines : Report → ℕ
 paid-lines r = r .lines - (r .bad + all-stops (r .stops))
 
--- Whether the counts and sums can be those of a shift: not too many lines, no more bad and stopped ones than there are,
--- and pays that are ints. The lowest int is one further from zero than the largest, as `mag` counts.
+-- Whether so many lines can have been paid this sum, this least and this largest: where nobody was paid all three are
+-- 0. Else the two are ints, the least no more than the largest; one line has the largest and all others at least the
+-- least, so that the sum is no less than that; and one has the least and all others at most the largest, so that it is
+-- no more. With one line all three are the same.
+unfoldable pub payable : ℕ → ℤ → ℤ → ℤ → Bool
+payable zero sum least largest = is-zero sum && (is-zero least && is-zero largest)
+payable (suc others) sum least largest =
+    in-range least
+    && (in-range largest
+    && (leZ least largest
+    && (leZ (largest +ℤ pos others *ℤ least) sum && leZ sum (least +ℤ pos others *ℤ largest))))
+
+-- Whether counts and sums can be those of a shift: not too many lines, no more bad and stopped ones than there are, and
+-- pays that the others can have had. These are exactly the reports that some outcomes have (proofs/Shift/Possible).
 unfoldable pub possible : Report → Bool
 possible r =
     leb (r .lines) LINES
-    && (leb (r .bad + all-stops (r .stops)) (r .lines)
-    && (leb (mag (r .sum)) (paid-lines r * 2 ^ 31) && (leb (mag (r .least)) LARGEST && leb (mag (r .largest)) LARGEST)))
+    && (leb (r .bad + all-stops (r .stops)) (r .lines) && payable (paid-lines r) (r .sum) (r .least) (r .largest))
 
 -- ---- two of them
 
@@ -51,7 +63,7 @@ both r q = record {
   largest = either-pay greater (paid-lines r) (r .largest) (paid-lines q) (q .largest);
 }
 
--- they are reports of as many lines together as a shift may have
+-- they can be those of shifts, and are of no more lines together than one may have
 unfoldable pub addable : Report → Report → Bool
 addable r q = possible r && (possible q && leb (r .lines + q .lines) LINES)
 

@@ -3,6 +3,5 @@ pub mod Characters
 pub mod Floats
 pub mod Lines
 pub mod Money
-pub mod Sheet
 pub mod Text
 pub mod Fields

@@ -1,6 +1,6 @@
-// What the program around the box does with bytes: it reads a number among its arguments, spells the call
-// of a shift, finds the line and the column of a place, puts text behind text so that it can be seen, writes a
-// float or pence for who reads it, takes a number's sign off, and reads a value that has a name on its line.
+// What the program around the box does with bytes: it reads a number among its arguments, finds the line and the
+// column of a place, puts text behind text so that it can be seen, writes a float or pence for who reads it, takes a
+// number's sign off, and reads a value that has a name on its line.
 ghost use mathlib.Core.Path.{_≡_};
 ghost use Prim.Native.Nat.{min};
 ghost use lib.IntN.{natAbs};
@@ -14,7 +14,6 @@ mod fields;
 mod floats;
 pub mod lines;
 mod money;
-mod sheet;
 mod text;
 
 use crate::lines::Spot;
@@ -32,7 +31,6 @@ pub use floats::bits;
 pub use floats::float;
 pub use lines::trimmed;
 pub use money::pounds;
-pub use sheet::call;
 pub use text::blanks;
 pub use text::decimal;
 pub use text::put;

@@ -1,5 +1,5 @@
 -- What is written of a shift for machines is read as what was written.
-use lib.Dec.{eqb, leb}
+use lib.Dec.{eqb}
 use lib.IntN.{ℤ, pos, negsuc, natAbs}
 use lib.ListN.{length, getD, take, drop}
 use lib.Seq.{take-all, take-append-seam}
@@ -9,10 +9,11 @@ use mathlib.Core.List.{List, [], _∷_}
 use mathlib.Core.Logic.{_⊎_, inl, inr}
 use mathlib.Core.Option.{some}
 use mathlib.Core.Path.{_≡_, refl, ap, subst, _∙_}
-use borrow.Author.Tests.{leb-true, eqb-true}
+use borrow.Author.Tests.{eqb-true}
 use native.Mathlib.Omega.{arith}
-use Prim.Native.Nat.{ℕ, suc, _+_, _-_, _*_, _^_, _≤_}
+use Prim.Native.Nat.{ℕ, suc, _+_, _-_, _≤_}
 use Rattle.language.proofs.Text.Choices.{and-both}
+use Rattle.language.proofs.Shift.Possible.{possible-so, least-size, largest-size}
 use Rattle.language.specs.Combining.{all-stops, paid-lines, possible}
 use Rattle.language.specs.Sizes.{LARGEST, LINES}
 use Rattle.language.specs.Text.{between, is-digit, worth, number-from}
@@ -54,22 +55,9 @@ module _ (s : Sums) (w : whole s ≡ true) where
   told = and-both (possible (report-in s)) (eqb (paid-lines (report-in s)) (s .paid)) w
 
   parts : (s .lines ≤ LINES) × (s .bad + all-stops (report-in s .stops) ≤ s .lines) × (mag (s .least) ≤ LARGEST) × (mag (s .largest) ≤ LARGEST)
-  unfolding possible
   parts =
-      let few = leb (s .lines) LINES in
-      let others = leb (s .bad + all-stops (report-in s .stops)) (s .lines) in
-      let sum = leb (mag (s .sum)) (paid-lines (report-in s) * 2 ^ 31) in
-      let least = leb (mag (s .least)) LARGEST in
-      let largest = leb (mag (s .largest)) LARGEST in
-      let a = and-both few (others && (sum && (least && largest))) (told .0) in
-      let b = and-both others (sum && (least && largest)) (a .1) in
-      let c = and-both sum (least && largest) (b .1) in
-      let e = and-both least largest (c .1) in (
-        leb-true (s .lines) LINES (a .0),
-        leb-true (s .bad + all-stops (report-in s .stops)) (s .lines) (b .0),
-        leb-true (mag (s .least)) LARGEST (e .0),
-        leb-true (mag (s .largest)) LARGEST (e .1),
-      )
+      let p = possible-so (report-in s) (told .0) in
+      (p .lines, p .others, least-size p, largest-size p)
 
   stops-sum : all-stops (report-in s .stops)
       ≡ getD (s .stops) 0 0

@@ -12,7 +12,8 @@ use Rattle.language.specs.Combining.{paid-lines, possible}
 use Rattle.language.specs.Shift.{Outcome, pays, total}
 use Rattle.language.specs.Sizes.{LINES}
 use Rattle.language.specs.Meaning.{in-range}
-use Rattle.language.proofs.Shift.Joins.{paid-counted, report-possible}
+use Rattle.language.proofs.Shift.Joins.{paid-counted}
+use Rattle.language.proofs.Shift.Possible.{report-possible}
 use Rattle.language.proofs.Shift.Totals.{AllInRange, all-none, all-more, pays-few}
 use Rattle.tally.specs.Stands.{report-in, Stands}
 use Rattle.tally.specs.declared.sums.Sums.{Sums}
@@ -49,7 +50,7 @@ total-far (all-more {z} {zs} r rs) = omega (arith, far-plus z (total zs), range-
 
 module _ {os : List Outcome} {s : Sums} (st : Stands os s) (h : length os ≤ LINES) (r : AllInRange (pays os)) where
   they-can : possible (report-in s) ≡ true
-  they-can = ap possible (report-stands st) ∙ report-possible os h r
+  they-can = ap possible (report-stands st) ∙ report-possible (record { few = h; ints = r })
 
   as-told : paid-lines (report-in s) ≡ s .paid
   as-told = ap paid-lines (report-stands st) ∙ paid-counted os ∙ sym (st .paid)

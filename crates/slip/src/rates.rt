@@ -16,6 +16,7 @@ use language::ALLOWANCE;
 use orders::asked::Asked;
 use orders::tasks::LARGEST;
 use page::Number;
+use tally::calls;
 use wording::ends;
 use wording::ends::End;
 use wording::limits::Limits;
@@ -80,13 +81,14 @@ fn serve_called(asked: Asked, edition: u32, sheet: &[u8], call: &[u8], what: Cal
     }
 }
 
-// Sets the call under the sheet, as a second sheet; it has no more than 26 bytes.
+// Sets the call under the sheet, as a second sheet, as each line of a shift has its call.
 fn call(asked: Asked, edition: u32, sheet: &[u8], picks: u32, rate: u32, what: Called) -> u32
     ensures { λ r. ⌜ Status r ⌝ }
 {
-    let mut bytes = [0u8; 64];
-    let n = page::call(&mut bytes, picks as u64, rate as u64);
-    serve_called(asked, edition, sheet, &bytes[..n], what)
+    let line = calls::call(picks, rate);
+    let n = line.len;
+    let text = line.text;
+    serve_called(asked, edition, sheet, &text[..n], what)
 }
 
 // Every call counts the same, whatever its numbers are.

@@ -3,20 +3,21 @@ use lib.Dec.{leb}
 use lib.IntN.{ℤ, _+ℤ_}
 use lib.ListN.{length, getD}
 use lib.Signed.{mag}
-use mathlib.Core.Bool.{true, false}
+use mathlib.Core.Bool.{Bool, true, false}
 use mathlib.Core.List.{List, [], _∷_}
 use mathlib.Core.Path.{_≡_, refl, sym, ap, ap₂, _∙_}
 use borrow.Author.Tests.{le-leb, lt-leb, leb-true, eq-eqb, ne-eqb}
 use mir.Syntax.{w64}
 use mir.Val.{SFits, toZ, ofZ}
 use native.Mathlib.Omega.{arith}
-use Prim.Native.Nat.{ℕ, _+_, _*_, _^_, _≤_, _<_}
-use Rattle.language.specs.Sizes.{LARGEST, LINES}
+use Prim.Native.Nat.{ℕ, _+_, _^_, _≤_, _<_}
+use Rattle.language.specs.Sizes.{LINES}
 use Rattle.language.specs.State as State
-use Rattle.language.specs.Combining.{all-stops, paid-lines, possible, either-pay, both, addable}
+use Rattle.language.specs.Combining.{all-stops, paid-lines, payable, possible, either-pay, both, addable}
 use Rattle.language.specs.Shift.{lesser, greater, Report}
 use Rattle.language.proofs.Text.Choices.{and-both}
 use Rattle.language.proofs.Shift.Totals.{mag-plus}
+use Rattle.language.proofs.Shift.Possible.{Possible, possible-so, sum-size}
 use Rattle.tally.specs.Combining.{counts, nine-both, not-paid, Both}
 use Rattle.tally.specs.Stands.{report-in}
 use Rattle.tally.specs.declared.sums.Sums.{Sums}
@@ -32,10 +33,6 @@ swap-le e f h = omega (arith, e, f)
 
 pub swap-le-sum : {a b x y n : ℕ} → a ≡ x → b ≡ y → x + y ≤ n → a + b ≤ n
 swap-le-sum e f h = omega (arith, e, f)
-
--- how far a number of 64 bits is from zero, read from its bits
-pub sized : (x : ℤ) {n : ℕ} → mag x < 2 ^ 63 → n ≡ mag (toZ w64 (ofZ w64 x)) → n ≡ mag x
-sized x h e = e ∙ ap mag (back {z = x} h)
 
 pub sizes-back : (x y : ℤ) {n : ℕ} → mag x < 2 ^ 63 → mag y < 2 ^ 63 → mag x + mag y < n → mag (toZ w64 (ofZ w64 x)) + mag (toZ w64 (ofZ w64 y)) < n
 sizes-back x y h k l = rw (back {z = x} h, back {z = y} k) l
@@ -89,45 +86,19 @@ module _ (r : Report) where
     unfolding possible
     others-not h = rw (le-leb (r .lines) LINES l, lt-leb (not-paid r) (r .lines) h)
 
-    module _ (o : not-paid r ≤ r .lines) where
-      pub sum-not : paid-lines r * 2147483648 < mag (r .sum) → false ≡ possible r
-      unfolding possible
-      sum-not h = rw (le-leb (r .lines) LINES l, le-leb (not-paid r) (r .lines) o, lt-leb (mag (r .sum)) (paid-lines r * 2147483648) h)
+    -- the pays are left, read from their bits
+    pub pays-last : not-paid r ≤ r .lines → {n : ℕ} {b : Bool} → n ≡ paid-lines r → mag (r .sum) < 2 ^ 63 → mag (r .least) < 2 ^ 63
+        → mag (r .largest) < 2 ^ 63
+        → b ≡ payable n (toZ w64 (ofZ w64 (r .sum))) (toZ w64 (ofZ w64 (r .least))) (toZ w64 (ofZ w64 (r .largest)))
+        → b ≡ possible r
+    unfolding possible
+    pays-last o e x y z t =
+        let f : _ ≡ payable (paid-lines r) (r .sum) (r .least) (r .largest) =
+        t ∙ rw (back {z = r .sum} x, back {z = r .least} y, back {z = r .largest} z, e) in
+        rw (le-leb (r .lines) LINES l, le-leb (not-paid r) (r .lines) o) f
 
-      module _ (s : mag (r .sum) ≤ paid-lines r * 2147483648) where
-        pub least-not : LARGEST < mag (r .least) → false ≡ possible r
-        unfolding possible
-        least-not h =
-            let k = le-leb (mag (r .sum)) (paid-lines r * 2147483648) s in
-            rw (le-leb (r .lines) LINES l, le-leb (not-paid r) (r .lines) o, k, lt-leb (mag (r .least)) LARGEST h)
-
-        pub largest-last : mag (r .least) ≤ LARGEST → leb (mag (r .largest)) LARGEST ≡ possible r
-        unfolding possible
-        largest-last h =
-            let k = le-leb (mag (r .sum)) (paid-lines r * 2147483648) s in
-            rw (le-leb (r .lines) LINES l, le-leb (not-paid r) (r .lines) o, k, le-leb (mag (r .least)) LARGEST h)
-
-  pub record Possible : Type 0 where
-    pub lines : r .lines ≤ LINES
-    pub others : not-paid r ≤ r .lines
-    pub sum : mag (r .sum) ≤ paid-lines r * 2147483648
-    pub least : mag (r .least) ≤ LARGEST
-    pub largest : mag (r .largest) ≤ LARGEST
-
-  pub possible-so : possible r ≡ true → Possible
-  unfolding possible
-  possible-so e =
-      let a = and-both (leb (r .lines) LINES) _ e in
-      let b = and-both (leb (not-paid r) (r .lines)) _ (a .1) in
-      let c = and-both (leb (mag (r .sum)) (paid-lines r * 2147483648)) _ (b .1) in
-      let d = and-both (leb (mag (r .least)) LARGEST) _ (c .1) in
-      record {
-        lines = leb-true _ _ (a .0);
-        others = leb-true _ _ (b .0);
-        sum = leb-true _ _ (c .0);
-        least = leb-true _ _ (d .0);
-        largest = leb-true _ _ (d .1);
-      }
+    pub paid-few-lines : {n : ℕ} → n ≡ paid-lines r → n ≤ LINES
+    paid-few-lines e = omega (arith, e)
 
 -- ---- two of them
 
@@ -170,7 +141,7 @@ module _ (r q : Report) where
     paid-few = let a = addable-so h in omega (arith, a .lines)
 
     pub sum-few : mag (r .sum) + mag (q .sum) < 281474976710656
-    sum-few = let a = addable-so h in omega (arith, a .first .sum, a .second .sum, paid-few)
+    sum-few = let a = addable-so h in omega (arith, sum-size (a .first), sum-size (a .second), paid-few)
 
 -- ---- pays
 

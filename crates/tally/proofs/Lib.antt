@@ -3,5 +3,5 @@ pub mod Laws
 pub mod Reported
 pub mod Jobs
 pub mod CallText
-pub mod Distance
+pub mod Payable
 pub mod Combined

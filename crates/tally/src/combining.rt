@@ -13,26 +13,15 @@ ghost use Rattle.language.specs.Sizes as Sizes;
 ghost use Rattle.tally.specs.Combining.{counts, nine-both, not-paid, Both};
 ghost use Rattle.tally.specs.Stands.{report-in};
 use crate::LINES;
+use crate::paying;
 use crate::sums::Sums;
 use crate::sums::greater_of;
 use crate::sums::lesser_of;
-use language::LARGEST;
 
 fn wide(n: u32) -> u64
     ensures { λ r. ⌜ r ≡ n ⌝ }
 {
     n as u64
-}
-
-// How far a number is from zero; one below zero, from the one below that.
-fn size(z: i64) -> u64
-    ensures { λ r. ⌜ r ≡ mag z ⌝ }
-{
-    if z < 0 {
-        let below = -(z + 1);
-        return below as u64;
-    }
-    z as u64
 }
 
 fn three(a: u32, b: u32, c: u32) -> u64
@@ -83,13 +72,8 @@ pub fn possible(s: Sums) -> bool
     if wide(s.lines) < unpaid(s) {
         return false;
     }
-    if wide(paid(s)) * 2147483648 < size(s.sum) {
-        return false;
-    }
-    if LARGEST < size(s.least) {
-        return false;
-    }
-    size(s.largest) <= LARGEST
+    let n = paid(s);
+    paying::payable(n, s.sum, s.least, s.largest)
 }
 
 // Whether the two are of as many lines together as a shift may have.

@@ -5,6 +5,7 @@
 pub mod calls;
 pub mod combining;
 pub mod lines;
+mod paying;
 pub mod sums;
 
 // Lines of a shift.

@@ -1,32 +1,34 @@
--- Reports may be combined in whichever order, two by two as they come: a report of no lines changes nothing, and neither
--- does it matter which two are combined first, nor, where nothing but 46 was told, which of two is the first (R14.6).
-use lib.Dec.{eqb}
+-- Reports may be combined in whichever order, two by two as they come: whatever they are, it does not matter which two are
+-- combined first; a report of no lines changes nothing, and where neither is refused it does not matter which of two is the
+-- first (R14.6).
+use lib.Dec.{eqb, leb}
 use lib.IntN.{ℤ, pos, negsuc, +ℤ-comm}
 use lib.ListN.{length, length-append}
 use lib.Signed.{ltZ}
-use mathlib.Core.Bool.{Bool, true, false, cond}
+use mathlib.Core.Bool.{Bool, true, false, cond, _&&_}
 use mathlib.Core.List.{List, [], _∷_, _++_, append-assoc}
-use mathlib.Core.Logic.{_⊎_, inl, inr}
-use mathlib.Core.Option.{none, some}
-use mathlib.Core.Path.{_≡_, refl, sym, ap, subst, _∙_}
-use borrow.Author.Tests.{ltb-true, ltb-false, eqb-true}
+use mathlib.Core.Logic.{_⊎_, inl, inr, ⊎-elim}
+use mathlib.Core.Option.{Option, none, some}
+use mathlib.Core.Path.{_≡_, refl, sym, ap, ap₂, subst, _∙_}
+use borrow.Author.Tests.{ltb-true, ltb-false, leb-true, eqb-true}
 use native.Mathlib.Nat.{add-comm}
 use native.Mathlib.Omega.{arith}
 use Prim.Native.Nat.{ℕ, _+_, _≤_, _<_}
 use Rattle.language.specs.Sizes.{LINES}
 use Rattle.language.specs.Shift.{Outcome, tally, is-bad, is-stop, pays, total, lesser, greater, chosen, Report, report-of}
 use Rattle.language.specs.Shift.{ShiftRefusal, sheet, no-book, many-lines}
-use Rattle.language.specs.Combining.{paid-lines, either-pay, both, Ending, no-report, without-sums, together, combined}
-use Rattle.language.proofs.Text.Choices.{either, clash}
+use Rattle.language.specs.Combining.{paid-lines, possible, either-pay, both, addable, Ending, no-report, without-sums, together, combined}
+use Rattle.language.proofs.Text.Choices.{either, clash, outcome, and-both}
 use Rattle.language.proofs.Shift.Totals.{AllInRange, all-none, all-more}
 use Rattle.language.proofs.Shift.Joins.{pays-join, paid-counted, report-join, report-none}
-use Rattle.language.proofs.Shift.Combining.{Few, add-few, add-many}
+use Rattle.language.proofs.Shift.Possible.{Few, report-possible, possible-came}
+use Rattle.language.proofs.Shift.Combining.{lines-told, add-few, add-many}
 
 abbrev told : List Outcome → Ending
 told os = record { told = none; report = report-of os }
 
 -- what may be told: the report of some outcomes, or a refusal
-pub data Real : Ending → Type 0 where
+data Real : Ending → Type 0 where
   of-lines : {os : List Outcome} → Few os → Real (told os)
   refused : (w : ShiftRefusal) {r : Report} → Real record { told = some w; report = r }
 
@@ -78,24 +80,114 @@ module _ {os ps : List Outcome} (h : Few os) (k : Few ps) where
       go (inl n) = subst P (sym (add-many h k n)) b
       go (inr n) = subst P (sym (add-few h k n)) a
 
-pub combined-assoc : {x y z : Ending} → Real x → Real y → Real z → combined (combined x y) z ≡ combined x (combined y z)
-combined-assoc (of-lines {os} h) (of-lines {os = ps} k) (of-lines {os = qs} m) =
+real-assoc : {x y z : Ending} → Real x → Real y → Real z → combined (combined x y) z ≡ combined x (combined y z)
+real-assoc (of-lines {os} h) (of-lines {os = ps} k) (of-lines {os = qs} m) =
     lines-assoc h k m (either LINES (length os + length ps)) (either LINES (length ps + length qs))
-combined-assoc (of-lines h) (of-lines k) (refused u {r}) =
+real-assoc (of-lines h) (of-lines k) (refused u {r}) =
     by-few h k (λ (x : Ending). combined x (record { told = some u; report = r }) ≡ without-sums u) refl refl
-combined-assoc (of-lines h) (refused (sheet v)) z = refl
-combined-assoc (of-lines h) (refused no-book) z = refl
-combined-assoc (of-lines h) (refused many-lines) (of-lines m) = refl
-combined-assoc (of-lines h) (refused many-lines) (refused u) = refl
-combined-assoc (refused (sheet w)) y z = refl
-combined-assoc (refused no-book) y z = refl
-combined-assoc (refused many-lines) (refused (sheet v)) z = refl
-combined-assoc (refused many-lines) (refused no-book) z = refl
-combined-assoc (refused many-lines) (refused many-lines) (of-lines m) = refl
-combined-assoc (refused many-lines) (refused many-lines) (refused u) = refl
-combined-assoc (refused many-lines {r}) (of-lines k) (of-lines m) =
+real-assoc (of-lines h) (refused (sheet v)) z = refl
+real-assoc (of-lines h) (refused no-book) z = refl
+real-assoc (of-lines h) (refused many-lines) (of-lines m) = refl
+real-assoc (of-lines h) (refused many-lines) (refused u) = refl
+real-assoc (refused (sheet w)) y z = refl
+real-assoc (refused no-book) y z = refl
+real-assoc (refused many-lines) (refused (sheet v)) z = refl
+real-assoc (refused many-lines) (refused no-book) z = refl
+real-assoc (refused many-lines) (refused many-lines) (of-lines m) = refl
+real-assoc (refused many-lines) (refused many-lines) (refused u) = refl
+real-assoc (refused many-lines {r}) (of-lines k) (of-lines m) =
     by-few k m (λ (x : Ending). without-sums many-lines ≡ combined (record { told = some many-lines; report = r }) x) refl refl
-combined-assoc (refused many-lines) (of-lines k) (refused u) = refl
+real-assoc (refused many-lines) (of-lines k) (refused u) = refl
+
+-- A report that no outcomes have is combined as 46 is.
+record AsReal (x : Ending) : Type 0 where
+  other : Ending
+  real : Real other
+  first : (y : Ending) → combined x y ≡ combined other y
+  second : (y : Ending) → combined y x ≡ combined y other
+
+module _ (r q : Report) (e : possible r ≡ false) where
+  first-not : together r q ≡ without-sums many-lines
+  unfolding together addable
+  first-not = rw e
+
+  second-not : together q r ≡ without-sums many-lines
+  unfolding together addable
+  second-not = go (possible q) refl
+    where
+      go : (t : Bool) → possible q ≡ t
+          → cond (t && (possible r && leb (q .lines + r .lines) LINES)) (record { told = none; report = both q r }) (without-sums many-lines)
+          ≡ without-sums many-lines
+      go true h = rw e
+      go false h = refl
+
+module _ (r : Report) where
+  abbrev plain : Ending
+  plain = record { told = none; report = r }
+
+  as-came : possible r ≡ true → AsReal plain
+  as-came e =
+      let c = possible-came r e in
+      record {
+        other = plain;
+        real = subst (λ (r : Report). Real record { told = none; report = r }) (c .reported) (of-lines (c .real));
+        first = λ y. refl;
+        second = λ y. refl;
+      }
+
+  module _ (e : possible r ≡ false) where
+    abbrev many : Ending
+    many = without-sums many-lines
+
+    many-first : (t : Option ShiftRefusal) (q : Report) → combined plain record { told = t; report = q } ≡ combined many record { told = t; report = q }
+    many-first none q = first-not r q e
+    many-first (some w) q = refl
+
+    many-second : (t : Option ShiftRefusal) (q : Report) → combined record { told = t; report = q } plain ≡ combined record { told = t; report = q } many
+    many-second none q = second-not r q e
+    many-second (some many-lines) q = refl
+    many-second (some (sheet w)) q = refl
+    many-second (some no-book) q = refl
+
+    as-many : AsReal plain
+    as-many = record {
+      other = many;
+      real = refused many-lines;
+      first = λ y. many-first (y .told) (y .report);
+      second = λ y. many-second (y .told) (y .report);
+    }
+
+as-real : (t : Option ShiftRefusal) (r : Report) → AsReal record { told = t; report = r }
+as-real none r = ⊎-elim (as-came r) (as-many r) (outcome (possible r))
+as-real (some w) r = record { other = record { told = some w; report = r }; real = refused w; first = λ y. refl; second = λ y. refl }
+
+-- whatever the three are, also what no shift can come to
+pub combined-assoc : (x y z : Ending) → combined (combined x y) z ≡ combined x (combined y z)
+combined-assoc x y z =
+    let a = as-real (x .told) (x .report) in
+    let b = as-real (y .told) (y .report) in
+    let c = as-real (z .told) (z .report) in
+    let xy : combined x y ≡ combined (a .other) (b .other) = a .first y ∙ b .second (a .other) in
+    let yz : combined y z ≡ combined (b .other) (c .other) = b .first z ∙ c .second (b .other) in
+    ap (λ (v : Ending). combined v z) xy
+    ∙ c .second (combined (a .other) (b .other))
+    ∙ real-assoc (a .real) (b .real) (c .real)
+    ∙ sym (a .first (combined (b .other) (c .other)))
+    ∙ sym (ap (combined x) yz)
+
+-- what is added is possible again
+pub both-possible : (r q : Report) → addable r q ≡ true → possible (both r q) ≡ true
+unfolding addable
+both-possible r q h =
+    let a = and-both (possible r) _ h in
+    let b = and-both (possible q) _ (a .1) in
+    let x = possible-came r (a .0) in
+    let y = possible-came q (b .0) in
+    let n : r .lines + q .lines ≤ LINES = leb-true _ _ (b .1) in
+    let e = ap₂ both (sym (x .reported)) (sym (y .reported)) ∙ sym (report-join (x .outcomes) (y .outcomes)) in
+    let i : length (x .outcomes) ≡ r .lines = sym (lines-told (x .outcomes)) ∙ ap (λ (r : Report). r .lines) (x .reported) in
+    let j : length (y .outcomes) ≡ q .lines = sym (lines-told (y .outcomes)) ∙ ap (λ (r : Report). r .lines) (y .reported) in
+    rw e (report-possible (join-few (x .real) (y .real) (omega (arith, n, i, j))))
 
 -- ---- no lines
 
@@ -103,11 +195,12 @@ none-few : Few []
 unfolding pays
 none-few = record { few = omega arith; ints = all-none }
 
-pub combined-with-none : {os : List Outcome} → Few os
-    → combined (record { told = none; report = no-report }) (told os) ≡ told os
-combined-with-none {os} h =
-    subst (λ (r : Report). together r (report-of os) ≡ told os) report-none
-    (add-few none-few h (omega (arith, h .few)))
+pub combined-with-none : (r : Report) → possible r ≡ true → combined (plain no-report) (plain r) ≡ plain r
+combined-with-none r e =
+    let x = possible-came r e in
+    subst (λ (r : Report). together no-report r ≡ plain r) (x .reported)
+    (subst (λ (q : Report). together q (report-of (x .outcomes)) ≡ told (x .outcomes)) report-none
+    (add-few none-few (x .real) (omega (arith, x .real .few))))
 
 -- ---- which is the first
 
@@ -163,7 +256,7 @@ unpaid f os e = go (pays os) (sym (paid-counted os) ∙ e)
     go [] h = chosen-none f
     go (z ∷ zs) h = absurd (omega arith)
 
-pub both-comm : (os ps : List Outcome) → both (report-of os) (report-of ps) ≡ both (report-of ps) (report-of os)
+both-comm : (os ps : List Outcome) → both (report-of os) (report-of ps) ≡ both (report-of ps) (report-of os)
 unfolding both report-of
 both-comm os ps =
     let n = paid-lines (report-of os) in
@@ -179,11 +272,23 @@ both-comm os ps =
       largest = g i;
     }
 
-pub combined-comm : {os ps : List Outcome} → Few os → Few ps → combined (told os) (told ps) ≡ combined (told ps) (told os)
-combined-comm {os} {ps} h k = go (either LINES (length os + length ps))
+few-comm : {os ps : List Outcome} → Few os → Few ps → combined (told os) (told ps) ≡ combined (told ps) (told os)
+few-comm {os} {ps} h k = go (either LINES (length os + length ps))
   where
     go : (LINES < length os + length ps) ⊎ (length os + length ps ≤ LINES) → combined (told os) (told ps) ≡ combined (told ps) (told os)
     go (inl n) = add-many h k n ∙ sym (add-many k h (omega arith))
     go (inr n) =
         let e = report-join os ps ∙ both-comm os ps ∙ sym (report-join ps os) in
         add-few h k n ∙ ap (λ (r : Report). record { told = none; report = r }) e ∙ sym (add-few k h (omega arith))
+
+-- whatever the two are
+pub combined-comm : (r q : Report) → combined (plain r) (plain q) ≡ combined (plain q) (plain r)
+combined-comm r q = go (outcome (possible r)) (outcome (possible q))
+  where
+    go : (possible r ≡ true) ⊎ (possible r ≡ false) → (possible q ≡ true) ⊎ (possible q ≡ false) → together r q ≡ together q r
+    go (inr e) f = first-not r q e ∙ sym (second-not r q e)
+    go (inl e) (inr f) = second-not q r f ∙ sym (first-not q r f)
+    go (inl e) (inl f) =
+        let a = possible-came r e in
+        let b = possible-came q f in
+        ap₂ together (sym (a .reported)) (sym (b .reported)) ∙ few-comm (a .real) (b .real) ∙ ap₂ together (b .reported) (a .reported)

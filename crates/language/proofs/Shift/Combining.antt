@@ -14,13 +14,14 @@ use Prim.Native.Nat.{ℕ, _+_, _≤_, _<_}
 use Rattle.language.specs.Sizes.{LINES}
 use Rattle.language.specs.Text.{is-in-line}
 use Rattle.language.specs.Answers.{Lent}
-use Rattle.language.specs.Shift.{Line, led-by, lines, Outcome, AllCome, none-comes, one-comes, pays, Report, report-of, ShiftRefusal}
+use Rattle.language.specs.Shift.{Line, led-by, lines, Outcome, AllCome, none-comes, one-comes, Report, report-of, ShiftRefusal}
 use Rattle.language.specs.Shift.{many-lines, told-of, Shift}
 use Rattle.language.specs.Combining.{addable, without-sums, together, combined, shown, AtLineEnd, at-front, behind-feed}
 use Rattle.language.proofs.Text.Choices.{either}
 use Rattle.language.proofs.Shift.LineOutcomes.{Admitted, one-outcome}
-use Rattle.language.proofs.Shift.Totals.{AllInRange, all-in-range, come-long}
-use Rattle.language.proofs.Shift.Joins.{report-join, report-possible}
+use Rattle.language.proofs.Shift.Totals.{all-in-range, come-long}
+use Rattle.language.proofs.Shift.Joins.{report-join}
+use Rattle.language.proofs.Shift.Possible.{Few, report-possible}
 
 -- ---- the lines
 
@@ -81,12 +82,7 @@ told-few : (ls : List Line) → length ls ≤ LINES → told-of ls ≡ none
 unfolding told-of
 told-few ls h = rw (le-ltb LINES (length ls) h)
 
--- of outcomes that are few enough, and those of ints
-pub record Few (os : List Outcome) : Type 0 where
-  pub few : length os ≤ LINES
-  pub ints : AllInRange (pays os)
-
-lines-told : (os : List Outcome) → report-of os .lines ≡ length os
+pub lines-told : (os : List Outcome) → report-of os .lines ≡ length os
 unfolding report-of
 lines-told os = refl
 
@@ -95,13 +91,13 @@ module _ {os ps : List Outcome} (h : Few os) (k : Few ps) where
   unfolding together addable
   add-few n =
       let e : leb (report-of os .lines + report-of ps .lines) LINES ≡ true = rw (lines-told os, lines-told ps) (le-leb _ _ n) in
-      rw (report-possible os (h .few) (h .ints), report-possible ps (k .few) (k .ints), e, report-join os ps)
+      rw (report-possible h, report-possible k, e, report-join os ps)
 
   pub add-many : LINES < length os + length ps → together (report-of os) (report-of ps) ≡ without-sums many-lines
   unfolding together addable
   add-many n =
       let e : leb (report-of os .lines + report-of ps .lines) LINES ≡ false = rw (lines-told os, lines-told ps) (lt-leb _ _ n) in
-      rw (report-possible os (h .few) (h .ints), report-possible ps (k .few) (k .ints), e)
+      rw (report-possible h, report-possible k, e)
 
 module _ {ed : ℕ} {book : List ℕ} {l : Lent} (ready : Admitted ed book l) where
   -- a part with as many lines as a shift may have

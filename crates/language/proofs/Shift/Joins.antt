@@ -1,20 +1,18 @@
 -- The report of two lists of outcomes one behind the other is both their reports (R14.6).
 use lib.IntN.{ℤ, pos, negsuc, _+ℤ_, +ℤ-assoc, +ℤ-idl}
 use lib.ListN.{length, length-append}
-use lib.Signed.{mag, ltZ}
+use lib.Signed.{ltZ}
 use mathlib.Core.Bool.{Bool, true, false, cond}
 use mathlib.Core.List.{List, [], _∷_, _++_, append-nil}
 use mathlib.Core.Path.{_≡_, refl, sym, ap, _∙_}
-use borrow.Author.Tests.{lt-ltb, le-ltb, ltb-true, ltb-false, le-leb, ne-eqb}
+use borrow.Author.Tests.{lt-ltb, le-ltb, ltb-true, ltb-false, ne-eqb}
 use native.Mathlib.Omega.{arith}
-use Prim.Native.Nat.{ℕ, suc, _+_, _*_, _^_, _≤_}
-use Rattle.language.specs.Sizes.{LINES, LARGEST}
+use Prim.Native.Nat.{ℕ, suc, _+_}
 use Rattle.language.specs.State as State
 use Rattle.language.specs.Shift.{Outcome, bad, stopped, paid, tally, is-bad, is-stop, pays, total, lesser, greater, chosen-from, chosen}
 use Rattle.language.specs.Shift.{report-of}
-use Rattle.language.specs.Combining.{all-stops, paid-lines, possible, either-pay, both, no-report}
+use Rattle.language.specs.Combining.{all-stops, paid-lines, either-pay, both, no-report}
 use Rattle.language.proofs.Text.Choices.{clash}
-use Rattle.language.proofs.Shift.Totals.{AllInRange, all-none, all-more, range-mag, total-mag}
 
 -- ---- counts
 
@@ -35,7 +33,7 @@ unfolding total
 total-join [] ys = sym (+ℤ-idl (total ys))
 total-join (z ∷ zs) ys = ap (λ (x : ℤ). z +ℤ x) (total-join zs ys) ∙ sym (+ℤ-assoc z (total zs) (total ys))
 
-abbrev stops-in : List Outcome → ℕ
+abbrev pub stops-in : List Outcome → ℕ
 stops-in os = all-stops (λ s. tally (is-stop s) os)
 
 -- each line is bad, or stopped, or paid
@@ -143,32 +141,3 @@ report-join os ps =
 pub report-none : report-of [] ≡ no-report
 unfolding report-of tally pays total chosen
 report-none = refl
-
--- ---- every report is a possible one
-
-module _ (t : ℤ → ℤ → Bool) where
-  better-range : (y z : ℤ) → mag y ≤ LARGEST → mag z ≤ LARGEST → mag (better t y z) ≤ LARGEST
-  better-range y z h k = go (t y z)
-    where
-      go : (b : Bool) → mag (cond b z y) ≤ LARGEST
-      go true = k
-      go false = h
-
-  from-range : (y : ℤ) {zs : List ℤ} → mag y ≤ LARGEST → AllInRange zs → mag (chosen-from (better t) y zs) ≤ LARGEST
-  unfolding chosen-from
-  from-range y h all-none = h
-  from-range y h (all-more {z} r rs) = from-range (better t y z) (better-range y z h (range-mag z r)) rs
-
-  chosen-range : {zs : List ℤ} → AllInRange zs → mag (chosen (better t) zs) ≤ LARGEST
-  unfolding chosen
-  chosen-range all-none = omega arith
-  chosen-range (all-more {z} r rs) = from-range z (range-mag z r) rs
-
-pub report-possible : (os : List Outcome) → length os ≤ LINES → AllInRange (pays os) → possible (report-of os) ≡ true
-unfolding possible report-of
-report-possible os h r =
-    let few : tally is-bad os + stops-in os ≤ length os = omega (arith, each-counted os) in
-    let sum : mag (total (pays os)) ≤ paid-lines (report-of os) * 2 ^ 31 = rw (paid-counted os) (total-mag r) in
-    let least : mag (chosen lesser (pays os)) ≤ LARGEST = chosen-range (λ y z. ltZ z y) r in
-    let largest : mag (chosen greater (pays os)) ≤ LARGEST = chosen-range ltZ r in
-    rw (le-leb _ _ h, le-leb _ _ few, le-leb _ _ sum, le-leb _ _ least, le-leb _ _ largest)

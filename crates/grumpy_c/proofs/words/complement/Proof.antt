@@ -6,7 +6,7 @@ use lib.Signed.{ltZ, mag}
 use mir.Facts.{toZ-ofZ, fits-ofZ}
 use mir.Syntax.{w64}
 use mir.Val.{toZ, ofZ, SFits}
-use Rattle.tally.proofs.Distance.{one-up-fits, below-zero, as-word}
+use Rattle.grumpy_c.proofs.Distance.{one-up-fits, below-zero, as-word}
 use Rattle.grumpy_c.proofs.TwosComplement.{complement-below}
 use Rattle.grumpy_c.proofs.words.complement.Statement.{statement}
 use Rattle.grumpy_c.proofs.words.complement.Tie as tie

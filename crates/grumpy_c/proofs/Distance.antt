@@ -1,5 +1,5 @@
 -- How far a number below zero is from it: one more, and its sign turned.
-use lib.IntN.{ℤ, pos, negsuc, negℤ, natAbs, _+ℤ_, _-ℤ_}
+use lib.IntN.{ℤ, pos, negsuc, negℤ, _+ℤ_, _-ℤ_}
 use lib.Signed.{ltZ, mag}
 use mathlib.Core.Bool.{true, false}
 use mathlib.Core.Path.{_≡_, refl, ap}
@@ -34,7 +34,3 @@ below-zero z e = rw (one-up z e) (back (mag z))
 pub as-word : (z : ℤ) → ltZ z (pos 0) ≡ false → z ≡ pos (ofZ w64 z)
 as-word (pos n) e = refl
 as-word (negsuc n) e = absurd (clash refl e)
-
-pub above-zero : (z : ℤ) → ltZ z (pos 0) ≡ false → natAbs z ≡ mag z
-above-zero (pos n) e = refl
-above-zero (negsuc n) e = absurd (clash refl e)
