@@ -81,7 +81,7 @@
  * grumpy_shift_finish: they call the function `pay` of a rule book once for each line, and sum up. What is
  * known so far lies in the caller's `state`, GRUMPY_SHIFT_STATE words of 64 bits, which has to be handed on as
  * it was left; there may be any number of shifts at once, each with its own. Words that no function here left
- * are read as some state, so they do no harm, and make no promised report either.
+ * are read as some state: they do no harm, and what comes of them is fixed, but need not be the report of an input.
  *
  * A line is a loom in four digits, picks and rate in eight each, in hexadecimal with capitals, then a line
  * feed. A line of another shape, one without its line feed at the end, and one with picks or rate above
@@ -98,17 +98,19 @@
  * The book is functions only, `pay` from two ints to int among them. With `0` set under it it has to pass, or the
  * answer is its own number; one that passes and is no such book is GRUMPY_NO_BOOK; and one with no room for the
  * longest call under it, with both numbers 2147483647, GRUMPY_LONG_SOURCE or GRUMPY_MANY_TOKENS. Feed asks the book
- * anew, so book, edition and the lengths of memories have to be those of begin. After such a refusal of feed the
- * state is as it was; after one of begin it is that of a shift without lines, but for GRUMPY_SHORT_MEMORY, which
- * leaves it alone. With more than GRUMPY_SHIFT_LINES lines the number of feed and finish is GRUMPY_MANY_LINES; the
- * report is then that of the lines up to there, and no byte more changes anything. `out` is what each line
- * prints to, from its front on, over what the line before it left: lend the same to each piece, as it was left.
+ * anew, so book and edition have to be those of begin; `table` and `work` may be others for each piece, if they are
+ * long enough. After such a refusal of feed the state is as it was; after one of begin it is that of a shift without
+ * lines, but for GRUMPY_SHORT_MEMORY, which leaves it alone. With more than GRUMPY_SHIFT_LINES lines the number of
+ * feed and finish is GRUMPY_MANY_LINES; the report is then that of the lines up to there, and no byte more changes
+ * anything. `out` is what each line prints to, from its front on, over what the line before it left. The report
+ * depends on its length, since a line can stop with GRUMPY_OUTPUT_FULL: lend as many bytes to each piece. What lies in
+ * them does not matter.
  *
  * Parts. The lines of a shift may be paid in parts, by several states or on several machines, and their reports
  * combined two by two, in any order: grumpy_shift_combine takes two reports as grumpy_shift_finish writes them, of
  * GRUMPY_SHIFT_FINISH_REPORT words each, and writes that of both. Where the first part ends at a line's end it is
- * that of the whole, if they were paid by the same book with the same edition and allowance, and lent memories of
- * the same lengths. Nothing is believed of the words. In this order:
+ * that of the whole, if they were paid by the same book with the same edition and allowance, and lent an `out` of
+ * the same length. Nothing is believed of the words. In this order:
  *
  *     where [0] of one of the two is GRUMPY_NO_EDITION    the number is that, and all other words are 0
  *     where [0] of one of the two is otherwise not 0      the number is GRUMPY_MANY_LINES, all other words 0

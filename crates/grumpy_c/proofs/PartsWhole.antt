@@ -2,7 +2,7 @@
 -- those of the whole (R14.6, R14.8).
 use lib.ListN.{length, length-take}
 use mathlib.Core.Bool.{true}
-use mathlib.Core.List.{List, _++_}
+use mathlib.Core.List.{List, [], _++_}
 use mathlib.Core.Logic.{_⊎_, inl, inr}
 use mathlib.Core.Option.{Option, none, some}
 use mathlib.Core.Path.{_≡_, refl, sym, ap, ap₂, subst, _∙_}
@@ -12,7 +12,6 @@ use mir.Syntax.{w64}
 use mir.Val.{SFits}
 use native.Mathlib.Omega.{arith}
 use Prim.Native.Nat.{ℕ, _≤_, _<_}
-use Rattle.language.specs.Answers.{Lent}
 use Rattle.language.specs.Combining.{all-stops, possible, Ending, combined, shown, AtLineEnd}
 use Rattle.language.specs.Numbers.{no-edition}
 use Rattle.language.specs.Shift.{ShiftRefusal, sheet, many-lines, lines, Report, told-of}
@@ -26,6 +25,7 @@ use Rattle.language.proofs.Shift.Totals.{all-in-range, come-long}
 use Rattle.language.proofs.Text.Choices.{either}
 use Rattle.tally.specs.Stands.{report-in}
 use Rattle.shift.specs.Combining.{told-in}
+use Rattle.shift.specs.Taking.{needed}
 use Rattle.grumpy_c.specs.Combining.{capped, ending-in, counts-in, finished-in, told-of-both, CombinedC, combine-no-room, combine-told}
 use Rattle.grumpy_c.specs.Shifts.{FINISH, told-number, report-words}
 use Rattle.grumpy_c.specs.Words.{with-front}
@@ -108,19 +108,19 @@ told-readable : {t : Option ShiftRefusal} → (t ≡ none) ⊎ (t ≡ some many-
 told-readable (inl e) = subst Readable (sym e) read-none
 told-readable (inr e) = subst Readable (sym e) read-many
 
-module _ {ed : ℕ} {book : List ℕ} {l : Lent} (ready : Admitted ed book l) where
-  shift-possible : {input output output′ : List ℕ} {told : Option ShiftRefusal} {r : Report} → Shift.Shift ed book l input output told r output′
-      → Possible r
+module _ {ed : ℕ} {book : List ℕ} {room allowance : ℕ} (ready : Admitted ed book (needed room allowance)) where
+  shift-possible : {input output output′ : List ℕ} {told : Option ShiftRefusal} {r : Report}
+      → Shift.Shift ed book (needed room allowance) input output told r output′ → Possible r
   shift-possible {input} {r = r} x =
       let few : length (x .outcomes) ≤ LINES = omega (arith, come-long (x .come), length-take LINES (lines input)) in
       possible-so r
       (subst (λ (r : Report). possible r ≡ true) (sym (x .reports)) (report-possible (record { few = few; ints = all-in-range ready (x .come) })))
 
-  read-part : {input output w w′ output′ : List ℕ} {n : ℕ} (x : Reported ed book l input output w w′ n output′)
+  read-part : {input w w′ : List ℕ} {n : ℕ} (x : Reported ed book room allowance input w w′ n)
       → told-in (finished-in w′) ≡ record { told = x .told; report = x .written }
   read-part {input} {w = w} {n = n} x =
       ap (λ (v : List ℕ). told-in (finished-in v)) (x .words)
-      ∙ words-back w n (x .written) (shift-possible (x .shift)) (told-readable (told-either (x .told) input (x .shift .refuses))) (x .number)
+      ∙ words-back w n (x .written) (shift-possible (x .shift [])) (told-readable (told-either (x .told) input (x .shift [] .refuses))) (x .number)
 
   -- ---- combined
 
@@ -133,8 +133,8 @@ module _ {ed : ℕ} {book : List ℕ} {l : Lent} (ready : Admitted ed book l) wh
   shown-report t r (inr e) h = let z : _≡_ {A = ℕ} 46 0 = sym (ap told-number e) ∙ h in absurd (omega arith)
 
   -- the number of the whole, and its words where that is no refusal
-  pub parts-whole : {a b : List ℕ} → AtLineEnd a → {oa wa wa′ oa′ ob wb wb′ ob′ o w w′ o′ report report′ : List ℕ} {na nb n m : ℕ}
-      → Reported ed book l a oa wa wa′ na oa′ → Reported ed book l b ob wb wb′ nb ob′ → (z : Reported ed book l (a ++ b) o w w′ n o′)
+  pub parts-whole : {a b : List ℕ} → AtLineEnd a → {wa wa′ wb wb′ w w′ report report′ : List ℕ} {na nb n m : ℕ}
+      → Reported ed book room allowance a wa wa′ na → Reported ed book room allowance b wb wb′ nb → (z : Reported ed book room allowance (a ++ b) w w′ n)
       → FINISH ≤ length wa′ → FINISH ≤ length wb′ → FINISH ≤ length report → CombinedC wa′ wb′ report report′ m
       → (m ≡ n) × (n ≡ 0 → report′ ≡ with-front report (report-words n (z .written)))
   parts-whole e x y z h k j (combine-no-room (inl g) c d) = absurd (omega arith)
@@ -142,10 +142,10 @@ module _ {ed : ℕ} {book : List ℕ} {l : Lent} (ready : Admitted ed book l) wh
   parts-whole e x y z h k j (combine-no-room (inr (inr g)) c d) = absurd (omega arith)
   parts-whole {a} {b} e {wa′ = wa′} {wb′ = wb′} {report = report} {n = n} x y z h k j (combine-told c d g num words) =
       let q : told-of-both wa′ wb′ ≡ shown (z .told) (z .written) =
-      ap₂ combined (read-part x) (read-part y) ∙ sym (combined-is-whole ready e (x .shift) (y .shift) (z .shift)) in
+      ap₂ combined (read-part x) (read-part y) ∙ sym (combined-is-whole ready e (x .shift []) (y .shift []) (z .shift [])) in
       let t = ap (λ (v : Ending). told-number (v .told)) q ∙ ap told-number (shown-told (z .told) (z .written)) in
       let same = num ∙ t ∙ sym (z .number) in
-      let either-told = told-either (z .told) (a ++ b) (z .shift .refuses) in (
+      let either-told = told-either (z .told) (a ++ b) (z .shift [] .refuses) in (
         same,
         λ zero. words ∙ ap₂ (λ (i : ℕ) (r : Report). with-front report (report-words i r)) same
             (ap (λ (v : Ending). v .report) q ∙ shown-report (z .told) (z .written) either-told (sym (z .number) ∙ zero)),

@@ -17,13 +17,15 @@ use Rattle.language.specs.Shift as Shift
 use Rattle.language.specs.Tokens.{Vocabulary}
 use Rattle.language.proofs.Shift.OneReport.{one-admission}
 use Rattle.tally.specs.Stands.{report-in}
-use Rattle.shift.specs.After.{After, Grows}
+use Rattle.shift.specs.After.{After, Reports}
 use Rattle.shift.specs.Meanings.{admission-meant, granted, keeps-all, lent, over-told}
 use Rattle.shift.specs.Promises.{Feeds, feeds, turned, finished}
 use Rattle.shift.specs.Promises as Promises
+use Rattle.shift.specs.Taking.{EndedLine, needed, printed-over, Takes}
 use Rattle.shift.specs.declared.Admission.{Admission}
 use Rattle.shift.specs.declared.State.{State}
-use Rattle.shift.proofs.Growing.{after-start}
+use Rattle.shift.proofs.Finishing.{reports}
+use Rattle.shift.proofs.Standing.{after-start, after-more}
 use Rattle.grumpy_c.specs.Words.{with-front}
 use Rattle.grumpy_c.specs.States.{STATE, state-in, Holds}
 use Rattle.grumpy_c.specs.Shifts.{FEED, FINISH, told-number, report-words, Left, as-before, held, refuses, BeganC, begin-no-room}
@@ -64,59 +66,63 @@ not-refused (Admission.Refused w x) e = not-granted e
 -- ---- begun
 
 module _ {edition : ℕ} {book table work : List ℕ} {allowance : ℕ} {state report table′ work′ state′ report′ : List ℕ} {n : ℕ} where
-  pub begin-stands : BeganC edition book table work allowance state report table′ work′ state′ report′ n → (n ≡ 40 → ⊥) → (l : Lent) (output : List ℕ)
-      → After edition book l output [] (state-in state′) output
-  begin-stands (begin-no-room h e a b c d) other l output = absurd (other e)
-  begin-stands (begin-told {a} h k b e x t) other l output =
+  pub begin-stands : BeganC edition book table work allowance state report table′ work′ state′ report′ n → (n ≡ 40 → ⊥) → (room : ℕ)
+      → After edition book room [] (state-in state′)
+  begin-stands (begin-no-room h e a b c d) other room = absurd (other e)
+  begin-stands (begin-told {a} h k b e x t) other room =
       let z : Holds state (a .state) state′ = left-held _ x (not-kept (admission-meant (a .told) .told) (λ z. other (e ∙ z))) in
-      subst (λ (s : State). After edition book l output [] s output) (sym (z .read ∙ b .state)) (after-start allowance output)
+      subst (After edition book room []) (sym (z .read ∙ b .state)) (after-start allowance)
 
 -- ---- fed
 
-grown : {edition : ℕ} {book piece out out′ : List ℕ} {l : Lent} {s s′ : State} {a : Admission} → Feeds edition book piece out l s out′ a s′
-    → refuses a ≡ false → Grows edition book l piece s out s′ out′
-grown (feeds e g) z = g
-grown (turned e) z = absurd (false≢true (sym z))
+taken : {edition : ℕ} {book piece out out′ : List ℕ} {s s′ : State} {a : Admission} → Feeds edition book piece out s out′ a s′ → refuses a ≡ false
+    → (lines : List EndedLine) × Takes edition book (length out) s piece lines s′
+taken (feeds t e) z = (_, t)
+taken (turned e) z = absurd (false≢true (sym z))
 
 -- what is lent to a piece
 abbrev pub lent-with : List ℕ → List ℕ → List ℕ → List ℕ → Lent
 lent-with table work out state = lent table work (length out) (state-in state .allowance)
 
 module _ {edition : ℕ} {book piece table work out state report table′ work′ out′ state′ report′ : List ℕ} {n : ℕ} where
+  -- whatever memory it was that is enough, and whatever lay in the output
   pub feed-stands : FedC edition book piece table work out state report table′ work′ out′ state′ report′ n → STATE ≤ length state
-      → FEED ≤ length report → Admits edition book (lent-with table work out state) granted → (output input : List ℕ)
-      → After edition book (lent-with table work out state) output input (state-in state) out
-      → After edition book (lent-with table work out state) output (input ++ piece) (state-in state′) out′
-  feed-stands (feed-no-room (inl h) a b c d e f) long room g output input s = absurd (omega arith)
-  feed-stands (feed-no-room (inr h) a b c d e f) long room g output input s = absurd (omega arith)
-  feed-stands (feed-told {a} h k f e x t) long room g output input s =
+      → FEED ≤ length report → Admits edition book (lent-with table work out state) granted → (input : List ℕ)
+      → After edition book (length out) input (state-in state) → After edition book (length out) (input ++ piece) (state-in state′)
+  feed-stands (feed-no-room (inl h) a b c d e f) long room g input s = absurd (omega arith)
+  feed-stands (feed-no-room (inr h) a b c d e f) long room g input s = absurd (omega arith)
+  feed-stands (feed-told {a} h k f e x t) long room g input s =
       let plain = not-refused (a .told) (ap (λ (z : Shift.Admission). z .told) (one-admission (f .admits) g)) in
       let z : Holds state (a .state) state′ = left-held _ x plain in
-      subst (λ (m : State). After edition book (lent-with table work out state) output (input ++ piece) m out′) (sym (z .read))
-      (grown (f .tells) plain output input s)
+      subst (After edition book (length out) (input ++ piece)) (sym (z .read)) (after-more s (taken (f .tells) plain .1))
 
 -- ---- finished
 
--- the written report of the input that the state stands for, in words
-pub record Reported (edition : ℕ) (book : List ℕ) (l : Lent) (input output report report′ : List ℕ) (n : ℕ) (output′ : List ℕ) : Type 0 where
+-- the written report of the input that the state stands for, in words, whatever lay in the output
+pub record Reported (edition : ℕ) (book : List ℕ) (room allowance : ℕ) (input report report′ : List ℕ) (n : ℕ) : Type 0 where
   pub told : Option ShiftRefusal
   pub written : Report
-  pub shift : Shift.Shift edition book l input output told written output′
+  pub lines : List EndedLine
+  pub shift : (output : List ℕ)
+      → Shift.Shift edition book (needed room allowance) input output told written (printed-over output lines)
   pub number : n ≡ told-number told
   pub words : report′ ≡ with-front report (report-words n written)
 
 module _ {edition : ℕ} {state report report′ : List ℕ} {n : ℕ} where
   pub finish-stands : FinishedC edition state report report′ n → STATE ≤ length state → FINISH ≤ length report → (v : Vocabulary)
-      → Edition.edition edition ≡ some v → (ed : ℕ) (book : List ℕ) (l : Lent) (output input output′ : List ℕ)
-      → After ed book l output input (state-in state) output′ → Reported ed book l input output report report′ n output′
-  finish-stands (finish-no-room (inl h) a b) long room v known ed book l output input output′ s = absurd (omega arith)
-  finish-stands (finish-no-room (inr h) a b) long room v known ed book l output input output′ s = absurd (omega arith)
-  finish-stands (finish-told h k (finished {over} {sums} z r) m t) long room v known ed book l output input output′ s = record {
-    told = over-told over;
-    written = report-in sums;
-    shift = r ed book l output input output′ s;
-    number = m;
-    words = t;
-  }
-  finish-stands (finish-told h k (Promises.no-edition z) m t) long room v known ed book l output input output′ s =
+      → Edition.edition edition ≡ some v → (ed : ℕ) (book : List ℕ) (room : ℕ) (input : List ℕ) → After ed book room input (state-in state)
+      → Reported ed book room (state-in state .allowance) input report report′ n
+  finish-stands (finish-no-room (inl h) a b) long room v known ed book r input s = absurd (omega arith)
+  finish-stands (finish-no-room (inr h) a b) long room v known ed book r input s = absurd (omega arith)
+  finish-stands (finish-told {sums = sums} h k (finished z) m t) long room v known ed book r input s =
+      let x = reports s in
+      record {
+        told = over-told (state-in state .over);
+        written = report-in sums;
+        lines = x .lines;
+        shift = x .written;
+        number = m;
+        words = t;
+      }
+  finish-stands (finish-told h k (Promises.no-edition z) m t) long room v known ed book r input s =
       let z : _≡_ {A = ℕ} 0 1 = cc in absurd (omega arith)

@@ -46,6 +46,7 @@ none-told e q = record {
     };
   };
   paid = refl;
+  nine = refl;
 }
 
 pub without : (e : Ending) (s : Sums) {w : ShiftRefusal} → ending-meant e ≡ some w → s ≡ no-sums → Tells record { told = e; sums = s } (without-sums w)
@@ -60,6 +61,7 @@ module _ (a b : Sums) where
   added {s} e h x = record {
     tells = rw (sym e ∙ h) (λ i. record { told = ending-meant (Ending.Report false); report = x .reports i });
     paid = x .paid;
+    nine = x .nine;
   }
 
   pub not-added : {r : Finished} {t : Bool} → t ≡ addable (report-in a) (report-in b) → t ≡ false → Tells r (without-sums many-lines) → Together a b r

@@ -20,11 +20,13 @@ use Rattle.tally.specs.declared.sums.Sums.{Sums}
 use Rattle.tally.proofs.Reported.{report-stands, bad-more}
 use Rattle.shift.specs.declared.State.{State}
 use Rattle.shift.specs.Meanings.{closed-sums, over-told}
-use Rattle.shift.specs.After.{Keeps}
+use Rattle.shift.specs.After.{After, Reports}
+use Rattle.shift.specs.Taking.{needed, printed-over}
 use Rattle.shift.specs.declared.Ending.{Ending}
-use Rattle.shift.specs.Promises.{Reports, Finish, finished, no-edition}
+use Rattle.shift.specs.Promises.{Finish, finished, no-edition}
 use Rattle.shift.proofs.Kept.{some-begun, none-begun}
 use Rattle.shift.proofs.Sound.{Fits, begun-fits, fed-fits}
+use Rattle.shift.proofs.Standing.{Keeps, new-keeps, takes-stood}
 
 -- the sums in the end stand for all the lines
 closed-stands : (state : State) (s : Sofar) → Keeps state s → Fits s → Stands (closed s) (closed-sums state)
@@ -48,16 +50,23 @@ same-over : (x : Bool) (s : Sofar) → x ≡ s .over → over-told x ≡ closed-
 unfolding closed-told
 same-over x s e = ap over-told e
 
-pub reports : (state : State) → Reports state (state .over) (closed-sums state)
-reports state n book l output input output′ a =
-    let x = fed-shift input output (a .fed) in
-    let z = closed-stands state (a .so-far) (a .keeps) (fed-fits (begun-fits output) (a .fed)) in
-    record {
-      outcomes = x .outcomes;
-      come = subst (λ (o : List ℕ). AllCome n book l (take LINES (lines input)) (x .outcomes) output o) (a .left) (x .come);
-      reports = report-stands z ∙ x .reports;
-      refuses = same-over (state .over) (a .so-far) (a .keeps .over) ∙ x .refuses;
-    }
+-- whatever lay in the output
+pub reports : {n : ℕ} {book : List ℕ} {room : ℕ} {input : List ℕ} {state : State} → After n book room input state
+    → Reports n book room (state .allowance) input (state .over) (closed-sums state)
+reports {n} {book} {room} {input} {state} a = record {
+  lines = a .lines;
+  written = λ output.
+      let z = takes-stood (new-keeps (state .allowance) output) (a .taken) in
+      let x = fed-shift input output (z .fed) in
+      let f = fed-fits (begun-fits output) (z .fed) in
+      record {
+        outcomes = x .outcomes;
+        come = subst (λ (o : List ℕ). AllCome n book (needed room (state .allowance)) (take LINES (lines input)) (x .outcomes) output o)
+            (z .output) (x .come);
+        reports = report-stands (closed-stands state (z .so-far) (z .keeps) f) ∙ x .reports;
+        refuses = same-over (state .over) (z .so-far) (z .keeps .over) ∙ x .refuses;
+      };
+}
 
 -- ---- by what the code finds
 
@@ -81,7 +90,7 @@ module _ (state : State) where
       where
         by : (o : Option Vocabulary) → edition n ≡ o → Finish n state (Ending.Report (state .over)) sums
         by none g = absurd (false≢true (sym (ap is-some g) ∙ sym known ∙ e))
-        by (some v) g = finished g (subst (Reports state (state .over)) (sym f) (reports state))
+        by (some v) g = subst (Finish n state (Ending.Report (state .over))) (sym f) (finished g)
 
     pub finish-unknown : k ≡ false → sums ≡ no-sums → Finish n state (Ending.Refused Refusal.NoEdition) sums
     unfolding is-known

@@ -17,50 +17,55 @@ use Rattle.tally.specs.declared.lines.Part.{Part}
 use Rattle.tally.specs.declared.sums.Sums.{Sums}
 use Rattle.tally.specs.declared.sums.Outcome.{Outcome}
 use Rattle.shift.specs.declared.State.{State}
-use Rattle.shift.specs.Meanings.{lent}
-use Rattle.shift.specs.After.{Grows}
-use Rattle.shift.specs.Feeding.{Lends, Going, Came, with-byte, overfull, Goes}
-use Rattle.shift.proofs.Growing.{grows-none, grows-more, past-grows, full-grows, byte-grows, line-grows}
+use Rattle.shift.specs.Feeding.{Lends, Came, Goes}
+use Rattle.shift.specs.Taking.{needed, EndedLine, printed-over, with-byte, overfull, Going, EndsNone, past, full, inside, Takes, takes-none}
+use Rattle.shift.specs.Taking.{takes-byte, takes-line}
+use Rattle.shift.proofs.Taken.{over-joined, takes-joined, takes-allowance}
 
 other-byte : (b : ℕ) → (b ≡ 10 → ⊥) → is-in-line b ≡ true
 unfolding is-in-line
 other-byte b h = ap not (ne-eqb b 10 h)
 
+line-feed : is-in-line 10 ≡ false
+unfolding is-in-line
+line-feed = refl
+
 module _ (ed : ℕ) (book table work out : List ℕ) (s : State) where
-  abbrev l : Lent
-  l = lent table work (length out) (s .allowance)
-
-  still : (bytes : List ℕ) (r e : State) → Grows ed book l bytes s out e out → e .allowance ≡ s .allowance → r ≡ e
-      → Goes ed book bytes table work out s r table work out
-  still bytes r e g a f =
-      subst (λ (r : State). Goes ed book bytes table work out s r table work out) (sym f)
-      record { grows = g; allowance = a; table-same = refl; work-same = refl }
-
   pub goes-none : Goes ed book [] table work out s s table work out
-  goes-none = still [] s s grows-none refl refl
+  unfolding printed-over
+  goes-none = record { lines = []; takes = takes-none; output = refl; table-same = refl; work-same = refl }
+
+  -- no line ends
+  still : (b : ℕ) (r e : State) → EndsNone s b e → r ≡ e → Goes ed book (b ∷ []) table work out s r table work out
+  unfolding printed-over
+  still b r e g f =
+      subst (λ (r : State). Goes ed book (b ∷ []) table work out s r table work out) (sym f)
+      record { lines = []; takes = takes-byte g takes-none; output = refl; table-same = refl; work-same = refl }
 
   pub goes-past : (b : ℕ) → s .over ≡ true → Goes ed book (b ∷ []) table work out s s table work out
-  goes-past b h = still (b ∷ []) s s (past-grows b h) refl refl
+  goes-past b h = still b s s (past h) refl
 
   pub goes-full : (b : ℕ) (r : State) → s .over ≡ false → LINES ≤ s .sums .lines → r ≡ overfull s → Goes ed book (b ∷ []) table work out s r table work out
-  goes-full b r h n e = still (b ∷ []) r (overfull s) (full-grows b h n) refl e
+  goes-full b r h n e = still b r (overfull s) (full h n) e
 
   pub goes-byte : (b : ℕ) (r : State) → s .over ≡ false → s .sums .lines < LINES → (b ≡ 10 → ⊥) → r ≡ with-byte s b
       → Goes ed book (b ∷ []) table work out s r table work out
-  goes-byte b r h n o e = still (b ∷ []) r (with-byte s b) (byte-grows b h n (other-byte b o)) refl e
+  goes-byte b r h n o e = still b r (with-byte s b) (inside (record { going = h; few = n }) (other-byte b o)) e
 
-  pub goes-line : (o : Outcome) (part : Part) (sums : Sums) (table′ work′ out′ : List ℕ) → Lends ed book table work out (s .allowance) → Going s
-      → Came ed book l (s .part) table work out o table′ work′ out′ → part ≡ no-part → sums ≡ added (s .sums) o
+  pub goes-line : (o : Outcome) (part : Part) (sums : Sums) (table′ work′ out′ : List ℕ) → Going s
+      → Came ed book (needed (length out) (s .allowance)) (s .part) table work out o table′ work′ out′ → part ≡ no-part → sums ≡ added (s .sums) o
       → Goes ed book (10 ∷ []) table work out s record { allowance = s .allowance; part = part; sums = sums; over = s .over } table′ work′ out′
-  goes-line o part sums table′ work′ out′ lends going came e f =
+  unfolding printed-over
+  goes-line o part sums table′ work′ out′ going came e f =
       let x = came .leaves in
-      let g = line-grows s out out′ (came .printed) o (lends .admits) (going .going) (going .few) (came .comes) (x .output) in
-      record {
-        grows = rw (e, f) g;
-        allowance = refl;
+      rw (e, f)
+      (record {
+        lines = record { outcome = o; printed = came .printed } ∷ [];
+        takes = takes-line going line-feed (came .ends) takes-none;
+        output = x .output;
         table-same = x .table-same;
         work-same = x .work-same;
-      }
+      })
 
   pub goes-feed : (b : ℕ) (r : State) (table′ work′ out′ : List ℕ) → b ≡ 10 → Goes ed book (10 ∷ []) table work out s r table′ work′ out′
       → Goes ed book (b ∷ []) table work out s r table′ work′ out′
@@ -68,25 +73,21 @@ module _ (ed : ℕ) (book table work out : List ℕ) (s : State) where
 
   -- ---- one piece after the other
 
-  same-lent : (t w o : List ℕ) (a : ℕ) → t ≡ table → w ≡ work → length o ≡ length out → a ≡ s .allowance → lent t w (length o) a ≡ l
-  same-lent t w o a e f g h = rw (e, f, g, h)
-
   pub goes-more : (x y : List ℕ) (m e : State) (t₁ w₁ o₁ t₂ w₂ o₂ : List ℕ) → length o₁ ≡ length out → Goes ed book x table work out s m t₁ w₁ o₁
       → Goes ed book y t₁ w₁ o₁ m e t₂ w₂ o₂ → Goes ed book (x ++ y) table work out s e t₂ w₂ o₂
-  goes-more x y m e t₁ w₁ o₁ t₂ w₂ o₂ long a b =
-      let z = same-lent t₁ w₁ o₁ (m .allowance) (a .table-same) (a .work-same) long (a .allowance) in
-      record {
-        grows = grows-more (a .grows) (subst (λ (l : Lent). Grows ed book l y m o₁ e o₂) z (b .grows));
-        allowance = b .allowance ∙ a .allowance;
-        table-same = b .table-same ∙ a .table-same;
-        work-same = b .work-same ∙ a .work-same;
-      }
+  goes-more x y m e t₁ w₁ o₁ t₂ w₂ o₂ long a b = record {
+    lines = a .lines ++ b .lines;
+    takes = takes-joined (a .takes) (subst (λ (n : ℕ). Takes ed book n m y (b .lines) e) long (b .takes));
+    output = b .output ∙ ap (λ (o : List ℕ). printed-over o (b .lines)) (a .output) ∙ sym (over-joined out (a .lines) (b .lines));
+    table-same = b .table-same ∙ a .table-same;
+    work-same = b .work-same ∙ a .work-same;
+  }
 
   -- what is lent is lent to the next byte too
   pub lends-on : (x : List ℕ) (m : State) (t₁ w₁ o₁ : List ℕ) → length o₁ ≡ length out → Lends ed book table work out (s .allowance)
       → Goes ed book x table work out s m t₁ w₁ o₁ → Lends ed book t₁ w₁ o₁ (m .allowance)
   lends-on x m t₁ w₁ o₁ long h a = record {
-    admits = rw (a .table-same, a .work-same, long, a .allowance) (h .admits);
+    admits = rw (a .table-same, a .work-same, long, takes-allowance (a .takes)) (h .admits);
     table-clear = rw (a .table-same) (h .table-clear);
     work-clear = rw (a .work-same) (h .work-clear);
   }

@@ -1,11 +1,14 @@
+pub mod Lending
 pub mod Sound
 pub mod Kept
-pub mod Growing
+pub mod Taken
+pub mod Standing
 pub mod Finishing
 pub mod Admitting
 pub mod Running
 pub mod Going
 pub mod Learnt
 pub mod Pieces
+pub mod Determined
 pub mod InPieces
 pub mod Combined

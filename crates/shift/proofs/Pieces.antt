@@ -14,7 +14,6 @@ use Rattle.shift.specs.declared.State.{State}
 use Rattle.shift.specs.declared.Why.{Why}
 use Rattle.shift.specs.declared.Admission.{Admission}
 use Rattle.shift.specs.Meanings.{granted, lent, left-by}
-use Rattle.shift.specs.After.{Grows}
 use Rattle.shift.specs.Admitting.{Asked}
 use Rattle.shift.specs.Feeding.{Lends, Goes}
 use Rattle.shift.specs.Promises.{Feed, feeds, turned}
@@ -76,7 +75,7 @@ module _ (ed : ℕ) (book table work table₁ work₁ out : List ℕ) (state : S
         let x = subst Asks e q in
         record {
           admits = x .told (length out);
-          tells = feeds (g .allowance) (subst (λ (l : Lent). Grows ed book l piece state out after out′) (lent-is x) (g .grows));
+          tells = feeds (g .takes) (g .output);
           table-left = g .table-same ∙ x .table-left;
           work-left = g .work-same ∙ x .work-left;
         }

@@ -6,7 +6,7 @@ use lib.Signed.{mag}
 use mathlib.Core.Bool.{Bool, true, false, cond}
 use mathlib.Core.List.{List, []}
 use mathlib.Core.Logic.{inl, inr}
-use mathlib.Core.Path.{_≡_, refl, sym, ap, subst, _∙_}
+use mathlib.Core.Path.{_≡_, refl, sym, subst, _∙_}
 use borrow.Author.Tests.{leb-true}
 use native.Mathlib.Omega.{arith}
 use Prim.Native.Nat.{ℕ, _≤_, _<_}
@@ -17,11 +17,10 @@ use Rattle.language.specs.Meaning.{in-range}
 use Rattle.language.specs.Numbers.{Refusal, Told, passed, refused, stopped}
 use Rattle.language.specs.Answers.{Lent, Run, left}
 use Rattle.language.specs.Edition.{pair-in}
-use Rattle.language.specs.Shift.{Job, call-of, job-of, runs-to-stop, runs-to-pay, comes-bad, comes-run}
-use Rattle.language.specs.Shift as Shift
-use Rattle.language.specs.Feeding.{ended-line}
+use Rattle.language.specs.Shift.{Job, call-of, runs-to-stop, runs-to-pay}
 use Rattle.language.proofs.Answers.Editions.{pair-in-lawful}
 use Rattle.language.proofs.Shift.LineOutcomes.{Admitted, admitted, Ended, never-refused, passed-stop}
+use Rattle.shift.proofs.Lending.{SameRun, ran-lent}
 use Rattle.language.proofs.Shift.Totals.{range-mag}
 use Rattle.layout.specs.declared.values.Value.{Value}
 use Rattle.layout.specs.Values as Values
@@ -29,14 +28,13 @@ use Rattle.numbers.specs.declared.Stop as Code
 use Rattle.grumpy.specs.declared.answers.PairRan.{PairRan}
 use Rattle.grumpy.specs.Reports.{pair-ran-report}
 use Rattle.grumpy.proofs.Leaving.{ran-left}
-use Rattle.tally.specs.Parts.{no-part, longer-by, job-told}
-use Rattle.tally.specs.Stands.{job-meant}
+use Rattle.tally.specs.Parts.{job-told}
 use Rattle.tally.specs.declared.lines.Part.{Part}
 use Rattle.tally.specs.declared.lines.Job as Line
 use Rattle.tally.specs.declared.sums.Outcome.{Outcome}
-use Rattle.tally.proofs.Jobs.{kept-job}
 use Rattle.shift.specs.Meanings.{lent}
 use Rattle.shift.specs.Feeding.{Lends, ended-as, Leaves, Ran, Came}
+use Rattle.shift.specs.Taking.{needed, ends-bad, ends-run}
 
 -- ---- the end of a run
 
@@ -71,6 +69,18 @@ module _ (ed : ℕ) (book table work out : List ℕ) (allowance : ℕ) (lends : 
   ready : Admitted ed book l
   ready = admitted (lends .admits) refl
 
+  -- what each line is lent of it
+  abbrev k : Lent
+  k = needed (length out) allowance
+
+  as-needed : SameRun l k
+  as-needed = record {
+    enough = ready .enough;
+    also = record { table = omega arith; work = omega arith };
+    output = refl;
+    allowance = refl;
+  }
+
   module _ (j : Job) (p : j .picks ≤ LARGEST) (q : j .rate ≤ LARGEST) (table′ work′ out′ : List ℕ) where
     abbrev Ends : PairRan → Type 0
     Ends r = Run (pair-in ed book (call-of j)) table work out allowance (pair-ran-report r) table′ work′ out′
@@ -88,14 +98,14 @@ module _ (ed : ℕ) (book table work out : List ℕ) (allowance : ℕ) (lends : 
     ended-so r x = never-refused ready p q (x .answer)
 
     Pays : PairRan → Type 0
-    Pays r = Ran ed book l j table work out (ended-as r) table′ work′ out′
+    Pays r = Ran ed book k j table work out (ended-as r) table′ work′ out′
 
     value-so : (t : ℕ) (v : Value) (u n : ℕ) → Ends (PairRan.Value t v u n) → (z : ℤ) → Values.meant v ≡ number z → in-range z ≡ true
         → Pays (PairRan.Value t v u n)
     unfolding Pays
     value-so t (Value.Int y) u n x z e r = record {
       printed = x .printed;
-      runs = runs-to-pay (x .answer) refl refl;
+      runs = runs-to-pay (ran-lent as-needed (x .answer)) refl refl;
       small = small-int _ (subst (λ (z : ℤ). in-range z ≡ true) (one-int e) r);
       leaves = leaves (PairRan.Value t (Value.Int y) u n) x;
     }
@@ -113,7 +123,7 @@ module _ (ed : ℕ) (book table work out : List ℕ) (allowance : ℕ) (lends : 
         by (inr e) = absurd (passed-stop (e .1))
     pays-so (PairRan.Stopped y s t u n) x = record {
       printed = x .printed;
-      runs = runs-to-stop (x .answer) refl;
+      runs = runs-to-stop (ran-lent as-needed (x .answer)) refl;
       small = tt;
       leaves = leaves (PairRan.Stopped y s t u n) x;
     }
@@ -126,10 +136,10 @@ module _ (ed : ℕ) (book table work out : List ℕ) (allowance : ℕ) (lends : 
     -- the call that was lent is the one of the job
     pub ran-so : (second : List ℕ) (r : PairRan) (o : Outcome) → second ≡ call-of j
         → Run (pair-in ed book second) table work out allowance (pair-ran-report r) table′ work′ out′ → o ≡ ended-as r
-        → Ran ed book l j table work out o table′ work′ out′
+        → Ran ed book k j table work out o table′ work′ out′
     unfolding Pays
     ran-so second r o e x f =
-        subst (λ (o : Outcome). Ran ed book l j table work out o table′ work′ out′) (sym f)
+        subst (λ (o : Outcome). Ran ed book k j table work out o table′ work′ out′) (sym f)
         (pays-so r (subst (λ (s : List ℕ). Run (pair-in ed book s) table work out allowance (pair-ran-report r) table′ work′ out′) e x))
 
 -- ---- a line
@@ -160,22 +170,15 @@ good-small p k a b e f =
         (subst (λ (n : ℕ). n ≤ LARGEST) (s .0) (leb-true _ _ g), subst (λ (n : ℕ). n ≤ LARGEST) (s .1) (leb-true _ _ h))
 
 module _ (ed : ℕ) (book : List ℕ) (l : Lent) (table work out : List ℕ) (part : Part) (k : Line.Job) (told : k ≡ job-told part) where
-  job-so : (bytes : List ℕ) → part ≡ longer-by no-part bytes → job-of (ended-line bytes) ≡ job-meant k
-  job-so bytes e = sym (kept-job bytes) ∙ ap (λ (p : Part). job-meant (job-told p)) (sym e) ∙ ap job-meant (sym told)
-
   pub came-good : (a b : ℕ) (o : Outcome) (table′ work′ out′ : List ℕ) → k ≡ Line.Job.Good a b
       → Ran ed book l record { picks = a; rate = b } table work out o table′ work′ out′ → Came ed book l part table work out o table′ work′ out′
-  came-good a b o table′ work′ out′ e r = record {
-    printed = r .printed;
-    comes = λ bytes f. comes-run (job-so bytes f ∙ ap job-meant e) (r .runs);
-    small = r .small;
-    leaves = r .leaves;
-  }
+  came-good a b o table′ work′ out′ e r =
+      record { printed = r .printed; ends = ends-run (sym told ∙ e) (r .runs); small = r .small; leaves = r .leaves }
 
   pub came-bad : k ≡ Line.Job.Bad → Came ed book l part table work out Outcome.Bad table work out
   came-bad e = record {
     printed = [];
-    comes = λ bytes f. comes-bad (job-so bytes f ∙ ap job-meant e);
+    ends = ends-bad (sym told ∙ e);
     small = tt;
     leaves = record { table-same = refl; work-same = refl; output = refl };
   }

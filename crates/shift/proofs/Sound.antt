@@ -9,11 +9,11 @@ use native.Mathlib.Omega.{arith}
 use Prim.Native.Nat.{ℕ, _≤_, _<_}
 use Rattle.language.specs.Sizes.{LINES}
 use Rattle.language.specs.Answers.{Lent}
-use Rattle.language.specs.Shift.{pays}
-use Rattle.language.specs.Feeding.{Sofar, begun, Steps, step-past, step-full, step-byte, step-feed, Fed, fed-none, fed-more}
+use Rattle.language.specs.Shift.{Job, Outcome, bad, stopped, paid, Runs, pay-before, pays}
+use Rattle.language.specs.Feeding.{Sofar, begun, with-outcome, Steps, step-past, step-full, step-byte, step-feed, Fed, fed-none, fed-more}
 use Rattle.language.proofs.Text.Choices.{clash}
-use Rattle.language.proofs.Shift.LineOutcomes.{Admitted}
-use Rattle.language.proofs.Shift.Totals.{pays-more, AllInRange, all-none, all-more, in-range-run}
+use Rattle.shift.proofs.Lending.{paid-int}
+use Rattle.language.proofs.Shift.Totals.{pays-more, AllInRange, all-none, all-more}
 
 -- ---- lines
 
@@ -49,14 +49,15 @@ all-joined : {ys zs : List ℤ} → AllInRange ys → AllInRange zs → AllInRan
 all-joined all-none q = q
 all-joined (all-more r p) q = all-more r (all-joined p q)
 
-module _ {ed : ℕ} {book : List ℕ} {l : Lent} (ready : Admitted ed book l) where
-  step-ints : {s e : Sofar} {b : ℕ} → Ints s → Steps ed book l s b e → Ints e
-  step-ints h (step-past k) = h
-  step-ints h (step-full k n) = h
-  step-ints h (step-byte k n i) = h
-  step-ints {s} h (step-feed {o = o} k n i c) =
-      subst AllInRange (sym (pays-more (s .outcomes) o)) (all-joined h (in-range-run ready c))
+-- one line more
+more-ints : (s : Sofar) (o : Outcome) (printed : List ℕ) → Ints s → AllInRange (pay-before o []) → Ints (with-outcome s o printed)
+more-ints s o printed h r = subst AllInRange (sym (pays-more (s .outcomes) o)) (all-joined h r)
 
-  pub fed-ints : {s e : Sofar} {x : List ℕ} → Ints s → Fed ed book l s x e → Ints e
-  fed-ints h fed-none = h
-  fed-ints h (fed-more a f) = fed-ints (step-ints h a) f
+pub bad-ints : (s : Sofar) (printed : List ℕ) → Ints s → Ints (with-outcome s bad printed)
+bad-ints s printed h = more-ints s bad printed h all-none
+
+pub run-ints : {ed : ℕ} {book : List ℕ} {l : Lent} {j : Job} (s : Sofar) (o : Outcome) (printed : List ℕ) → Ints s → Runs ed book l j o printed
+    → Ints (with-outcome s o printed)
+run-ints s bad printed h x = more-ints s bad printed h all-none
+run-ints s (stopped w) printed h x = more-ints s (stopped w) printed h all-none
+run-ints s (paid z) printed h x = more-ints s (paid z) printed h (all-more (paid-int x) all-none)

@@ -1,29 +1,26 @@
--- What a state stands for: an input that was fed so far, from the start on.
-use mathlib.Core.List.{List, _++_}
-use mathlib.Core.Path.{_≡_}
+-- What a state stands for: the input that made it of a new one. Contracts do not ask for it; theorems say what is told
+-- where there is such an input.
+use mathlib.Core.Bool.{Bool}
+use mathlib.Core.List.{List}
 use Prim.Native.Nat.{ℕ}
-use Rattle.language.specs.Answers.{Lent}
-use Rattle.language.specs.Feeding.{Sofar, begun, Fed}
-use Rattle.tally.specs.Parts.{no-part, longer-by}
-use Rattle.tally.specs.Stands.{Stands}
+use Rattle.language.specs.Shift as Shift
+use Rattle.tally.specs.Stands.{report-in}
+use Rattle.tally.specs.declared.sums.Sums.{Sums}
 use Rattle.shift.specs.declared.State.{State}
+use Rattle.shift.specs.Meanings.{new-state, over-told}
+use Rattle.shift.specs.Taking.{needed, EndedLine, Takes, printed-over}
 
--- the state has what is known so far
-pub record Keeps (state : State) (s : Sofar) : Type 0 where
-  pub part : state .part ≡ longer-by no-part (s .part)
-  pub sums : Stands (s .outcomes) (state .sums)
-  pub over : state .over ≡ s .over
+-- Book, edition, length of the output and the state's allowance are all that it depends on: what lay in the output, and
+-- how much memory was lent beyond what is asked for, does not occur.
+pub record After (edition : ℕ) (book : List ℕ) (room : ℕ) (input : List ℕ) (state : State) : Type 0 where
+  pub lines : List EndedLine
+  pub taken : Takes edition book room (new-state (state .allowance)) input lines state
 
--- with the lent output as it was at first, this input was fed, and the state and the output are as it left them
-pub record After (edition : ℕ) (book : List ℕ) (l : Lent) (output input : List ℕ) (state : State)
-    (output′ : List ℕ) : Type 0 where
-  pub so-far : Sofar
-  pub fed : Fed edition book l (begun output) input so-far
-  pub keeps : Keeps state so-far
-  pub left : so-far .output ≡ output′
-
--- so many bytes more: whatever the state stood for, it stands for that with the bytes behind it
-abbrev pub Grows : ℕ → List ℕ → Lent → List ℕ → State → List ℕ → State → List ℕ → Type 0
-Grows edition book l bytes state out state′ out′ =
-    (output input : List ℕ) → After edition book l output input state out
-    → After edition book l output (input ++ bytes) state′ out′
+-- R14.6, R14.8: it is the written report of this input, whatever lay in the lent output; and there lies afterwards what
+-- the lines printed
+pub record Reports (edition : ℕ) (book : List ℕ) (room allowance : ℕ) (input : List ℕ) (over : Bool) (sums : Sums)
+    : Type 0 where
+  pub lines : List EndedLine
+  pub written : (output : List ℕ)
+      → Shift.Shift edition book (needed room allowance) input output (over-told over) (report-in sums)
+      (printed-over output lines)

@@ -1,4 +1,5 @@
 -- What is told of two parts of a shift together, whatever is handed over as their reports.
+use lib.ListN.{length}
 use mathlib.Core.Option.{Option, some}
 use mathlib.Core.Path.{_≡_}
 use Rattle.language.specs.Combining.{paid-lines, combined, together}
@@ -19,10 +20,12 @@ ending-meant (Ending.Refused y) = some (sheet (refusal-meant y))
 abbrev pub told-in : Finished → Combining.Ending
 told-in f = record { told = ending-meant (f .told); report = report-in (f .sums) }
 
--- it tells this; how many were paid, which a report does not have, is the number that follows from it
+-- it tells this; how many were paid, which a report does not have, is the number that follows from it, and there are no
+-- more counts than the nine of the stops
 pub record Tells (r : Finished) (e : Combining.Ending) : Type 0 where
   pub tells : told-in r ≡ e
   pub paid : r .sums .paid ≡ paid-lines (report-in (r .sums))
+  pub nine : length (r .sums .stops) ≡ 9
 
 abbrev pub Together : Sums → Sums → Finished → Type 0
 Together a b r = Tells r (together (report-in a) (report-in b))

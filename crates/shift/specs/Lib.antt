@@ -1,4 +1,5 @@
 pub mod Meanings
+pub mod Taking
 pub mod After
 pub mod Admitting
 pub mod Feeding

@@ -1,12 +1,11 @@
-// The bytes of a piece, one after the other. Nothing is asked of the state: what it stood for, it stands for with
-// the bytes behind it.
+// The bytes of a piece, one after the other. Nothing is asked of the state, which is the caller's.
 ghost use mathlib.Core.List.{_∷_, []};
 ghost use mathlib.Core.Path.{_≡_};
 ghost use Prim.Native.Nat.{_≤_};
 ghost use lib.ListN.{length};
 ghost use Rattle.language.specs.Sizes.{LARGEST};
-ghost use Rattle.shift.specs.Feeding.{Lends, Going, paid-as, ended-as, Ran, Came, Goes, with-byte, overfull};
-ghost use Rattle.shift.specs.Meanings.{lent};
+ghost use Rattle.shift.specs.Feeding.{Lends, paid-as, ended-as, Ran, Came, Goes};
+ghost use Rattle.shift.specs.Taking.{needed, Going, with-byte, overfull};
 use crate::State;
 use grumpy::answers::PairRan;
 use layout::values::Value;
@@ -67,8 +66,7 @@ fn run(
     requires { ⌜ Lends edition (now book) (now table) (now work) (now out) allowance × (picks ≤ LARGEST) ×
         (rate ≤ LARGEST) ⌝ }
     ensures { λ r.
-        ⌜ Ran edition (now (book .entry))
-        (lent (now (table .entry)) (now (work .entry)) (length (now (out .entry))) allowance)
+        ⌜ Ran edition (now (book .entry)) (needed (length (now (out .entry))) allowance)
         record { picks = picks; rate = rate } (now (table .entry)) (now (work .entry)) (now (out .entry)) r
         (now (table .exit)) (now (work .exit)) (now (out .exit)) ⌝ }
 {
@@ -90,8 +88,7 @@ fn come(
 ) -> Outcome
     requires { ⌜ Lends edition (now book) (now table) (now work) (now out) allowance ⌝ }
     ensures { λ r.
-        ⌜ Came edition (now (book .entry))
-        (lent (now (table .entry)) (now (work .entry)) (length (now (out .entry))) allowance) part
+        ⌜ Came edition (now (book .entry)) (needed (length (now (out .entry))) allowance) part
         (now (table .entry)) (now (work .entry)) (now (out .entry)) r (now (table .exit)) (now (work .exit))
         (now (out .exit)) ⌝ }
 {

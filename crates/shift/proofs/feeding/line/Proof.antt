@@ -28,8 +28,8 @@ returns c =
     let earlier-2 = at-come .before .before .before .before .before .before .before in
     let start = earlier-2 .before .before .before in
     let a = start .args in
-    goes-line (a .edition) (a .book .now) (a .table .now) (a .work .now) (a .out .now) (a .state) (at-come .come .result) _ _ _ _ _ (start .pre .0)
-    (start .pre .1) (at-come .come .ensures) (c .before .none .ensures) (c .add .ensures)
+    goes-line (a .edition) (a .book .now) (a .table .now) (a .work .now) (a .out .now) (a .state) (at-come .come .result) _ _ _ _ _ (start .pre .1)
+    (at-come .come .ensures) (c .before .none .ensures) (c .add .ensures)
 
 pub line-spec : {M : Type 1} → statement M
 line-spec =
