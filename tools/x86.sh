@@ -1,14 +1,17 @@
 # To be sourced. Programs of the box are for x86-64; on another machine they are built by a cross
 # compiler and run under an emulator, both Debian's, installed here where they are missing.
 #
+#   install PACKAGE...      Debian's packages
 #   x86_gcc WORDS...        the C compiler for x86-64
 #   x86_objdump WORDS...    shows what such an object holds
 #   $EMULATOR PROGRAM ...   runs such a program; empty on x86-64
+install() { # PACKAGE...
+  apt-get install -y -q --no-install-recommends "$@" >/dev/null 2>&1 && return
+  apt-get update -q >/dev/null && apt-get install -y -q --no-install-recommends "$@" >/dev/null
+}
+
 need() { # COMMAND PACKAGE...
-  command -v "$1" >/dev/null && return
-  shift
-  apt-get install -y -q "$@" >/dev/null 2>&1 && return
-  apt-get update -q >/dev/null && apt-get install -y -q "$@" >/dev/null
+  command -v "$1" >/dev/null || install "${@:2}"
 }
 
 x86_gcc() {
