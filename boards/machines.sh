@@ -79,7 +79,7 @@ build_wasm() { # PROGRAM WORDS...
 }
 
 build() { # TRIPLE PROGRAM WORDS...
-  local cortex=(arm-none-eabi-gcc -mcpu=cortex-m4 -nostartfiles -DSTACK="${STACK-}" -T examples/board/board.ld)
+  local cortex=(arm-none-eabi-gcc -mcpu=cortex-m4 -nostartfiles -Wl,--no-warn-execstack ${STACK:+-DSTACK="$STACK"} -T examples/board/board.ld)
   case $1 in
   x86_64-*) x86_gcc -static "${@:3}" -o "$2" ;;
   aarch64-* | riscv64-* | s390x-*) "$1-gcc" -static "${@:3}" -o "$2" ;;
