@@ -1,11 +1,10 @@
-# To be sourced after tools/targets.sh and tools/x86.sh, with `room` set to a folder: how C is built for each target, and
-# how a program for it is run.
+# To be sourced after tools/targets.sh and tools/x86.sh, with `top` set to the top of the repository: how C is built for
+# each target, and how a program for it is run.
 #
 #   provide TRIPLE...              installs what is missing for them, as far as that can be done
 #   is_there TRIPLE                whether all that it needs is there; lacking TRIPLE names what is not
 #   build TRIPLE PROGRAM WORDS...  a program of the C files and archives in WORDS, with $STACK bytes of stack if bare
 #   run TRIPLE PROGRAM             runs it, or node for WebAssembly
-#   worked_out TRIPLE FOLDER       the most stack of the archive there, by tools/stack
 export QEMU_STACK_SIZE=16M
 
 # What a target needs, by twos: a command, and Debian's package that has it.
@@ -47,22 +46,30 @@ is_there() { # TRIPLE
   [ -z "$(lacking "$1")" ]
 }
 
-# All packages at once, since each call of the installer takes seconds; one by one where that fails.
+# All packages at once, since each call of the installer takes seconds; one by one where one of them is not to be had.
 provide() { # TRIPLE...
   local triple packages package
   packages=$(for triple in "$@"; do lacking "$triple"; done | tr ' ' '\n' | sort -u)
   # shellcheck disable=SC2086
-  [ -z "$packages" ] || install $packages 2>/dev/null ||
-    for package in $packages; do install "$package" 2>/dev/null; done
+  [ -z "$packages" ] || fetch $packages 2>/dev/null ||
+    for package in $packages; do fetched "$package" 2>/dev/null; done
+  return 0
 }
 
 # For WebAssembly the kit's clang is compiler and linker. It has no header of its own for <stdint.h>.
 build_wasm() { # PROGRAM WORDS...
-  local folder=$room/wasm.$$.$RANDOM word objects=() given=()
+  local folder=$1.parts word objects=() given=()
+  local compiler=(llvm clang --target=wasm32 -mbulk-memory -ffreestanding -nostdinc -I"$folder")
   mkdir -p "$folder"
-  printf '%s\n' 'typedef __UINT8_TYPE__ uint8_t;' 'typedef __UINT32_TYPE__ uint32_t;' 'typedef __INT64_TYPE__ int64_t;' \
-    'typedef __UINT64_TYPE__ uint64_t;' 'typedef __UINTPTR_TYPE__ uintptr_t;' '#define UINT64_C(c) c##ULL' \
-    '#define UINT32_C(c) c##U' >"$folder/stdint.h"
+  cat >"$folder/stdint.h" <<'HEADER'
+typedef __UINT8_TYPE__ uint8_t;
+typedef __UINT32_TYPE__ uint32_t;
+typedef __INT64_TYPE__ int64_t;
+typedef __UINT64_TYPE__ uint64_t;
+typedef __UINTPTR_TYPE__ uintptr_t;
+#define UINT32_C(c) c##U
+#define UINT64_C(c) c##ULL
+HEADER
   for word in "${@:2}"; do
     case $word in *.[ac]) ;; *) given+=("$word") ;; esac
   done
@@ -70,7 +77,7 @@ build_wasm() { # PROGRAM WORDS...
     case $word in
     *.c)
       objects+=("$folder/$(basename "$word" .c).o")
-      llvm clang --target=wasm32 -mbulk-memory -ffreestanding -nostdinc -I"$folder" "${given[@]}" -c "$word" -o "${objects[-1]}" || return
+      "${compiler[@]}" "${given[@]}" -c "$word" -o "${objects[-1]}" || return
       ;;
     *.a) objects+=("$word") ;;
     esac
@@ -79,7 +86,8 @@ build_wasm() { # PROGRAM WORDS...
 }
 
 build() { # TRIPLE PROGRAM WORDS...
-  local cortex=(arm-none-eabi-gcc -mcpu=cortex-m4 -nostartfiles -Wl,--no-warn-execstack ${STACK:+-DSTACK="$STACK"} -T examples/board/board.ld)
+  local cortex=(arm-none-eabi-gcc -mcpu=cortex-m4 ${STACK:+-DSTACK="$STACK"} -nostartfiles -T examples/board/board.ld
+    -Wl,--no-warn-execstack)
   case $1 in
   x86_64-*) x86_gcc -static "${@:3}" -o "$2" ;;
   aarch64-* | riscv64-* | s390x-*) "$1-gcc" -static "${@:3}" -o "$2" ;;
@@ -105,8 +113,4 @@ run() { # TRIPLE PROGRAM
   wasm32-*) node boards/cases.mjs "$2" ;;
   *) "qemu-${1%%-*}" "$2" ;;
   esac
-}
-
-worked_out() { # TRIPLE FOLDER
-  tools/stack --most "$1" "$2"
 }

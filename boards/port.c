@@ -1,5 +1,5 @@
-/* Where the digits go and where the program begins: as any C program; on a bare Cortex-M by examples/board/start.c; on a
- * bare RISC-V of 32 bits, for which Debian has no C library, by calls of Linux; in WebAssembly by an import. */
+/* Where the digits go and where the program begins: as any C program; on a bare Cortex-M by examples/board/start.c; on
+ * a bare RISC-V of 32 bits, for which Debian has no C library, by calls of Linux; in WebAssembly by an import. */
 #include "cases.h"
 
 #if defined(__wasm__)

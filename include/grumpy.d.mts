@@ -77,6 +77,6 @@ export declare class Grumpy {
   runStored(form: Sheet, how?: Lent): Ran;
   checkPair(first: Sheet, second: Sheet, how?: Edition): Checked & Spot;
   runPair(first: Sheet, second: Sheet, how?: Lent): Ran & Spot;
-  /** A rate sheet with pay(picks,rate) set under it; a RangeError where these are no whole numbers of the sheet's range. */
+  /** A rate sheet with pay(picks,rate) set under it; a RangeError where these are no whole numbers up to 2147483647. */
   pay(book: Sheet, picks: number, rate: number, how?: Lent): Ran & Spot;
 }

@@ -142,8 +142,9 @@ extern "C" {
 #define GRUMPY_EDITION_2 2
 
 /* bytes of stack that a thread which calls these functions should have, where the archive is compiled at -O2 or -O3:
- * worked out from the compiled code (tools/stack) and tried on the worst sheets that a search has found, not proved. How
- * much it is at other levels, and for a sheet of few tokens, is in docs/EMBEDDING.md. */
+ * worked out from the compiled code (tools/stack, which also sets these figures) and tried on the worst sheets that a
+ * search has found, not proved. How much it is at other levels, and for a sheet of few tokens, is in
+ * docs/EMBEDDING.md. */
 #if defined(__x86_64__)
 #define GRUMPY_STACK 622592 /* x86_64-linux-gnu */
 #elif defined(__aarch64__)

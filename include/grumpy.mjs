@@ -1,5 +1,5 @@
-// The box in node or in a browser: grumpy.wasm, which tools/wasm links, behind functions that take a sheet and answer an
-// object. grumpy.d.mts has the types; what the numbers mean and what is promised is in grumpy.h.
+// The box in node or in a browser: grumpy.wasm, which tools/wasm links, behind functions that take a sheet and answer
+// an object. grumpy.d.mts has the types; what the numbers mean and what is promised is in grumpy.h.
 //
 //     const box = await Grumpy.load(bytes)        // or a Response, as of fetch
 //     box.pay(book, 70000, 3)                     // { number: 0, type: "int", value: 225, units: 422, printed, .. }
@@ -7,8 +7,8 @@
 // A sheet is a string, which is read as UTF-8, or bytes; places are bytes. Nothing is kept between calls.
 //
 // Besides the stack in its own memory the box takes some of the engine's, half a megabyte for the deepest sheets. Where
-// an engine has less it throws in the midst of a call: then the sheet is not answered, and a NoStack is thrown. Node has
-// twice as much, and so has a page in Chromium; a Worker there has a little less.
+// an engine has less it throws in the midst of a call: then the sheet is not answered, and a NoStack is thrown. Node
+// has twice as much, and so has a page in Chromium; a Worker there has a little less.
 
 /** The numbers of grumpy.h, in words. */
 export const MEANINGS = {

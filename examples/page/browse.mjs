@@ -9,12 +9,14 @@ import { join, resolve } from "node:path";
 const [chromium, page, ...rest] = process.argv.slice(2);
 const picture = rest[0] === "--picture" ? rest.splice(0, 2)[1] : null;
 const room = mkdtempSync(join(tmpdir(), "page-"));
-const browser = spawn(chromium, ["--headless", "--no-sandbox", "--disable-gpu", "--no-first-run", "--window-size=1000,1250",
-  "--disable-dev-shm-usage", "--remote-debugging-pipe", `--user-data-dir=${room}`, "about:blank"],
+const browser = spawn(chromium, ["--headless", "--no-sandbox", "--disable-gpu", "--disable-dev-shm-usage",
+  "--no-first-run", "--window-size=1000,1250", "--remote-debugging-pipe", `--user-data-dir=${room}`, "about:blank"],
   { stdio: ["ignore", "ignore", "ignore", "pipe", "pipe"] });
 
 let last = 0, kept = "", session;
 const waiting = new Map(), wrong = [], heard = new Map();
+
+const described = ({ exception, text }) => exception?.description ?? text;
 
 function take(message) {
   if (message.id) {
@@ -26,7 +28,7 @@ function take(message) {
   if (method === "Network.requestWillBeSent" && !/^(file|blob|data):/.test(params.request.url)) {
     wrong.push(`the page asks for ${params.request.url}`);
   }
-  if (method === "Runtime.exceptionThrown") wrong.push(params.exceptionDetails.exception?.description ?? "an exception");
+  if (method === "Runtime.exceptionThrown") wrong.push(described(params.exceptionDetails));
   if (method === "Log.entryAdded" && params.entry.level === "error") wrong.push(params.entry.text);
   heard.get(method)?.();
 }
@@ -45,9 +47,9 @@ function ask(method, params = {}) {
 
 async function inPage(action, ...words) {
   const expression = `(${action})(${words.map((word) => JSON.stringify(word)).join(",")})`;
-  const { result, exceptionDetails } = await ask("Runtime.evaluate", { expression, awaitPromise: true, returnByValue: true });
-  if (exceptionDetails) throw new Error(exceptionDetails.exception?.description ?? exceptionDetails.text);
-  return result.value;
+  const answer = await ask("Runtime.evaluate", { expression, awaitPromise: true, returnByValue: true });
+  if (answer.exceptionDetails) throw new Error(described(answer.exceptionDetails));
+  return answer.result.value;
 }
 
 // What a person does, and what is shown once it is answered.
@@ -57,8 +59,8 @@ async function fill(sheet, picks, rate, edition) {
   for (const [id, text] of Object.entries({ sheet, picks, rate, edition })) by(id).value = text;
   document.querySelector("button").click();
   while (Number(document.body.dataset.answered ?? 0) <= before) await new Promise((done) => setTimeout(done, 5));
-  const shown = ["slip", "report", "where"].filter((id) => !by(id).hidden);
-  return shown.map((id) => `${id}\n${(by(id).innerText.replace(/\n$/, "") || "nothing").replace(/^/gm, "  ")}\n`).join("");
+  const text = (id) => (by(id).innerText.replace(/\n$/, "") || "nothing").replace(/^/gm, "  ");
+  return ["slip", "report", "where"].filter((id) => !by(id).hidden).map((id) => `${id}\n${text(id)}\n`).join("");
 }
 
 async function browse() {
@@ -73,7 +75,8 @@ async function browse() {
   });
   for (; rest.length > 0; ) {
     const [file, picks, rate, edition] = rest.splice(0, 4);
-    process.stdout.write(`-- ${file} ${picks} ${rate}\n` + await inPage(fill, readFileSync(file, "utf8"), picks, rate, edition));
+    const shown = await inPage(fill, readFileSync(file, "utf8"), picks, rate, edition);
+    process.stdout.write(`-- ${file} ${picks} ${rate}\n${shown}`);
   }
   if (picture) writeFileSync(picture, Buffer.from((await ask("Page.captureScreenshot")).data, "base64"));
 }

@@ -1,10 +1,12 @@
-// node calls.mjs: every function of grumpy.mjs, and what it answers; and that it has the sizes and numbers of the header.
+// node calls.mjs: every function of grumpy.mjs, and what it answers; then where it differs from the header in sizes and
+// numbers.
 import { readFileSync } from "node:fs";
 import { Grumpy, MEANINGS, NoStack, SIZES } from "../../include/grumpy.mjs";
 
 const box = await Grumpy.load(readFileSync(process.env.GRUMPY_WASM));
 const text = (bytes) => JSON.stringify(new TextDecoder().decode(bytes));
-const tell = (...words) => console.log(...words.map((word) => (typeof word === "object" ? JSON.stringify(word) : word)));
+const shown = (word) => (typeof word === "object" ? JSON.stringify(word) : word);
+const tell = (...words) => console.log(...words.map(shown));
 const ran = ({ printed, ...others }) => tell("run", others, text(printed));
 const wrote = ({ bytes, ...others }) => tell("write", others, text(bytes));
 
@@ -50,8 +52,8 @@ for (let depth = 1000; !short; depth += 500) {
 tell("check", box.check(deepest));
 
 const header = readFileSync(new URL("../../include/grumpy.h", import.meta.url), "utf8");
-const defined = Object.fromEntries([...header.matchAll(/^#define GRUMPY_(\w+) (\d+)/gm)].map(([, name, n]) => [name, +n]));
-const sizes = Object.keys(SIZES).filter((name) => SIZES[name] !== defined[name]);
+const defined = (name) => Number(header.match(new RegExp(`^#define GRUMPY_${name} (\\d+)`, "m"))?.[1]);
+const sizes = Object.keys(SIZES).filter((name) => SIZES[name] !== defined(name));
 const numbers = header.slice(header.indexOf("#define GRUMPY_OK"), header.indexOf("/* the types"));
 const all = [...numbers.matchAll(/^#define \w+ (\d+)/gm)].map(([, n]) => n);
 const others = [...all.filter((n) => !MEANINGS[n]), ...Object.keys(MEANINGS).filter((n) => !all.includes(n))];

@@ -1,5 +1,5 @@
-// What a box does: it looks at the type before anything is run, since a wage is an int. How many units the sheet can use
-// at most is known besides, if it must finish.
+// What a box does: it looks at the type before anything is run, since a wage is an int. How many units the sheet can
+// use at most is known besides, if it must finish.
 function paid(box, { sheet, picks, rate, edition }) {
   const call = `pay(${picks},${rate})`;
   const checked = box.checkPair(sheet, call, { edition });
