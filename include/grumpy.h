@@ -2,8 +2,9 @@
  * pays a shift by one.
  *
  * Thirteen functions. They keep nothing between calls, ask for no memory of their own but the stack, of which
- * GRUMPY_STACK bytes are enough, and call nothing from outside but memset. They may be called from several
- * threads at once, each with memory of its own.
+ * GRUMPY_STACK bytes are enough, and call nothing from outside but memset on x86-64; docs/EMBEDDING.md tells what it
+ * is on other machines. They may be called from several threads at once, each with memory of its own. Lengths have
+ * 64 bits on every machine.
  *
  * Editions. The first argument of each that takes a sheet is the edition of the language that it is written in:
  * GRUMPY_EDITION_1, or GRUMPY_EDITION_2, which has counted loops, with the words `for` and `by` and the marks
@@ -44,7 +45,7 @@
  *     double value;
  *     memcpy(&value, &report[3], sizeof value);
  *
- * The calling thread has to have the usual control of floats (MXCSR): rounding to nearest, no exception
+ * The calling thread has to have the usual control of floats (MXCSR on x86-64): rounding to nearest, no exception
  * trapped, subnormal numbers kept. C programs have it unless they change it.
  *
  * The pay profile. A sheet without loops and without a function that calls itself must finish; grumpy_profile says
