@@ -3,12 +3,13 @@
 
 #include "grumpy.h"
 
-/* The stack lies lowest in memory (board.ld), where a step too deep ends in a fault and not in other data. What the
- * program itself takes, and what the C library's helpers do, comes on top of the box's. */
+/* The program's stack lies lowest in memory (board.ld), where a step too deep ends in a fault and not in other data.
+ * What the program itself takes comes on top of the box's. Faults are dealt with on a stack of their own. */
 #ifndef STACK
-#define STACK (GRUMPY_STACK + 8192)
+#define STACK (GRUMPY_STACK + 1024)
 #endif
 static uint64_t stack[STACK / 8] __attribute__((section(".stack"), used));
+static uint64_t fault_stack[128] __attribute__((section(".stack.faults"), used));
 
 extern uint32_t data_from[], data_begin[], data_end[], bss_begin[], bss_end[];
 
@@ -43,11 +44,16 @@ int board_words(char *words, uint32_t room) {
   return ask(COMMAND_LINE, asked) == 0;
 }
 
-static void end(uint32_t status) {
+__attribute__((noreturn)) static void end(uint32_t status) {
   const uint32_t asked[] = {0x20026, status}; /* the program has come to its end */
   ask(EXIT, asked);
   for (;;) {
   }
+}
+
+__attribute__((noinline, noreturn)) static void begin(void) {
+  open_console();
+  end((uint32_t)board_main());
 }
 
 void reset(void) {
@@ -59,8 +65,8 @@ void reset(void) {
 #endif
   for (to = data_begin; to < data_end;) *to++ = *from++;
   for (to = bss_begin; to < bss_end;) *to++ = 0;
-  open_console();
-  end((uint32_t)board_main());
+  __asm__ volatile("msr psp, %0\n msr control, %1\n isb" : : "r"(stack + STACK / 8), "r"(2) : "memory");
+  begin();
 }
 
 static void fault(void) {
@@ -69,7 +75,7 @@ static void fault(void) {
   end(3);
 }
 
-/* the top of the stack, then where to begin, then what to do for each kind of fault */
+/* the stack to begin with, then where to begin, then what to do for each kind of fault */
 __attribute__((section(".vectors"), used)) static const void *const vectors[16] = {
-    stack + STACK / 8, (const void *)reset, (const void *)fault, (const void *)fault,
+    fault_stack + 128, (const void *)reset, (const void *)fault, (const void *)fault,
     (const void *)fault, (const void *)fault, (const void *)fault};
