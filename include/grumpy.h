@@ -2,8 +2,9 @@
  * pays a shift by one.
  *
  * Thirteen functions. They keep nothing between calls, ask for no memory of their own but the stack, of which
- * GRUMPY_STACK bytes are enough, and call nothing from outside but memset. They may be called from several
- * threads at once, each with memory of its own.
+ * GRUMPY_STACK bytes are enough, and call nothing from outside but memset on x86-64; docs/EMBEDDING.md tells what it
+ * is on other machines. They may be called from several threads at once, each with memory of its own. Lengths have
+ * 64 bits on every machine.
  *
  * Editions. The first argument of each that takes a sheet is the edition of the language that it is written in:
  * GRUMPY_EDITION_1, or GRUMPY_EDITION_2, which has counted loops, with the words `for` and `by` and the marks
@@ -44,7 +45,7 @@
  *     double value;
  *     memcpy(&value, &report[3], sizeof value);
  *
- * The calling thread has to have the usual control of floats (MXCSR): rounding to nearest, no exception
+ * The calling thread has to have the usual control of floats (MXCSR on x86-64): rounding to nearest, no exception
  * trapped, subnormal numbers kept. C programs have it unless they change it.
  *
  * The pay profile. A sheet without loops and without a function that calls itself must finish; grumpy_profile says
@@ -137,7 +138,6 @@
 #ifndef GRUMPY_H
 #define GRUMPY_H
 
-#include <stddef.h>
 #include <stdint.h>
 
 #ifdef __cplusplus
@@ -162,9 +162,27 @@ extern "C" {
 #define GRUMPY_EDITION_1 1
 #define GRUMPY_EDITION_2 2
 
-/* bytes of stack that a thread which calls these functions should have: worked out from the compiled code
- * (tools/stack) and tried on the worst sheets that a search has found, not proved */
-#define GRUMPY_STACK 786432
+/* bytes of stack that a thread which calls these functions should have, where the archive is compiled at -O2 or -O3:
+ * worked out from the compiled code (tools/stack, which also sets these figures) and tried on the worst sheets that a
+ * search has found, not proved. How much it is at other levels, and for a sheet of few tokens, is in
+ * docs/EMBEDDING.md. */
+#if defined(__x86_64__)
+#define GRUMPY_STACK 622592 /* x86_64-linux-gnu */
+#elif defined(__aarch64__)
+#define GRUMPY_STACK 622592 /* aarch64-linux-gnu */
+#elif defined(__riscv) && __riscv_xlen == 64
+#define GRUMPY_STACK 688128 /* riscv64-linux-gnu */
+#elif defined(__riscv)
+#define GRUMPY_STACK 557056 /* riscv32-unknown-elf */
+#elif defined(__s390x__)
+#define GRUMPY_STACK 1048576 /* s390x-linux-gnu */
+#elif defined(__ARM_ARCH_PROFILE) && __ARM_ARCH_PROFILE == 'M'
+#define GRUMPY_STACK 655360 /* thumbv7em-none-eabihf and thumbv7em-none-eabi */
+#elif defined(__arm__)
+#define GRUMPY_STACK 753664 /* armv7-linux-gnueabihf */
+#elif defined(__wasm__)
+#define GRUMPY_STACK 360448 /* wasm32-unknown-unknown */
+#endif
 
 /* the largest source in bytes, the longest stored form of one, the largest allowance in units, and the largest count
  * of a pay sheet */
@@ -223,101 +241,101 @@ extern "C" {
 
 /* Reads and checks a sheet. */
 uint32_t grumpy_check(uint32_t edition,
-                      const uint8_t *source, size_t source_length,
-                      uint32_t *table, size_t table_length,
-                      uint64_t *report, size_t report_length);
+                      const uint8_t *source, uint64_t source_length,
+                      uint32_t *table, uint64_t table_length,
+                      uint64_t *report, uint64_t report_length);
 
 /* Reads and checks a sheet, and runs it if it passes. */
 uint32_t grumpy_run(uint32_t edition,
-                    const uint8_t *source, size_t source_length,
-                    uint32_t *table, size_t table_length,
-                    uint32_t *work, size_t work_length,
-                    uint8_t *out, size_t out_length,
+                    const uint8_t *source, uint64_t source_length,
+                    uint32_t *table, uint64_t table_length,
+                    uint32_t *work, uint64_t work_length,
+                    uint8_t *out, uint64_t out_length,
                     uint64_t allowance,
-                    uint64_t *report, size_t report_length);
+                    uint64_t *report, uint64_t report_length);
 
 /* Reads and checks a sheet, and writes it out again if it passes: its tokens as they are spelled, one space
  * between every two, a line feed at the end and no comments. An `out` of GRUMPY_SOURCE bytes is as much as
  * is ever of use. What is written is a sheet with the same meaning; written again it is itself. */
 uint32_t grumpy_write(uint32_t edition,
-                      const uint8_t *source, size_t source_length,
-                      uint32_t *table, size_t table_length,
-                      uint8_t *out, size_t out_length,
-                      uint64_t *report, size_t report_length);
+                      const uint8_t *source, uint64_t source_length,
+                      uint32_t *table, uint64_t table_length,
+                      uint8_t *out, uint64_t out_length,
+                      uint64_t *report, uint64_t report_length);
 
 /* Reads and checks a sheet, and counts the units that it can use at most, if it must finish. */
 uint32_t grumpy_profile(uint32_t edition,
-                        const uint8_t *source, size_t source_length,
-                        uint32_t *table, size_t table_length,
-                        uint64_t *report, size_t report_length);
+                        const uint8_t *source, uint64_t source_length,
+                        uint32_t *table, uint64_t table_length,
+                        uint64_t *report, uint64_t report_length);
 
 /* Reads and checks a sheet, and writes its stored form if it passes: lines of hexadecimal, capitals, each with
  * its line feed, first the count of its tokens in four digits and then each token as it is spelled. An `out` of
  * GRUMPY_STORED bytes is as much as is ever of use. */
 uint32_t grumpy_store(uint32_t edition,
-                      const uint8_t *source, size_t source_length,
-                      uint32_t *table, size_t table_length,
-                      uint8_t *out, size_t out_length,
-                      uint64_t *report, size_t report_length);
+                      const uint8_t *source, uint64_t source_length,
+                      uint32_t *table, uint64_t table_length,
+                      uint8_t *out, uint64_t out_length,
+                      uint64_t *report, uint64_t report_length);
 
 /* Check and run of a stored sheet. */
 uint32_t grumpy_check_stored(uint32_t edition,
-                             const uint8_t *stored, size_t stored_length,
-                             uint32_t *table, size_t table_length,
-                             uint64_t *report, size_t report_length);
+                             const uint8_t *stored, uint64_t stored_length,
+                             uint32_t *table, uint64_t table_length,
+                             uint64_t *report, uint64_t report_length);
 
 uint32_t grumpy_run_stored(uint32_t edition,
-                           const uint8_t *stored, size_t stored_length,
-                           uint32_t *table, size_t table_length,
-                           uint32_t *work, size_t work_length,
-                           uint8_t *out, size_t out_length,
+                           const uint8_t *stored, uint64_t stored_length,
+                           uint32_t *table, uint64_t table_length,
+                           uint32_t *work, uint64_t work_length,
+                           uint8_t *out, uint64_t out_length,
                            uint64_t allowance,
-                           uint64_t *report, size_t report_length);
+                           uint64_t *report, uint64_t report_length);
 
 /* Check and run of two sheets, read as one. */
 uint32_t grumpy_check_pair(uint32_t edition,
-                           const uint8_t *first, size_t first_length,
-                           const uint8_t *second, size_t second_length,
-                           uint32_t *table, size_t table_length,
-                           uint64_t *report, size_t report_length);
+                           const uint8_t *first, uint64_t first_length,
+                           const uint8_t *second, uint64_t second_length,
+                           uint32_t *table, uint64_t table_length,
+                           uint64_t *report, uint64_t report_length);
 
 uint32_t grumpy_run_pair(uint32_t edition,
-                         const uint8_t *first, size_t first_length,
-                         const uint8_t *second, size_t second_length,
-                         uint32_t *table, size_t table_length,
-                         uint32_t *work, size_t work_length,
-                         uint8_t *out, size_t out_length,
+                         const uint8_t *first, uint64_t first_length,
+                         const uint8_t *second, uint64_t second_length,
+                         uint32_t *table, uint64_t table_length,
+                         uint32_t *work, uint64_t work_length,
+                         uint8_t *out, uint64_t out_length,
                          uint64_t allowance,
-                         uint64_t *report, size_t report_length);
+                         uint64_t *report, uint64_t report_length);
 
 /* Begins a shift: asks whether the book will do, and sets the state. `allowance` is what each line may use. */
 uint32_t grumpy_shift_begin(uint32_t edition,
-                            const uint8_t *book, size_t book_length,
-                            uint32_t *table, size_t table_length,
-                            uint32_t *work, size_t work_length,
+                            const uint8_t *book, uint64_t book_length,
+                            uint32_t *table, uint64_t table_length,
+                            uint32_t *work, uint64_t work_length,
                             uint64_t allowance,
-                            uint64_t *state, size_t state_length,
-                            uint64_t *report, size_t report_length);
+                            uint64_t *state, uint64_t state_length,
+                            uint64_t *report, uint64_t report_length);
 
 /* One piece more of the input. */
 uint32_t grumpy_shift_feed(uint32_t edition,
-                           const uint8_t *book, size_t book_length,
-                           const uint8_t *piece, size_t piece_length,
-                           uint32_t *table, size_t table_length,
-                           uint32_t *work, size_t work_length,
-                           uint8_t *out, size_t out_length,
-                           uint64_t *state, size_t state_length,
-                           uint64_t *report, size_t report_length);
+                           const uint8_t *book, uint64_t book_length,
+                           const uint8_t *piece, uint64_t piece_length,
+                           uint32_t *table, uint64_t table_length,
+                           uint32_t *work, uint64_t work_length,
+                           uint8_t *out, uint64_t out_length,
+                           uint64_t *state, uint64_t state_length,
+                           uint64_t *report, uint64_t report_length);
 
 /* The report of what was fed. The state stays as it is: what is fed after it goes on from there. */
 uint32_t grumpy_shift_finish(uint32_t edition,
-                             const uint64_t *state, size_t state_length,
-                             uint64_t *report, size_t report_length);
+                             const uint64_t *state, uint64_t state_length,
+                             uint64_t *report, uint64_t report_length);
 
 /* The report of two parts together. It reads no sheet, and so takes no edition. */
-uint32_t grumpy_shift_combine(const uint64_t *first, size_t first_length,
-                              const uint64_t *second, size_t second_length,
-                              uint64_t *report, size_t report_length);
+uint32_t grumpy_shift_combine(const uint64_t *first, uint64_t first_length,
+                              const uint64_t *second, uint64_t second_length,
+                              uint64_t *report, uint64_t report_length);
 
 #ifdef __cplusplus
 }

@@ -6,7 +6,7 @@
 #   build FILE      builds slip from the source as it stands, without looking at the proofs
 #   older FILE      removes programs of its kind, as proved-KEY, that other sources were built to
 #   runner          sets the array `run` to the words before a program for x86-64
-#   archive         builds the archive for C, proved, where there is none of this source
+#   archive         builds the archive for C, proved, where there is none of this source, and beside it grumpy_c.bc
 WANTED='rattle-kit-5b-plain logic 097e4c862dff5811'
 UNPROVED='slip: the proofs were not checked in this build; ./slip --prove checks them, in some minutes'
 
@@ -34,6 +34,18 @@ find_kit() {
   kit=$(rt doc 2>/dev/null) && kit=${kit%/docs/*} && own=on/$(uname -m)
 }
 
+# A kit that differs from the real one in its compiler, which is the script on standard input; the real one is
+# real/clang beside it. KIT-ID is part of what a proof is known by: without it all would be proved again.
+altered_kit() { # ROOM
+  local bin=$1/$own/toolchain/bin part
+  mkdir -p "$bin/real"
+  for part in "$kit"/*; do [ "${part##*/}" = on ] || ln -s "$part" "$1"; done
+  for part in "$kit/$own"/*; do [ "${part##*/}" = toolchain ] || ln -s "$part" "$1/$own"; done
+  ln -s "$kit/$own/toolchain/lib" "$1/$own/toolchain"
+  ln -s "$kit/$own/toolchain/bin"/* "$bin" && mv "$bin/clang" "$bin/real"
+  cat >"$bin/clang" && chmod +x "$bin/clang"
+}
+
 # `rt try` compiles a program that is not proved, runs it and throws it away. Here it is given a kit that differs
 # from the real one in its compiler, which keeps the optimised object. That is linked as `rt check` links.
 build() { # FILE
@@ -41,18 +53,11 @@ build() { # FILE
   find_kit
   bin=$own/toolchain/bin
   mkdir -p "${1%/*}" && room=$(mktemp -d "${1%/*}/build.XXXXXX") || return
-  mkdir -p "$room/$bin/real"
-  ln -s "$kit/libs" "$kit/lib" "$kit/logic" "$room"
-  ln -s "$kit/$own/bin" "$room/$own"
-  ln -s "$kit/$own/toolchain/lib" "$room/$own/toolchain"
-  ln -s "$kit/$bin"/* "$room/$bin"
-  mv "$room/$bin/clang" "$room/$bin/real"
-  cat >"$room/$bin/clang" <<'SCRIPT'
+  altered_kit "$room" <<'SCRIPT'
 #!/bin/sh
 "${0%/*}/real/clang" "$@" || exit
 case " $* " in *' -O3 '*) cp module.o "${0%/*}/kept.o" ;; esac
 SCRIPT
-  chmod +x "$room/$bin/clang"
   if (cd "$top" && RATTLE_HOME=$room rt try slip) >"$room/log" 2>&1 &&
     "$kit/$own/bin/rattle-link" --target x86_64-unknown-linux-gnu --toolchain "$kit/$own/toolchain" \
       -o "$room/program" "$room/$bin/kept.o" "$kit/lib/libos_c.a" >>"$room/log" 2>&1; then
@@ -85,10 +90,23 @@ runner() {
   fi
 }
 
+# The bitcode is what the proof's last step hands to the compiler: kept, it can be compiled for other machines.
 archive() {
-  local file=$top/target/staticlib/libgrumpy_c.a now
+  local folder=$top/target/staticlib file now kit own room status=0
+  file=$folder/libgrumpy_c.a
   now=$(key grumpy_c)
-  [ -e "$file" ] && [ "$now $(sha256sum <"$file")" = "$(cat "$file.key" 2>/dev/null)" ] && return
+  [ "$now $(cat "$file" "$folder/grumpy_c.bc" 2>/dev/null | sha256sum)" = "$(cat "$file.key" 2>/dev/null)" ] && return
   need_rt
-  (cd "$top" && rt staticlib grumpy_c) >&2 && echo "$now $(sha256sum <"$file")" >"$file.key"
+  find_kit
+  mkdir -p "$folder" && room=$(mktemp -d "$folder/build.XXXXXX") || return
+  altered_kit "$room" <<'SCRIPT'
+#!/bin/sh
+cp module.bc "${0%/*}/kept.bc"
+exec "${0%/*}/real/clang" "$@"
+SCRIPT
+  (cd "$top" && RATTLE_HOME=$room rt staticlib grumpy_c) >&2 &&
+    mv "$room/$own/toolchain/bin/kept.bc" "$folder/grumpy_c.bc" &&
+    echo "$now $(cat "$file" "$folder/grumpy_c.bc" | sha256sum)" >"$file.key" || status=1
+  rm -rf "$room"
+  return $status
 }

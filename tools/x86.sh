@@ -1,14 +1,21 @@
 # To be sourced. Programs of the box are for x86-64; on another machine they are built by a cross
 # compiler and run under an emulator, both Debian's, installed here where they are missing.
 #
+#   fetch PACKAGE...        installs Debian's packages; `fetched` does so by the lists that there are
+#   need COMMAND PACKAGE... installs them if there is no such command
 #   x86_gcc WORDS...        the C compiler for x86-64
 #   x86_objdump WORDS...    shows what such an object holds
 #   $EMULATOR PROGRAM ...   runs such a program; empty on x86-64
+fetched() { # PACKAGE...
+  apt-get install -y -q --no-install-recommends "$@" >/dev/null
+}
+
+fetch() { # PACKAGE...
+  fetched "$@" 2>/dev/null || { apt-get update -q >/dev/null && fetched "$@"; }
+}
+
 need() { # COMMAND PACKAGE...
-  command -v "$1" >/dev/null && return
-  shift
-  apt-get install -y -q "$@" >/dev/null 2>&1 && return
-  apt-get update -q >/dev/null && apt-get install -y -q "$@" >/dev/null
+  command -v "$1" >/dev/null || fetch "${@:2}"
 }
 
 x86_gcc() {
