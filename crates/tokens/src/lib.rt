@@ -31,6 +31,7 @@ use crate::edition::Edition;
 use crate::pieces::Piece;
 use crate::view::View;
 use crate::view::len;
+use crate::view::longer;
 use language::SOURCE;
 use language::TOKENS;
 use language::kinds;
@@ -69,10 +70,10 @@ pub fn split(edition: Edition, first: &[u8], second: &[u8], view: View, table: &
         ⌜ IsSplit (meant edition) (text-of (first .entry) (second .entry) view) (now (table .entry))
         (now (table .exit)) r ⌝ }
 {
-    let size = len(first, second, view);
-    if SOURCE < size {
+    if longer(first, second, view, SOURCE) {
         return Split::TooLong;
     }
+    let size = len(first, second, view);
     forks::begin(table);
     let mut at = 0;
     let mut count = 0;

@@ -1,5 +1,6 @@
 -- `split` goes from piece to piece, and writes each token behind those before it.
 use borrow.Author.Needs.{needs}
+use borrow.Author.Tests.{ltb-true, ltb-false}
 use lib.ListN.{length}
 use mathlib.Core.List.{List}
 use mathlib.Core.Path.{refl, sym, _∙_, subst}
@@ -31,22 +32,21 @@ abbrev μ-loop : tie.MeasureT-loop
 abbrev text : tie.At-loop Inv-loop μ-loop → List ℕ
 text h =
     let earlier = h .before .before .before .before .before .before .before in
-    let start = earlier .before .before .before in
+    let start = earlier .before .before .before .before in
     let a = start .args in shown (a .first .now) (a .second .now) (a .view)
 
 -- the words and marks
 abbrev voc : tie.At-loop Inv-loop μ-loop → Vocabulary
 voc h =
     let earlier = h .before .before .before .before .before .before .before in
-    let start = earlier .before .before .before in
+    let start = earlier .before .before .before .before in
     meant (start .args .edition)
 
 -- it is not too long
 short : (h : tie.At-loop Inv-loop μ-loop) → length (text h) ≤ SOURCE
 short h =
-    let at-if1 = h .before .before .before .before .before in
-    let at-len = at-if1 .before in
-    subst (λ n. n ≤ SOURCE) (at-len .len .ensures) (at-if1 .if1 .left)
+    let at-if1 = h .before .before .before .before .before .before in
+    ltb-false SOURCE (length (text h)) (sym (at-if1 .before .longer .ensures) ∙ at-if1 .if1 .left)
 
 -- the token that stands there: its kind, its end and what it is worth
 abbrev Held : tie.After-kind Inv-loop μ-loop → Type 0
@@ -65,26 +65,32 @@ bounds : (c : tie.After-kind Inv-loop μ-loop)
     → (c .before .before .before .before .loop .at < c .kind .given .0 .1 .0) × (c .kind .given .0 .1 .0 ≤ length (text (c .before .before .before .before)))
 bounds c = form-bounds (text (c .before .before .before .before)) (c .before .before .before .before .loop .at) _ _ (held c .piece .form)
 
+longer-requires : tie.Need-longer-requires Inv-loop μ-loop
+longer-requires c κs = search needs
+
+returns : tie.Need-returns Inv-loop μ-loop
+returns c =
+    let a = c .before .before .before .before .before .args in
+    let t = shown (a .first .now) (a .second .now) (a .view) in
+    record { long = ltb-true SOURCE (length t) (sym (c .before .longer .ensures) ∙ c .if1 .taken); kept = refl }
+
 len-requires : tie.Need-len-requires Inv-loop μ-loop
 len-requires c κs = search needs
 
-returns : tie.Need-returns Inv-loop μ-loop
-returns c = record { long = subst (λ n. SOURCE < n) (c .before .len .ensures) (c .if1 .taken); kept = refl }
-
 begin-requires : tie.Need-begin-requires Inv-loop μ-loop
-begin-requires c κs = c .before .before .before .before .before .before .pre
+begin-requires c κs = c .before .before .before .before .before .before .before .pre
 
 loop-holds : tie.Need-loop-holds Inv-loop μ-loop
 loop-holds c =
     let earlier = c .before .before .before .before .before .before .before in
-    let start = earlier .before .before in
+    let start = earlier .before .before .before in
     let a = start .args in
     reached-none (shown (a .first .now) (a .second .now) (a .view)) _ (omega (arith, c .before .before .begin .ensures .rest .long, start .pre))
     (c .before .before .begin .ensures .shape)
 
 piece-at-requires : tie.Need-piece-at-requires Inv-loop μ-loop
 piece-at-requires c κs =
-    let at-len = c .before .before .before .before .before .before .before in
+    let at-len = c .before .before .before .before .before .before in
     subst (λ n. c .before .loop .at < n) (at-len .len .ensures) (c .loop-test .taken)
 
 enum-known-end : tie.Need-enum-known-end Inv-loop μ-loop
@@ -129,7 +135,7 @@ table-worth-requires : tie.Need-table-worth-requires Inv-loop μ-loop
 table-worth-requires c κs =
     let k = c .before .before .before in
     let h = k .before .before .before .before in
-    let start = h .before .before .before .before .before .before .before .before .before .before in
+    let start = h .before .before .before .before .before .before .before .before .before .before .before in
     reached-searchable (h .loop .inv) (short h) (omega (arith, h .loop .inv .few, c .before .if2 .left)) (held k)
     (laws-of (start .args .edition))
 
@@ -217,7 +223,7 @@ returns-4 c =
     let h = c .before in
     let l = h .loop in
     reached-whole (l .inv) (h .before .before .before .begin .ensures .rest) (short h)
-    (omega (arith, reached-inside (l .inv .reaches), c .loop-test .left, h .before .before .before .before .before .before .len .ensures))
+    (omega (arith, reached-inside (l .inv .reaches), c .loop-test .left, h .before .before .before .before .before .len .ensures))
 
 pub split-spec : {M : Type 1} → statement M
 split-spec =
@@ -225,8 +231,9 @@ split-spec =
     (tie.spec
     Inv-loop
     μ-loop
-    len-requires
+    longer-requires
     returns
+    len-requires
     begin-requires
     loop-holds
     piece-at-requires
