@@ -78,7 +78,12 @@ pub fn split(edition: Edition, first: &[u8], second: &[u8], view: View, table: &
     let mut at = 0;
     let mut count = 0;
     while at < size {
-        match pieces::piece_at(edition, first, second, view, at) {
+        let here = view::byte(first, second, view, at);
+        if bytes::is_blank(here) {
+            at += 1;
+            continue;
+        }
+        match pieces::piece_of(edition, first, second, view, at, here) {
             Piece::Space(end) => {
                 at = end;
             }
