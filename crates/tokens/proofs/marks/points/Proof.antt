@@ -1,12 +1,13 @@
--- `in_two` looks for the longer of the marks that edition 2 adds, then for the other, and then for those of edition 1.
+-- `points` looks for the longer of the marks that edition 2 adds, then for the other; edition 1 has none with a point.
 use borrow.Author.Needs.{needs}
 use Prim.Native.Nat.{ℕ}
 use mathlib.Core.List.{List}
 use mathlib.Core.Path.{sym, _∙_}
-use Rattle.tokens.proofs.PointMarks.{through, upto, as-before}
-use Rattle.tokens.proofs.marks.in_two.Statement.{statement}
-use Rattle.tokens.proofs.marks.in_two.Tie as tie
+use Rattle.tokens.proofs.PointMarks.{through, upto, as-before, point-alone}
+use Rattle.tokens.proofs.marks.points.Statement.{statement}
+use Rattle.tokens.proofs.marks.points.Tie as tie
 use Rattle.tokens.specs.Shown.{shown}
+use Rattle.tokens.specs.declared.marks.Mark.{Mark}
 
 -- the text
 abbrev text : tie.Start → List ℕ
@@ -36,18 +37,17 @@ returns-2 c =
     let longer = sym (d .before .stands-at .ensures) ∙ d .if1 .left in
     upto (text s) (s .args .at) (s .pre .0) (s .pre .1) longer (sym (c .before .stands-at2 .ensures) ∙ c .if2 .taken)
 
-in-one-requires : tie.Need-in-one-requires
-in-one-requires c κs = search needs
-
 returns-3 : tie.Need-returns-3
 returns-3 c =
-    let e = c .before in
-    let d = e .before .before .before in
+    let d = c .before .before .before in
     let s = d .before .before .before .before .before in
-    as-before (text s) (s .args .at) (s .pre .0) (s .pre .1) (sym (e .before .stands-at2 .ensures) ∙ e .if2 .left) (c .in-one .result) (c .in-one .ensures)
+    let t = text s in
+    let p = s .args .at in
+    let clear = sym (c .before .stands-at2 .ensures) ∙ c .if2 .left in
+    as-before t p (s .pre .0) (s .pre .1) clear Mark.None (point-alone (s .pre .0) (s .pre .1) (s .pre .2))
 
-pub in-two-spec : {M : Type 1} → statement M
-in-two-spec =
+pub points-spec : {M : Type 1} → statement M
+points-spec =
     tie.close
     (tie.spec
     slice-aggregate-stands-at
@@ -56,5 +56,4 @@ in-two-spec =
     slice-aggregate-stands-at-2
     stands-at-requires-2
     returns-2
-    in-one-requires
     returns-3)
