@@ -1,9 +1,9 @@
 -- `sheet` puts the parts one behind the other.
-use Rattle.records.specs.Machines.{sheet-line}
+use Rattle.records.specs.Told.{sheet-line}
 use Rattle.page.proofs.Adding.{both}
 use borrow.Author.Needs.{needs}
-use Rattle.records.proofs.machines.sheet.Statement.{statement}
-use Rattle.records.proofs.machines.sheet.Tie as tie
+use Rattle.records.proofs.told.sheet.Statement.{statement}
+use Rattle.records.proofs.told.sheet.Tie as tie
 
 slice-aggregate-put : tie.Need-slice-aggregate-put
 slice-aggregate-put c = search needs

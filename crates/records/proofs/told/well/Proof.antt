@@ -1,8 +1,8 @@
 -- `well` puts the text.
-use Rattle.records.specs.Machines.{well-lines}
+use Rattle.records.specs.Told.{well-lines}
 use borrow.Author.Needs.{needs}
-use Rattle.records.proofs.machines.well.Statement.{statement}
-use Rattle.records.proofs.machines.well.Tie as tie
+use Rattle.records.proofs.told.well.Statement.{statement}
+use Rattle.records.proofs.told.well.Tie as tie
 
 slice-aggregate-put : tie.Need-slice-aggregate-put
 slice-aggregate-put c = search needs
