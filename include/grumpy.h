@@ -129,9 +129,9 @@
  *     where some were, [13] and [14] are each from -2147483648 to 2147483647, and [13] is at most [14]
  *     where some were, [14] + (paid - 1) * [13] is at most [12], and [12] is at most [13] + (paid - 1) * [14]
  *
- * By the last, the three are the same where one line was paid, and [12] is [13] + [14] where two were. These are the
- * reports that some lines of bad ones, stops and ints have, and no others. So it does not matter which two of three
- * reports are combined first, whatever stands in them.
+ * By the last, the three are the same where one line was paid, and [12] is [13] + [14] where two were. These are
+ * exactly the reports of some lines, each of them bad, stopped or paid an int. So it does not matter which two of
+ * three reports are combined first, whatever stands in them.
  *
  * A state or report that is too short is answered with GRUMPY_SHORT_MEMORY, and nothing is changed.
  */
