@@ -52,8 +52,7 @@ provide() { # TRIPLE...
   packages=$(for triple in "$@"; do lacking "$triple"; done | tr ' ' '\n' | sort -u)
   # shellcheck disable=SC2086
   [ -z "$packages" ] || fetch $packages 2>/dev/null ||
-    for package in $packages; do fetched "$package" 2>/dev/null; done
-  return 0
+    for package in $packages; do fetched "$package" 2>/dev/null || true; done
 }
 
 # For WebAssembly the kit's clang is compiler and linker. It has no header of its own for <stdint.h>.
