@@ -3,9 +3,11 @@
 #
 #   provide TRIPLE...              installs what is missing for them, as far as that can be done
 #   is_there TRIPLE                whether all that it needs is there; lacking TRIPLE names what is not
-#   build TRIPLE PROGRAM WORDS...  a program of the C files and archives in WORDS, with $STACK bytes of stack if bare
+#   build TRIPLE PROGRAM WORDS...  a program of the C files and archives in WORDS; where it is bare, with STACK bytes of
+#                                  stack, or as many as the header and start.c say
 #   run TRIPLE PROGRAM             runs it, or node for WebAssembly
 export QEMU_STACK_SIZE=16M
+STACK=
 
 # What a target needs, by twos: a command, and Debian's package that has it.
 needed() { # TRIPLE
