@@ -3,9 +3,11 @@
 #
 #   provide TRIPLE...              installs what is missing for them, as far as that can be done
 #   is_there TRIPLE                whether all that it needs is there; lacking TRIPLE names what is not
-#   build TRIPLE PROGRAM WORDS...  a program of the C files and archives in WORDS, with $STACK bytes of stack if bare
+#   build TRIPLE PROGRAM WORDS...  a program of the C files and archives in WORDS; where it is bare, with STACK bytes of
+#                                  stack, or as many as the header and start.c say
 #   run TRIPLE PROGRAM             runs it, or node for WebAssembly
 export QEMU_STACK_SIZE=16M
+STACK=
 
 # What a target needs, by twos: a command, and Debian's package that has it.
 needed() { # TRIPLE
@@ -52,8 +54,7 @@ provide() { # TRIPLE...
   packages=$(for triple in "$@"; do lacking "$triple"; done | tr ' ' '\n' | sort -u)
   # shellcheck disable=SC2086
   [ -z "$packages" ] || fetch $packages 2>/dev/null ||
-    for package in $packages; do fetched "$package" 2>/dev/null; done
-  return 0
+    for package in $packages; do fetched "$package" 2>/dev/null || true; done
 }
 
 # For WebAssembly the kit's clang is compiler and linker. It has no header of its own for <stdint.h>.

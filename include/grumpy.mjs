@@ -8,7 +8,7 @@
 //
 // Besides the stack in its own memory the box takes some of the engine's, half a megabyte for the deepest sheets. Where
 // an engine has less it throws in the midst of a call: then the sheet is not answered, and a NoStack is thrown. Node
-// has twice as much, and so has a page in Chromium; a Worker there has a little less.
+// has twice as much, and a page in Chromium enough; a Worker there has a little less.
 
 /** The numbers of grumpy.h, in words. */
 export const MEANINGS = {

@@ -41,13 +41,14 @@ module() { # TRIPLE
 # list that is written with the object, so that tools/stack need not compile again. Products and sums of floats stay two
 # roundings, and what cannot be reached traps, as where `rt` compiles.
 compile() { # TRIPLE LEVEL
-  local words
+  local words status=0
   words=$(machine "$1") || return
   words="--target=$1 $words -O$2 -ffp-contract=off -ffunction-sections -fdata-sections -mllvm -trap-unreachable"
   words+=' -mllvm -no-trap-after-noreturn --no-default-config -fno-crash-diagnostics -Wno-override-module -Werror -x ir'
   module "$1" >whole.ll || return
   # shellcheck disable=SC2086
   llvm clang $words -S -emit-llvm whole.ll -o grumpy_c.ll &&
-    llvm clang -fstack-usage -Xclang -disable-llvm-passes $words -c grumpy_c.ll -o grumpy_c.o
+    llvm clang -fstack-usage -Xclang -disable-llvm-passes $words -c grumpy_c.ll -o grumpy_c.o || status=$?
   rm whole.ll
+  return $status
 }
