@@ -1,5 +1,5 @@
--- How a cause is told to people: file, line and column of its place, or of a stored sheet the line; the number, the words,
--- and the line with a mark under the place.
+-- How a cause is told to people: file, line and column of its place, or of a stored sheet the line; the number, the
+-- words, and the line with a mark under the place.
 use lib.Dec.{eqb}
 use mathlib.Core.Bool.{Bool, cond}
 use mathlib.Core.List.{List, _++_}
