@@ -91,10 +91,6 @@ token-value w i = token-word w i 3
 unfoldable pub kind-of : List ℕ → ℕ → ℕ → ℕ
 kind-of w count i = cond (ltb i count) (getD w (4 * i) 0) 0
 
--- the place of token i of the first `count`, 0 past the last
-unfoldable pub place-of : List ℕ → ℕ → ℕ → ℕ
-place-of w count i = cond (ltb i count) (token-place w i) 0
-
 -- word k of row i
 abbrev pub row-word : List ℕ → ℕ → ℕ → ℕ
 row-word w i k = getD w (ROWS-AT + 5 * i + k) 0

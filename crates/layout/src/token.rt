@@ -4,7 +4,7 @@ ghost use Prim.Native.Nat.{_+_, _*_, _≤_, _<_};
 ghost use lib.ListN.{length};
 ghost use Rattle.language.specs.Sizes.{TOKENS, TABLE};
 ghost use Rattle.layout.specs.Table.{SPANS, token-end, token-place, token-high, token-value};
-ghost use Rattle.layout.specs.Table.{kind-of, place-of, put-token};
+ghost use Rattle.layout.specs.Table.{kind-of, put-token};
 
 // Where a token begins and where it ends share a word.
 const SPANS: u32 = 65536;
@@ -31,14 +31,6 @@ pub fn place(table: &[u32], at: usize) -> u32
 {
     let both = table[4 * at + 1];
     both % SPANS
-}
-
-// The same for any ordinal, 0 where there is no token.
-pub fn place_of(table: &[u32], count: usize, at: usize) -> u32
-    requires { ⌜ (TABLE ≤ length (now table)) × (count ≤ TOKENS) ⌝ }
-    ensures { λ r. ⌜ r ≡ place-of (now (table .entry)) count at ⌝ }
-{
-    if at < count { place(table, at) } else { 0 }
 }
 
 // The byte behind a token's last.

@@ -8,10 +8,10 @@ ghost use Rattle.stored.specs.Names.{Searchable, First, Numbered, TableW
 use language::kinds;
 use layout::PUTCHAR;
 use layout::token;
+use tokens::bytes::spells;
 use tokens::forks::STARTS_AT;
 use tokens::forks::hang;
 use tokens::forks::way_end;
-use tokens::names::spells;
 use tokens::view::View;
 use tokens::view::len;
 

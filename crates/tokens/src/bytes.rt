@@ -4,11 +4,13 @@ ghost use mathlib.Core.Bool.{true};
 ghost use mathlib.Core.Path.{_≡_};
 ghost use Prim.Native.Nat.{_+_, _≤_};
 ghost use lib.ListN.{length};
+ghost use lib.Seq.{slice};
 ghost use Rattle.language.specs.Text as Text;
 ghost use Rattle.language.specs.Text.{is-blank, is-letter, is-digit, is-hex-digit, is-digit-of};
 ghost use Rattle.language.specs.Text.{is-name-byte, is-in-line};
 ghost use Rattle.language.proofs.Text.Runs.{Run};
 ghost use Rattle.language.proofs.Text.Spellings.{stands};
+ghost use Rattle.language.specs.Tokens.{same};
 ghost use Rattle.tokens.specs.Found.{is-of};
 ghost use Rattle.tokens.specs.Shown.{text-of};
 use crate::hexadecimal::is_capital;
@@ -245,4 +247,15 @@ pub fn stands_within(first: &[u8], second: &[u8], view: View, at: usize, bytes: 
         i += 1;
     }
     true
+}
+
+// Do the bytes from p up to q spell this?
+pub fn spells(first: &[u8], second: &[u8], view: View, p: usize, q: usize, bytes: &[u8]) -> bool
+    requires { ⌜ (p ≤ q) × (q ≤ length (text-of first second view)) ⌝ }
+    ensures { λ r. ⌜ r ≡ same (now (bytes .entry)) (slice p q (text-of (first .entry) (second .entry) view)) ⌝ }
+{
+    if bytes.len() != q - p {
+        return false;
+    }
+    stands_at(first, second, view, p, bytes)
 }

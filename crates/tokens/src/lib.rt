@@ -20,7 +20,7 @@ mod floats;
 pub mod forks;
 pub mod hexadecimal;
 mod marks;
-pub mod names;
+mod names;
 pub mod pieces;
 pub mod view;
 mod words;

@@ -1,29 +1,14 @@
-// Spellings compared, and the numbers of names.
-ghost use mathlib.Core.Path.{_≡_};
-ghost use Prim.Native.Nat.{_≤_};
-ghost use lib.ListN.{length};
+// The numbers of names.
 ghost use lib.Seq.{slice};
-ghost use Rattle.language.specs.Tokens.{same};
 ghost use Rattle.tokens.specs.Found.{Searchable, First, Numbered, bytes-of};
 ghost use Rattle.tokens.specs.Forks.{Planted};
 ghost use Rattle.tokens.specs.Shown.{text-of};
-use crate::bytes::stands_at;
+use crate::bytes::spells;
 use crate::forks::hang;
 use crate::forks::way_end;
 use crate::view::View;
 use layout::PUTCHAR;
 use layout::token;
-
-// Do the bytes from p up to q spell this?
-pub fn spells(first: &[u8], second: &[u8], view: View, p: usize, q: usize, bytes: &[u8]) -> bool
-    requires { ⌜ (p ≤ q) × (q ≤ length (text-of first second view)) ⌝ }
-    ensures { λ r. ⌜ r ≡ same (now (bytes .entry)) (slice p q (text-of (first .entry) (second .entry) view)) ⌝ }
-{
-    if bytes.len() != q - p {
-        return false;
-    }
-    stands_at(first, second, view, p, bytes)
-}
 
 // The ordinal of the first of the tokens in the table that is spelled like the bytes from p up to q, which are to be
 // the next one; where none is, their count. The next name with these bytes will find it, too.

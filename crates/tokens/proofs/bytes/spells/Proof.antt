@@ -2,8 +2,8 @@
 use borrow.Author.Needs.{needs}
 use mathlib.Core.Path.{_∙_}
 use Rattle.tokens.proofs.Compared.{stands-same, length-same}
-use Rattle.tokens.proofs.names.spells.Statement.{statement}
-use Rattle.tokens.proofs.names.spells.Tie as tie
+use Rattle.tokens.proofs.bytes.spells.Statement.{statement}
+use Rattle.tokens.proofs.bytes.spells.Tie as tie
 use Rattle.tokens.specs.Shown.{shown}
 
 sub-if1 : tie.Need-sub-if1
