@@ -6,6 +6,9 @@
 //! + the second report
 //! = what they combine to
 //! ```
+//!
+//! A word is a number of 64 bits, with a sign or without one: `-1` and
+//! `18446744073709551615` are the same word.
 
 use crate::combine::{combine, Report};
 use std::fs;
@@ -75,10 +78,33 @@ fn read_file(name: &str, text: &str) -> Result<Vec<CombineCase>, String> {
 }
 
 fn report(text: &str) -> Result<Report, String> {
-    let words: Result<Vec<i64>, _> = text.split(' ').map(str::parse).collect();
-    let words = words.map_err(|_| "no numbers".to_string())?;
-    let words: Vec<u64> = words.into_iter().map(|word| word as u64).collect();
-    words
+    let words: Result<Vec<u64>, String> = text.split(' ').map(word).collect();
+    words?
         .try_into()
         .map_err(|_| "fifteen numbers are wanted".to_string())
+}
+
+fn word(text: &str) -> Result<u64, String> {
+    let signed = || text.parse::<i64>().map(|word| word as u64);
+    text.parse::<u64>()
+        .or_else(|_| signed())
+        .map_err(|_| format!("no number of 64 bits: {text}"))
+}
+
+/// Three reports, and what they combine to two by two, as cases.
+pub fn show(title: &str, three: &[Report; 3]) -> String {
+    let [a, b, c] = three;
+    let (left, right) = (combine(a, b), combine(b, c));
+    let pairs = [[a, b], [&left, c], [b, c], [a, &right]];
+    pairs.map(|pair| show_two(title, pair)).concat()
+}
+
+fn show_two(title: &str, [first, second]: [&Report; 2]) -> String {
+    let words = |report: &Report| report.map(|word| (word as i64).to_string()).join(" ");
+    let due = words(&combine(first, second));
+    format!(
+        "* {title}\n+ {}\n+ {}\n= {due}\n\n",
+        words(first),
+        words(second)
+    )
 }

@@ -5,6 +5,7 @@ use crate::answer::{Left, Lent, TABLE_WORDS, WORK_WORDS};
 use crate::chance::Chance;
 use crate::combine;
 use crate::compare::{same_words, Call, Other, Tell};
+use crate::forged;
 use crate::pair::NOWHERE;
 use crate::services::Service;
 use crate::shift::{begin, Shift};
@@ -66,6 +67,9 @@ enum Short {
     Report,
 }
 
+/// Of so many shifts the state that was left is forged once.
+const FORGED_ONE_IN: usize = 3;
+
 /// Holds a whole shift.
 pub fn hold(other: &dyn Other, trial: &ShiftTrial, tell: &mut Tell) -> Result<(), String> {
     let mut chance = Chance::new(trial.fill, 14);
@@ -105,11 +109,15 @@ pub fn hold(other: &dyn Other, trial: &ShiftTrial, tell: &mut Tell) -> Result<()
     }
     let told = lending.finish(&shift, last)?;
     tell(Service::ShiftFinish, told);
+    if lending.chance.one_in(FORGED_ONE_IN) {
+        let left = &lending.state[..state_words];
+        forged::hold(other, trial, left, tell).map_err(|e| format!("forged: {e}"))?;
+    }
     combine::hold(other, trial, tell).map_err(|e| format!("combined: {e}"))
 }
 
 /// The words of state that the other implementation asks for.
-fn state_words(other: &dyn Other) -> Result<usize, String> {
+pub fn state_words(other: &dyn Other) -> Result<usize, String> {
     let heard = other.call(&Call::bare(Service::StateWords, 1))?;
     Ok(heard.number as usize)
 }
@@ -167,6 +175,17 @@ impl Lending<'_> {
             .map_err(|e| format!("{short:?} too short: {e}"))
     }
 
+    /// Table and work for a call: those that are long enough may be longer each
+    /// time, and whatever lies in them and in the output is drawn each time too.
+    fn at_times_longer(&mut self) -> (usize, usize) {
+        let Lent { table, work, .. } = self.trial.lent;
+        let mut longer = |length: usize, required: usize| match length >= required {
+            true => length + self.chance.pick(&[0, 0, 1, 40, 3000]),
+            false => length,
+        };
+        (longer(table, TABLE_WORDS), longer(work, WORK_WORDS))
+    }
+
     /// Whether the book by itself, with all room, is refused at a place in it.
     fn is_in_book(&self) -> bool {
         let whole = crate::pair::whole(&self.trial.book, b"0");
@@ -219,7 +238,7 @@ impl Lending<'_> {
         let (table, work) = match (service, short) {
             (Service::ShiftFinish, _) => (0, 0),
             (_, Short::Table) => (TABLE_WORDS - 1, lent.work),
-            _ => (lent.table, lent.work),
+            _ => self.at_times_longer(),
         };
         let words = match short {
             Short::Report => service.words() - 1,
