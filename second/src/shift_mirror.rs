@@ -1,7 +1,7 @@
 //! This interpreter's shifts behind the other's interface, with a fault at will,
 //! to see whether faults are found.
 
-use crate::answer::{Lent, TABLE_WORDS, WORK_WORDS};
+use crate::answer::{is_edition, Lent, TABLE_WORDS, WORK_WORDS};
 use crate::combine::Report;
 use crate::compare::{After, Call, Heard, Other, Told};
 use crate::services::Service;
@@ -116,8 +116,8 @@ impl Mirror {
         if self.fault == "a state that finish changes" {
             heard.state[1] = !heard.state[1];
         }
-        heard.number = 0;
-        heard.report[0] = 0;
+        heard.number = if is_edition(call.edition) { 0 } else { 42 };
+        heard.report[0] = heard.number;
         heard.report[1..=words.len()].copy_from_slice(&words);
     }
 }

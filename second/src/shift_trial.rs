@@ -1,7 +1,7 @@
 //! A shift to be tried: a book, an input and the places where it is cut, and
 //! how another implementation's report is held against this one's.
 
-use crate::answer::{Left, Lent, TABLE_WORDS, WORK_WORDS};
+use crate::answer::{is_edition, Left, Lent, TABLE_WORDS, WORK_WORDS};
 use crate::chance::Chance;
 use crate::combine;
 use crate::compare::{same_words, Call, Other, Tell};
@@ -87,9 +87,15 @@ pub fn hold(other: &dyn Other, trial: &ShiftTrial, tell: &mut Tell) -> Result<()
     let refused = lending.begin().map_err(|e| format!("begin: {e}"))?;
     tell(Service::ShiftBegin, refused.unwrap_or(0));
     if let Some(number) = refused {
-        // A short memory leaves the state as it was, and nothing to finish.
+        // A short memory leaves the state as it was, and nothing to finish; else it
+        // is that of a shift without lines.
         if number != 40 {
-            let told = lending.finish(&Shift::new(b"", &trial.lent), number)?;
+            let due = if is_edition(trial.lent.edition) {
+                0
+            } else {
+                42
+            };
+            let told = lending.finish(&Shift::new(b"", &trial.lent), due)?;
             tell(Service::ShiftFinish, told);
         }
         return Ok(());
@@ -105,6 +111,10 @@ pub fn hold(other: &dyn Other, trial: &ShiftTrial, tell: &mut Tell) -> Result<()
             let again = lending.feed(&mut shift, piece);
             again.map_err(|e| format!("fed once more: {e}"))?;
             break;
+        }
+        // What is fed after a finish goes on from there.
+        if lending.chance.one_in(6) {
+            lending.finish(&shift, last)?;
         }
     }
     let told = lending.finish(&shift, last)?;
@@ -211,8 +221,7 @@ impl Lending<'_> {
         self.call(Service::ShiftFeed, piece, due, Short::Nothing)
     }
 
-    /// The report at the end. Its number is that of the last feed, or 0 where
-    /// what was refused was no line.
+    /// The report so far. Its number is that of the last feed.
     fn finish(&mut self, shift: &Shift, last: u32) -> Result<u32, String> {
         let report: Vec<Option<u64>> = shift.finish().words().into_iter().map(Some).collect();
         let due = Due {
@@ -263,13 +272,7 @@ impl Lending<'_> {
             fill: self.chance.next_word(),
             ..Call::bare(service, lent.edition)
         })?;
-        // After a refusal it is open whether finish tells it once more.
-        // So it is with an edition that is none, which finish may tell by itself.
-        let unknown = heard.number == 42 && !(1..=2).contains(&lent.edition);
-        let retold = service == Service::ShiftFinish
-            && short == Short::Nothing
-            && (heard.number == 0 || unknown);
-        if heard.number != u64::from(due.number) && !retold {
+        if heard.number != u64::from(due.number) {
             return Err(format!("returned {}, not {}", heard.number, due.number));
         }
         let mut all = report;
