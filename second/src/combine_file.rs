@@ -10,9 +10,9 @@
 //! A word is a number of 64 bits, with a sign or without one: `-1` and
 //! `18446744073709551615` are the same word.
 
+use crate::casefile::read_all;
 use crate::combine::{combine, Report};
-use std::fs;
-use std::path::{Path, PathBuf};
+use std::path::Path;
 
 #[derive(Clone, Debug)]
 pub struct CombineCase {
@@ -34,17 +34,7 @@ impl CombineCase {
 
 /// All cases of all such files in the folder.
 pub fn read_folder(folder: &Path) -> Result<Vec<CombineCase>, String> {
-    let entries = fs::read_dir(folder).map_err(|e| e.to_string())?;
-    let mut paths: Vec<PathBuf> = entries.flatten().map(|e| e.path()).collect();
-    paths.retain(|p| p.extension().is_some_and(|e| e == "combine"));
-    paths.sort();
-    let mut cases = Vec::new();
-    for path in paths {
-        let text = fs::read_to_string(&path).map_err(|e| e.to_string())?;
-        let name = path.file_name().unwrap_or_default().to_string_lossy();
-        cases.extend(read_file(&name, &text)?);
-    }
-    Ok(cases)
+    read_all(folder, "combine", read_file)
 }
 
 fn read_file(name: &str, text: &str) -> Result<Vec<CombineCase>, String> {

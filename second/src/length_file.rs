@@ -20,24 +20,14 @@
 //! and the `=` line, which ends the case, of those that do.
 
 use crate::answer::Lent;
+use crate::casefile::read_all;
 use crate::lengths::{End, LengthCase, Source, Sources};
 use crate::quote;
-use std::fs;
-use std::path::{Path, PathBuf};
+use std::path::Path;
 
 /// All cases of all such files in the folder.
 pub fn read_folder(folder: &Path) -> Result<Vec<LengthCase>, String> {
-    let entries = fs::read_dir(folder).map_err(|e| e.to_string())?;
-    let mut paths: Vec<PathBuf> = entries.flatten().map(|e| e.path()).collect();
-    paths.retain(|p| p.extension().is_some_and(|e| e == "length"));
-    paths.sort();
-    let mut cases = Vec::new();
-    for path in paths {
-        let text = fs::read_to_string(&path).map_err(|e| e.to_string())?;
-        let name = path.file_name().unwrap_or_default().to_string_lossy();
-        cases.extend(read_file(&name, &text)?);
-    }
-    Ok(cases)
+    read_all(folder, "length", read_file)
 }
 
 /// A case of which not all lines have been read.
