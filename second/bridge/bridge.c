@@ -5,11 +5,12 @@
  * which nothing can be written. With `paint` the stack is filled with a pattern before each call, to see
  * afterwards how far down it was written.
  *
- * A request is twelve words of 64 bits: the service, as in the enum below; the edition; the lengths of source,
- * second source, table, work, output, state and report; the allowance; a seed; and how many of the first bytes of
- * the output are to be shown. Then source, second source, state and report as they are. Table, work and output are
- * filled here, with a pattern that the seed says, in which no word is zero: they are long, and going through the
- * pipe would take longer than all else.
+ * A request is fourteen words of 64 bits: the service, as in the enum below; the edition; the lengths of source,
+ * second source, table, work, output, state and report; the allowance; a seed; how many of the first bytes of the
+ * output are to be shown; and the lengths that the box is told of source and second source, which may be more than
+ * there are. Then source, second source, state and report as they are. Table, work and output are filled here, with
+ * a pattern that the seed says, in which no word is zero: they are long, and going through the pipe would take longer
+ * than all else.
  *
  * The answer is ten words: the number returned; how many bytes were changed that were not lent; with `paint` the
  * bytes of stack that the call took and those left below it, else 0 and 0; of table and then of work how many of
@@ -50,8 +51,9 @@ enum { SOURCE, SECOND, TABLE, WORK, OUT, STATE, REPORT, MEMORIES };
 
 static const size_t width[MEMORIES] = {1, 1, 4, 4, 1, 8, 8};
 
-/* a request: the service, the edition, the length of each memory, the allowance, the seed, what to show */
-enum { SERVICE, EDITION, LENGTHS, ALLOWANCE = LENGTHS + MEMORIES, SEED, SHOWN, ASKED };
+/* a request: the service, the edition, the length of each memory, the allowance, the seed, what to show, and what is
+ * told of the length of each source */
+enum { SERVICE, EDITION, LENGTHS, ALLOWANCE = LENGTHS + MEMORIES, SEED, SHOWN, CLAIMED, ASKED = CLAIMED + TABLE };
 
 /* an answer */
 enum { NUMBER, SPILT, TAKEN, BELOW, ZEROS, ODD, WORK_ZEROS, WORK_ODD, CHANGED, SHOWS, TOLD };
@@ -156,11 +158,22 @@ static uint64_t touched(const struct memory *m) {
   return n;
 }
 
+/* Memory of which no byte can be read or written. */
+static uint8_t *untouchable;
+
+/* Where a source lies: one that is told to have bytes and has none, there. */
+static uint8_t *source_of(const uint64_t *asked, const struct memory *m, int which) {
+  if (asked[LENGTHS + which] == 0 && asked[CLAIMED + which] > 0) return untouchable;
+  return m[which].all + MARGIN;
+}
+
 static uint64_t call(const uint64_t *asked, struct memory *m) {
-  const uint64_t *length = asked + LENGTHS;
+  uint64_t length[MEMORIES];
+  memcpy(length, asked + LENGTHS, sizeof length);
+  memcpy(length, asked + CLAIMED, TABLE * sizeof *length);
   const uint32_t edition = (uint32_t)asked[EDITION];
   const uint64_t allowance = asked[ALLOWANCE];
-  uint8_t *source = m[SOURCE].all + MARGIN, *second = m[SECOND].all + MARGIN;
+  uint8_t *source = source_of(asked, m, SOURCE), *second = source_of(asked, m, SECOND);
   uint32_t *table = (uint32_t *)(m[TABLE].all + MARGIN), *work = (uint32_t *)(m[WORK].all + MARGIN);
   uint8_t *out = m[OUT].all + MARGIN;
   uint64_t *state = (uint64_t *)(m[STATE].all + MARGIN), *report = (uint64_t *)(m[REPORT].all + MARGIN);
@@ -290,11 +303,12 @@ static void *serve(void *unused) {
   return NULL;
 }
 
-/* The stack between two stretches that cannot be touched. */
+/* The stack between two stretches that cannot be touched; one of them stands for memory that is not there. */
 static void make_stack(size_t bytes) {
   size_t guard = 1 << 20;
   unsigned char *all = mmap(NULL, bytes + 2 * guard, PROT_NONE, MAP_PRIVATE | MAP_ANONYMOUS, -1, 0);
   if (all == MAP_FAILED || mprotect(all + guard, bytes, PROT_READ | PROT_WRITE)) fail("no such stack");
+  untouchable = all + guard / 2;
   stack = (uint64_t *)(all + guard);
   stack_bytes = bytes;
 }

@@ -47,19 +47,25 @@ use std::path::{Path, PathBuf};
 
 /// All cases of all files in the folder, in the order of the files' names.
 pub fn read_folder(folder: &Path) -> Result<Vec<Case>, String> {
+    read_all(folder, "txt", read_file)
+}
+
+/// The same of any kind of case: the files with this ending, each read by its name
+/// and text.
+pub fn read_all<T>(
+    folder: &Path,
+    ending: &str,
+    read: fn(&str, &str) -> Result<Vec<T>, String>,
+) -> Result<Vec<T>, String> {
     let entries = fs::read_dir(folder).map_err(|e| e.to_string())?;
     let mut paths: Vec<PathBuf> = entries.flatten().map(|e| e.path()).collect();
-    paths.retain(|p| p.extension().is_some_and(|e| e == "txt"));
+    paths.retain(|p| p.extension().is_some_and(|e| e == ending));
     paths.sort();
     let mut cases = Vec::new();
     for path in paths {
-        let name = path
-            .file_name()
-            .unwrap_or_default()
-            .to_string_lossy()
-            .into_owned();
+        let name = path.file_name().unwrap_or_default().to_string_lossy();
         let text = fs::read_to_string(&path).map_err(|e| format!("{name}: {e}"))?;
-        cases.extend(read_file(&name, &text)?);
+        cases.extend(read(&name, &text)?);
     }
     Ok(cases)
 }

@@ -1,5 +1,6 @@
 //! Two reports of shifts made one: those of two inputs, the first of which ends
-//! with a line's LF or is empty, become that of the two as one input.
+//! with a line's LF or is empty, become that of the two as one input. Nothing is
+//! believed of the words: what no shift can come to is not added.
 
 use crate::answer::Lent;
 use crate::chance::Chance;
@@ -11,24 +12,82 @@ use crate::shift_trial::ShiftTrial;
 /// Number, lines, bad lines, lines for stops 50 to 58, sum, least, largest.
 pub type Report = [u64; 15];
 
-const LINES: usize = 1;
-const BAD: usize = 2;
-const SUM: usize = 12;
-const LEAST: usize = 13;
-const LARGEST: usize = 14;
+pub const NUMBER: usize = 0;
+pub const LINES: usize = 1;
+pub const BAD: usize = 2;
+pub const SUM: usize = 12;
+pub const LEAST: usize = 13;
+pub const LARGEST: usize = 14;
 
-/// Of reports that shifts have made. With more lines than a shift may have it is
-/// a refusal, with no words but its number.
+const NO_EDITION: u64 = 42;
+const MANY_LINES: u64 = 46;
+
+/// Of any words. A refusal has no words but its number.
 pub fn combine(first: &Report, second: &Report) -> Report {
-    let mut all = [0; 15];
-    if [first[0], second[0]].contains(&46) || first[LINES] + second[LINES] > MOST_LINES {
-        all[0] = 46;
-        return all;
+    let both = [first, second];
+    let numbers = both.map(|report| report[NUMBER]);
+    if numbers.contains(&NO_EDITION) {
+        return refusal(NO_EDITION);
     }
+    let few = || number(first, LINES) + number(second, LINES) <= i128::from(MOST_LINES);
+    match numbers == [0, 0] && both.into_iter().all(possible) && few() {
+        true => added(first, second),
+        false => refusal(MANY_LINES),
+    }
+}
+
+fn refusal(number: u64) -> Report {
+    let mut report = [0; 15];
+    report[NUMBER] = number;
+    report
+}
+
+/// Whether some lines have this report, its number aside. No sum of these words
+/// wraps here, whatever they are.
+pub fn possible(report: &Report) -> bool {
+    let lines = number(report, LINES);
+    let paid = paid(report);
+    if lines > i128::from(MOST_LINES) || paid < 0 {
+        return false;
+    }
+    let pays = [SUM, LEAST, LARGEST].map(|at| i128::from(report[at] as i64));
+    match paid {
+        0 => pays == [0, 0, 0],
+        _ => payable(paid, pays),
+    }
+}
+
+/// Whether so many ints, at least one, can have this sum, least and largest: one
+/// of them is the least, one the largest, and the others are between the two.
+fn payable(paid: i128, [sum, least, largest]: [i128; 3]) -> bool {
+    let is_int = |pay: i128| i32::try_from(pay).is_ok();
+    let others = paid - 1;
+    is_int(least)
+        && is_int(largest)
+        && least <= largest
+        && largest + others * least <= sum
+        && sum <= least + others * largest
+}
+
+/// A word that counts something.
+fn number(report: &Report, at: usize) -> i128 {
+    i128::from(report[at])
+}
+
+/// How many lines were paid; less than 0 where more were bad or stopped than
+/// there are.
+fn paid(report: &Report) -> i128 {
+    let unpaid: i128 = (BAD..SUM).map(|at| number(report, at)).sum();
+    number(report, LINES) - unpaid
+}
+
+/// Of two possible ones.
+fn added(first: &Report, second: &Report) -> Report {
+    let mut all = [0; 15];
     for at in LINES..SUM {
         all[at] = first[at] + second[at];
     }
-    all[SUM] = first[SUM].wrapping_add(second[SUM]);
+    all[SUM] = (first[SUM] as i64 + second[SUM] as i64) as u64;
     let least = |a: i64, b: i64| a.min(b);
     let largest = |a: i64, b: i64| a.max(b);
     all[LEAST] = of_both(first, second, LEAST, least);
@@ -36,12 +95,7 @@ pub fn combine(first: &Report, second: &Report) -> Report {
     all
 }
 
-/// How many lines were paid. Where there is none, least and largest say nothing.
-fn paid(report: &Report) -> u64 {
-    let stopped: u64 = report[BAD + 1..SUM].iter().sum();
-    report[LINES] - report[BAD] - stopped
-}
-
+/// Where no line was paid, least and largest say nothing.
 fn of_both(first: &Report, second: &Report, at: usize, choose: fn(i64, i64) -> i64) -> u64 {
     match (paid(first), paid(second)) {
         (0, 0) => 0,
@@ -87,11 +141,21 @@ pub fn laws(trial: &ShiftTrial) -> Result<(), String> {
     }
     let empty = [0; 15];
     let kept = |r: &Report| r[0] == 46 || (combine(r, &empty) == *r && combine(&empty, r) == *r);
+    match told.iter().all(kept) {
+        true => laws_of_any(&told),
+        false => Err(format!("combined with none: {told:?}")),
+    }
+}
+
+/// What is true of any three reports: it does not matter which two are combined
+/// first, nor in which order, and what is added can be added to again.
+pub fn laws_of_any(three: &[Report; 3]) -> Result<(), String> {
+    let [a, b, c] = three;
     let turned = combine(a, b) == combine(b, a);
-    let grouped = combine(a, &combine(b, c)) == both;
-    match told.iter().all(kept) && turned && grouped {
+    let grouped = combine(a, &combine(b, c)) == combine(&combine(a, b), c);
+    match turned && grouped && possible(&combine(a, b)) {
         true => Ok(()),
-        false => Err(format!("combined in another order: {told:?}")),
+        false => Err(format!("combined in another order: {three:?}")),
     }
 }
 
@@ -112,19 +176,28 @@ pub fn hold_case(other: &dyn Other, parts: &[Report; 2], tell: &mut Tell) -> Res
 
 /// The same on the parts of a shift's input.
 pub fn hold(other: &dyn Other, trial: &ShiftTrial, tell: &mut Tell) -> Result<(), String> {
+    let three = parts(trial).map(|part| report(trial, part));
+    hold_any(other, &three, trial.fill, tell)
+}
+
+/// The same on any three reports, whichever two are combined first.
+pub fn hold_any(
+    other: &dyn Other,
+    three: &[Report; 3],
+    fill: u64,
+    tell: &mut Tell,
+) -> Result<(), String> {
+    laws_of_any(three)?;
     if !combines(other)? {
         return Ok(());
     }
-    let [a, b, c] = parts(trial).map(|part| report(trial, part));
-    // A report that is a refusal is none to combine.
-    if [a[0], b[0], c[0]] != [0, 0, 0] {
-        return Ok(());
-    }
-    let mut chance = Chance::new(trial.fill, 16);
-    let first = held(other, &mut chance, &trial.lent, [&a, &b], tell)?;
-    if first[0] == 0 {
-        held(other, &mut chance, &trial.lent, [&first, &c], tell)?;
-    }
+    let [a, b, c] = three;
+    let mut chance = Chance::new(fill, 16);
+    let lent = Lent::default();
+    let left = held(other, &mut chance, &lent, [a, b], tell)?;
+    held(other, &mut chance, &lent, [&left, c], tell)?;
+    let right = held(other, &mut chance, &lent, [b, c], tell)?;
+    held(other, &mut chance, &lent, [a, &right], tell)?;
     Ok(())
 }
 
@@ -179,7 +252,58 @@ fn trial_of(first: &Report, second: &Report) -> u64 {
 #[cfg(test)]
 mod tests {
     use super::*;
-    use crate::{on_big_stack, shifts};
+    use crate::shift::Sums;
+    use crate::{combines, on_big_stack, shifts};
+    use std::collections::BTreeSet;
+
+    #[test]
+    fn any_three_combine() {
+        for index in 0..20_000 {
+            let three = combines::make(17, index);
+            laws_of_any(&three).unwrap_or_else(|e| panic!("{index}: {e}"));
+        }
+    }
+
+    /// All pays of so many lines, each from -2 to 2.
+    fn all_pays(lines: usize) -> Vec<Vec<i64>> {
+        let mut all = vec![vec![]];
+        for _ in 0..lines {
+            let longer =
+                |pays: &Vec<i64>| (-2..=2).map(|pay| [&pays[..], &[pay]].concat()).collect();
+            all = all
+                .iter()
+                .flat_map(|pays| -> Vec<Vec<i64>> { longer(pays) })
+                .collect();
+        }
+        all
+    }
+
+    /// The reports that lines have, and no others: both ways, for a few lines.
+    #[test]
+    fn what_lines_come_to() {
+        for lines in 0..=4 {
+            let of = |pays: Vec<i64>| -> [i64; 3] {
+                let sums = Sums {
+                    pays,
+                    ..Sums::default()
+                };
+                [11, 12, 13].map(|at| sums.words()[at] as i64)
+            };
+            let met: BTreeSet<[i64; 3]> = all_pays(lines).into_iter().map(of).collect();
+            for sum in -10..=10 {
+                for least in -2..=2 {
+                    for largest in -2..=2 {
+                        let mut report = [0; 15];
+                        report[LINES] = lines as u64 + 3;
+                        (report[BAD], report[7]) = (1, 2);
+                        let pays = [sum, least, largest];
+                        report[SUM..].copy_from_slice(&pays.map(|pay| pay as u64));
+                        assert_eq!(possible(&report), met.contains(&pays), "{lines} {pays:?}");
+                    }
+                }
+            }
+        }
+    }
 
     #[test]
     fn reports_combine() {

@@ -6,10 +6,13 @@
 //! + the second report
 //! = what they combine to
 //! ```
+//!
+//! A word is a number of 64 bits, with a sign or without one: `-1` and
+//! `18446744073709551615` are the same word.
 
+use crate::casefile::read_all;
 use crate::combine::{combine, Report};
-use std::fs;
-use std::path::{Path, PathBuf};
+use std::path::Path;
 
 #[derive(Clone, Debug)]
 pub struct CombineCase {
@@ -31,17 +34,7 @@ impl CombineCase {
 
 /// All cases of all such files in the folder.
 pub fn read_folder(folder: &Path) -> Result<Vec<CombineCase>, String> {
-    let entries = fs::read_dir(folder).map_err(|e| e.to_string())?;
-    let mut paths: Vec<PathBuf> = entries.flatten().map(|e| e.path()).collect();
-    paths.retain(|p| p.extension().is_some_and(|e| e == "combine"));
-    paths.sort();
-    let mut cases = Vec::new();
-    for path in paths {
-        let text = fs::read_to_string(&path).map_err(|e| e.to_string())?;
-        let name = path.file_name().unwrap_or_default().to_string_lossy();
-        cases.extend(read_file(&name, &text)?);
-    }
-    Ok(cases)
+    read_all(folder, "combine", read_file)
 }
 
 fn read_file(name: &str, text: &str) -> Result<Vec<CombineCase>, String> {
@@ -75,10 +68,33 @@ fn read_file(name: &str, text: &str) -> Result<Vec<CombineCase>, String> {
 }
 
 fn report(text: &str) -> Result<Report, String> {
-    let words: Result<Vec<i64>, _> = text.split(' ').map(str::parse).collect();
-    let words = words.map_err(|_| "no numbers".to_string())?;
-    let words: Vec<u64> = words.into_iter().map(|word| word as u64).collect();
-    words
+    let words: Result<Vec<u64>, String> = text.split(' ').map(word).collect();
+    words?
         .try_into()
         .map_err(|_| "fifteen numbers are wanted".to_string())
+}
+
+fn word(text: &str) -> Result<u64, String> {
+    let signed = || text.parse::<i64>().map(|word| word as u64);
+    text.parse::<u64>()
+        .or_else(|_| signed())
+        .map_err(|_| format!("no number of 64 bits: {text}"))
+}
+
+/// Three reports, and what they combine to two by two, as cases.
+pub fn show(title: &str, three: &[Report; 3]) -> String {
+    let [a, b, c] = three;
+    let (left, right) = (combine(a, b), combine(b, c));
+    let pairs = [[a, b], [&left, c], [b, c], [a, &right]];
+    pairs.map(|pair| show_two(title, pair)).concat()
+}
+
+fn show_two(title: &str, [first, second]: [&Report; 2]) -> String {
+    let words = |report: &Report| report.map(|word| (word as i64).to_string()).join(" ");
+    let due = words(&combine(first, second));
+    format!(
+        "* {title}\n+ {}\n+ {}\n= {due}\n\n",
+        words(first),
+        words(second)
+    )
 }

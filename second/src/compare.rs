@@ -20,6 +20,9 @@ pub struct Call<'a> {
     pub source: &'a [u8],
     /// The second of two sources, if there are two.
     pub second: &'a [u8],
+    /// What is told of the lengths of the two, where it is not the truth. Of a
+    /// source that has no bytes and is told to have some none can be read.
+    pub claimed: [Option<u64>; 2],
     /// Words.
     pub table: usize,
     pub work: usize,
@@ -42,6 +45,7 @@ impl Call<'_> {
             edition,
             source: &[],
             second: &[],
+            claimed: [None; 2],
             table: 0,
             work: 0,
             output: 0,
@@ -93,7 +97,7 @@ impl After {
 }
 
 /// What came of a call.
-#[derive(Clone, Debug)]
+#[derive(Clone, Debug, PartialEq, Eq)]
 pub struct Heard {
     pub number: u64,
     pub table: After,

@@ -26,8 +26,8 @@ use second::many::{self, Case};
 use second::piped::Piped;
 use second::shares::Shares;
 use second::trial::Trial;
-use second::{casefile, cases, combine, combine_file, follows, near, neighbours};
-use second::{on_big_stack, paper, shift_file, shifts, shrink, trial};
+use second::{casefile, cases, combine, combine_file, combines, follows, length_file, lengths};
+use second::{near, neighbours, on_big_stack, paper, shift_file, shifts, shrink, trial};
 use std::io::Write;
 use std::process::ExitCode;
 use std::sync::LazyLock;
@@ -99,7 +99,10 @@ fn verdict(case: &Case) -> Result<(), String> {
 /// All services on every trial.
 fn series(count: u64, seed: u64, start: u64, trace: bool) -> u64 {
     let draw = |index: u64| {
-        let mut cases = vec![Case::All(trial::make(seed, index))];
+        let mut cases = vec![
+            Case::All(trial::make(seed, index)),
+            Case::Combine(combines::make(seed, index)),
+        ];
         if index.is_multiple_of(SHIFTS) {
             cases.push(Case::Shift(shifts::make(seed, index)));
         }
@@ -162,6 +165,17 @@ impl Tally {
         }
     }
 
+    /// Takes in a case that was held already.
+    fn count(&mut self, title: &str, held: Result<(), String>) {
+        match held {
+            Ok(()) => self.passed += 1,
+            Err(difference) => {
+                println!("# FAILED {title}: {difference}");
+                self.failed += 1;
+            }
+        }
+    }
+
     fn fail(&mut self, title: &str, case: Case, difference: &str) {
         self.failed += 1;
         if self.failed > MOST_SHOWN {
@@ -171,6 +185,10 @@ impl Tally {
         let small = match case {
             Case::Shift(trial) => {
                 println!("{}", shift_file::show(title, &trial));
+                return;
+            }
+            Case::Combine(three) => {
+                println!("{}", combine_file::show(title, &three));
                 return;
             }
             Case::One(trial, service) => {
@@ -210,6 +228,7 @@ fn show(seed: u64, index: u64, draw: fn(u64, u64) -> Case) -> u64 {
         let title = format!("seed {seed} trial {index}");
         match draw(seed, index) {
             Case::Shift(trial) => println!("{}", shift_file::show(&title, &trial)),
+            Case::Combine(three) => println!("{}", combine_file::show(&title, &three)),
             Case::One(trial, service) => {
                 println!("# {service:?}, {}", reports(&trial));
                 println!("{}", cases::show_case(&title, &trial));
@@ -247,6 +266,7 @@ fn all_cases() -> u64 {
     }
     shift_cases(&mut tally);
     combine_cases(&mut tally);
+    length_cases(&mut tally);
     tally.close()
 }
 
@@ -258,13 +278,21 @@ fn combine_cases(tally: &mut Tally) {
         let held = case
             .try_own()
             .and_then(|()| other().map_or(Ok(()), |o| combine::hold_case(o, &case.parts, tell)));
-        match held {
-            Ok(()) => tally.passed += 1,
-            Err(difference) => {
-                println!("# FAILED {}: {difference}", case.title);
-                tally.failed += 1;
-            }
-        }
+        tally.count(&case.title, held);
+    }
+}
+
+/// Sources that are told to be longer than any memory, by hand and by a system.
+fn length_cases(tally: &mut Tally) {
+    let mut cases = length_file::read_folder(&casefile::folder()).unwrap_or_else(|e| panic!("{e}"));
+    cases.extend(lengths::systematic());
+    for case in cases {
+        let edition = case.lent.edition;
+        let tell = &mut |service, number| tally.shares.add(service, edition, number);
+        let held = case
+            .try_own()
+            .and_then(|()| other().map_or(Ok(()), |o| case.hold(o, tell)));
+        tally.count(&case.title, held);
     }
 }
 

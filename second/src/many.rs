@@ -1,17 +1,21 @@
 //! Cases for a long series: each of one service, on a sheet, a pair, a stored
-//! sheet or a shift of its own; now and then a trial of all services at once.
+//! sheet, a shift of its own or reports that combine; now and then a trial of all
+//! services at once.
 
 use crate::chance::Chance;
+use crate::combine::{self, Report};
 use crate::compare::{self, Other, Tell};
 use crate::services::{wanted, Service};
 use crate::shift_trial::{self, ShiftTrial};
 use crate::trial::{self, Trial};
-use crate::{laws, shift_file, shifts, stores};
+use crate::{combines, laws, shift_file, shifts, stores};
 
 pub enum Case {
     One(Trial, Service),
     All(Trial),
     Shift(ShiftTrial),
+    /// Any three reports.
+    Combine([Report; 3]),
 }
 
 /// Of so many cases one is a trial of all services.
@@ -21,7 +25,7 @@ const ALL_ONE_IN: usize = 64;
 const MOST_LINES_ONE_IN: usize = 2500;
 
 /// How often each service is asked, to one another.
-const SERVICES: [(Service, usize); 10] = [
+const SERVICES: [(Service, usize); 11] = [
     (Service::Check, 2),
     (Service::Run, 4),
     (Service::CheckPair, 1),
@@ -32,6 +36,7 @@ const SERVICES: [(Service, usize); 10] = [
     (Service::RunStored, 3),
     (Service::Profile, 2),
     (Service::ShiftFeed, 1),
+    (Service::Combine, 1),
 ];
 
 /// The case of this number in the series of this seed.
@@ -53,8 +58,10 @@ pub fn draw(seed: u64, index: u64) -> Case {
             None => break *service,
         }
     };
-    if service == Service::ShiftFeed {
-        return Case::Shift(shifts::make(seed, index));
+    match service {
+        Service::ShiftFeed => return Case::Shift(shifts::make(seed, index)),
+        Service::Combine => return Case::Combine(combines::make(seed, index)),
+        _ => {}
     }
     let mut trial = trial::make_for(&[service], seed, index);
     if !service.applies(&trial) {
@@ -86,6 +93,16 @@ pub fn hold(other: Option<&dyn Other>, case: &Case, tell: &mut Tell) -> Result<(
         }
         (Case::Shift(trial), Some(other)) => shift_trial::hold(other, trial, tell)?,
         (Case::Shift(trial), None) => shift_file::laws(trial, tell)?,
+        (Case::Combine(three), Some(other)) => {
+            combine::hold_any(other, three, three[0][combine::SUM], tell)?
+        }
+        (Case::Combine(three), None) => {
+            combine::laws_of_any(three)?;
+            tell(
+                Service::Combine,
+                combine::combine(&three[0], &three[1])[0] as u32,
+            );
+        }
     }
     Ok(())
 }
@@ -95,6 +112,8 @@ impl Case {
         match self {
             Case::One(trial, _) | Case::All(trial) => trial.lent.edition,
             Case::Shift(trial) => trial.lent.edition,
+            // It takes none.
+            Case::Combine(_) => 1,
         }
     }
 }

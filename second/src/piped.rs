@@ -104,6 +104,7 @@ impl Pipes {
     }
 
     fn ask(&mut self, call: &Call) -> io::Result<()> {
+        let [first, second] = call.claimed;
         self.send(&[
             call.service.code(),
             u64::from(call.edition),
@@ -117,6 +118,8 @@ impl Pipes {
             call.allowance,
             call.fill,
             call.shown as u64,
+            first.unwrap_or(call.source.len() as u64),
+            second.unwrap_or(call.second.len() as u64),
         ])?;
         self.asked.write_all(call.source)?;
         self.asked.write_all(call.second)?;

@@ -5,7 +5,7 @@ use std::collections::BTreeMap;
 use std::fmt;
 
 /// Every number that an answer may have.
-const NUMBERS: [u32; 36] = [
+pub const NUMBERS: [u32; 36] = [
     0, 10, 11, 12, 13, 14, 15, 20, 30, 31, 32, 33, 34, 35, 36, 37, 40, 41, 42, 43, 44, 45, 46, 47,
     50, 51, 52, 53, 54, 55, 56, 57, 58, 60, 61, 62,
 ];

@@ -20,6 +20,7 @@
 //! set under the book, it is `-`, as none is laid down.
 
 use crate::answer::Lent;
+use crate::casefile::read_all;
 use crate::combine;
 use crate::compare::Tell;
 use crate::quote;
@@ -27,8 +28,7 @@ use crate::services::Service;
 use crate::shift::{begin, Shift};
 use crate::shift_trial::ShiftTrial;
 use crate::Refusal;
-use std::fs;
-use std::path::{Path, PathBuf};
+use std::path::Path;
 
 #[derive(Clone, Debug)]
 pub struct ShiftCase {
@@ -119,17 +119,7 @@ pub fn show(title: &str, trial: &ShiftTrial) -> String {
 
 /// All cases of all such files in the folder.
 pub fn read_folder(folder: &Path) -> Result<Vec<ShiftCase>, String> {
-    let entries = fs::read_dir(folder).map_err(|e| e.to_string())?;
-    let mut paths: Vec<PathBuf> = entries.flatten().map(|e| e.path()).collect();
-    paths.retain(|p| p.extension().is_some_and(|e| e == "shift"));
-    paths.sort();
-    let mut cases = Vec::new();
-    for path in paths {
-        let text = fs::read_to_string(&path).map_err(|e| e.to_string())?;
-        let name = path.file_name().unwrap_or_default().to_string_lossy();
-        cases.extend(read_file(&name, &text)?);
-    }
-    Ok(cases)
+    read_all(folder, "shift", read_file)
 }
 
 fn read_file(name: &str, text: &str) -> Result<Vec<ShiftCase>, String> {

@@ -1,10 +1,11 @@
 //! A shift to be tried: a book, an input and the places where it is cut, and
 //! how another implementation's report is held against this one's.
 
-use crate::answer::{Left, Lent, TABLE_WORDS, WORK_WORDS};
+use crate::answer::{is_edition, Left, Lent, TABLE_WORDS, WORK_WORDS};
 use crate::chance::Chance;
 use crate::combine;
 use crate::compare::{same_words, Call, Other, Tell};
+use crate::forged;
 use crate::pair::NOWHERE;
 use crate::services::Service;
 use crate::shift::{begin, Shift};
@@ -66,6 +67,9 @@ enum Short {
     Report,
 }
 
+/// Of so many shifts the state that was left is forged once.
+const FORGED_ONE_IN: usize = 3;
+
 /// Holds a whole shift.
 pub fn hold(other: &dyn Other, trial: &ShiftTrial, tell: &mut Tell) -> Result<(), String> {
     let mut chance = Chance::new(trial.fill, 14);
@@ -83,9 +87,15 @@ pub fn hold(other: &dyn Other, trial: &ShiftTrial, tell: &mut Tell) -> Result<()
     let refused = lending.begin().map_err(|e| format!("begin: {e}"))?;
     tell(Service::ShiftBegin, refused.unwrap_or(0));
     if let Some(number) = refused {
-        // A short memory leaves the state as it was, and nothing to finish.
+        // A short memory leaves the state as it was, and nothing to finish; else it
+        // is that of a shift without lines.
         if number != 40 {
-            let told = lending.finish(&Shift::new(b"", &trial.lent), number)?;
+            let due = if is_edition(trial.lent.edition) {
+                0
+            } else {
+                42
+            };
+            let told = lending.finish(&Shift::new(b"", &trial.lent), due)?;
             tell(Service::ShiftFinish, told);
         }
         return Ok(());
@@ -102,14 +112,22 @@ pub fn hold(other: &dyn Other, trial: &ShiftTrial, tell: &mut Tell) -> Result<()
             again.map_err(|e| format!("fed once more: {e}"))?;
             break;
         }
+        // What is fed after a finish goes on from there.
+        if lending.chance.one_in(6) {
+            lending.finish(&shift, last)?;
+        }
     }
     let told = lending.finish(&shift, last)?;
     tell(Service::ShiftFinish, told);
+    if lending.chance.one_in(FORGED_ONE_IN) {
+        let left = &lending.state[..state_words];
+        forged::hold(other, trial, left, tell).map_err(|e| format!("forged: {e}"))?;
+    }
     combine::hold(other, trial, tell).map_err(|e| format!("combined: {e}"))
 }
 
 /// The words of state that the other implementation asks for.
-fn state_words(other: &dyn Other) -> Result<usize, String> {
+pub fn state_words(other: &dyn Other) -> Result<usize, String> {
     let heard = other.call(&Call::bare(Service::StateWords, 1))?;
     Ok(heard.number as usize)
 }
@@ -167,6 +185,17 @@ impl Lending<'_> {
             .map_err(|e| format!("{short:?} too short: {e}"))
     }
 
+    /// Table and work for a call: those that are long enough may be longer each
+    /// time, and whatever lies in them and in the output is drawn each time too.
+    fn at_times_longer(&mut self) -> (usize, usize) {
+        let Lent { table, work, .. } = self.trial.lent;
+        let mut longer = |length: usize, required: usize| match length >= required {
+            true => length + self.chance.pick(&[0, 0, 1, 40, 3000]),
+            false => length,
+        };
+        (longer(table, TABLE_WORDS), longer(work, WORK_WORDS))
+    }
+
     /// Whether the book by itself, with all room, is refused at a place in it.
     fn is_in_book(&self) -> bool {
         let whole = crate::pair::whole(&self.trial.book, b"0");
@@ -192,8 +221,7 @@ impl Lending<'_> {
         self.call(Service::ShiftFeed, piece, due, Short::Nothing)
     }
 
-    /// The report at the end. Its number is that of the last feed, or 0 where
-    /// what was refused was no line.
+    /// The report so far. Its number is that of the last feed.
     fn finish(&mut self, shift: &Shift, last: u32) -> Result<u32, String> {
         let report: Vec<Option<u64>> = shift.finish().words().into_iter().map(Some).collect();
         let due = Due {
@@ -219,7 +247,7 @@ impl Lending<'_> {
         let (table, work) = match (service, short) {
             (Service::ShiftFinish, _) => (0, 0),
             (_, Short::Table) => (TABLE_WORDS - 1, lent.work),
-            _ => (lent.table, lent.work),
+            _ => self.at_times_longer(),
         };
         let words = match short {
             Short::Report => service.words() - 1,
@@ -244,13 +272,7 @@ impl Lending<'_> {
             fill: self.chance.next_word(),
             ..Call::bare(service, lent.edition)
         })?;
-        // After a refusal it is open whether finish tells it once more.
-        // So it is with an edition that is none, which finish may tell by itself.
-        let unknown = heard.number == 42 && !(1..=2).contains(&lent.edition);
-        let retold = service == Service::ShiftFinish
-            && short == Short::Nothing
-            && (heard.number == 0 || unknown);
-        if heard.number != u64::from(due.number) && !retold {
+        if heard.number != u64::from(due.number) {
             return Err(format!("returned {}, not {}", heard.number, due.number));
         }
         let mut all = report;
