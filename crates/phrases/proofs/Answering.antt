@@ -18,7 +18,7 @@ pub known : {T : Told Exp} {count n f lo hi : ℕ} {w w′ : List ℕ} {g h : Pa
     → Answer T count w n f lo hi h w′
 known {T} {count} {n} {f} {lo} {hi} {w} {w′} a e = subst (λ (x : Part). Answer T count w n f lo hi x w′) e a
 
--- and of whatever word it is
+-- the same of a word that stands for it
 pub back : {T : Told Exp} {count n f lo hi : ℕ} {w w′ : List ℕ} {g h : Part} → Answer T count w n f lo hi h w′ → g ≡ h
     → Answer T count w n f lo hi g w′
 back a e = known a (sym e)

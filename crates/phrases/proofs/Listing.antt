@@ -19,7 +19,7 @@ module _ {T : Told Exps} {i count n f : ℕ} {w w′ : List ℕ} where
   pub known-all : {g h : Part} → YieldsAll T i count w n f g w′ → g ≡ h → YieldsAll T i count w n f h w′
   known-all a e = subst (λ (x : Part). YieldsAll T i count w n f x w′) e a
 
-  -- and of whatever word it is
+  -- the same of a word that stands for it
   pub back-all : {g h : Part} → YieldsAll T i count w n f h w′ → g ≡ h → YieldsAll T i count w n f g w′
   back-all a e = known-all a (sym e)
 

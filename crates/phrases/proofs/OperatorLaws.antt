@@ -76,7 +76,7 @@ module _ {count n f v : ℕ} {w w₁ : List ℕ} where
 
 -- ---- rest
 
--- what is known of an answer is known of whatever word it is
+-- what is known of an answer, of a word that stands for it
 module _ {v u count n left f : ℕ} {w w′ : List ℕ} {g : Part} where
   pub back-more : {h : Part} → Continues v u count w n left f h w′ → g ≡ h → Continues v u count w n left f g w′
   back-more a e = subst (λ (x : Part). Continues v u count w n left f x w′) (sym e) a
