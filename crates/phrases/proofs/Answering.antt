@@ -18,6 +18,11 @@ pub known : {T : Told Exp} {count n f lo hi : ℕ} {w w′ : List ℕ} {g h : Pa
     → Answer T count w n f lo hi h w′
 known {T} {count} {n} {f} {lo} {hi} {w} {w′} a e = subst (λ (x : Part). Answer T count w n f lo hi x w′) e a
 
+-- the same of a word that stands for it
+pub back : {T : Told Exp} {count n f lo hi : ℕ} {w w′ : List ℕ} {g h : Part} → Answer T count w n f lo hi h w′ → g ≡ h
+    → Answer T count w n f lo hi g w′
+back a e = known a (sym e)
+
 -- where a tree was read the table stands for the same tokens
 pub after : {T : Told Exp} {count n f lo hi r m k : ℕ} {w w₁ : List ℕ} → Answer T count w n f lo hi (Part.Tree r m k) w₁
     → (ts : List Token) → Stand w count ts → Stand w₁ count ts

@@ -1,6 +1,6 @@
 -- From the answers of the parts to a list of them: the arguments of the call at token i, or the bounds of the `for` there.
 use mathlib.Core.List.{List}
-use mathlib.Core.Path.{_≡_, subst, _∙_}
+use mathlib.Core.Path.{_≡_, sym, subst, _∙_}
 use Prim.Native.Nat.{ℕ, _+_}
 use native.Mathlib.Omega.{arith}
 use Rattle.language.specs.Tokens.{Token}
@@ -18,6 +18,10 @@ module _ {T : Told Exps} {i count n f : ℕ} {w w′ : List ℕ} where
   -- an answer that is known
   pub known-all : {g h : Part} → YieldsAll T i count w n f g w′ → g ≡ h → YieldsAll T i count w n f h w′
   known-all a e = subst (λ (x : Part). YieldsAll T i count w n f x w′) e a
+
+  -- the same of a word that stands for it
+  pub back-all : {g h : Part} → YieldsAll T i count w n f h w′ → g ≡ h → YieldsAll T i count w n f g w′
+  back-all a e = known-all a (sym e)
 
   -- where a list was read the table stands for the same tokens
   pub after-all : {r m k : ℕ} → YieldsAll T i count w n f (Part.Tree r m k) w′ → (ts : List Token) → Stand w count ts → Stand w′ count ts

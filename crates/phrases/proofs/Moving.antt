@@ -7,7 +7,7 @@ use native.Mathlib.Omega.{arith}
 use lib.ListN.{length}
 use Rattle.language.specs.Sizes.{TOKENS, NODES, TABLE}
 use Rattle.language.specs.Trees.{Exp, Exps}
-use Rattle.phrases.specs.Parts.{Told, Room, Ahead, Placed, Answer, YieldsAll}
+use Rattle.phrases.specs.Parts.{REACH, Told, Room, Ahead, Placed, Answer, YieldsAll}
 use Rattle.phrases.specs.declared.parts.Part.{Part}
 
 module _ {count n f : ℕ} {w : List ℕ} (room : Room count w n f) where
@@ -19,9 +19,14 @@ module _ {count n f : ℕ} {w : List ℕ} (room : Room count w n f) where
   pub row-fits : {ℓ k : ℕ} → ℓ ≡ length w → k < count → (TABLE ≤ ℓ) × (k < NODES)
   row-fits e a = omega arith
 
-  -- and a node with a token of its own
-  pub node-fits : {ℓ k i : ℕ} → ℓ ≡ length w → i < count → k < count → (TABLE ≤ ℓ) × (i < TOKENS) × (k < NODES)
-  node-fits e a b = omega arith
+  -- and a node with a token of its own, and one behind it
+  pub node-fits : {ℓ k i m : ℕ} → ℓ ≡ length w → i < count → k < count → m ≤ count + 3
+      → (TABLE ≤ ℓ) × (i < TOKENS) × (k < NODES) × (m < REACH)
+  node-fits e a b c = omega arith
+
+  -- a token near those that are there fits into a word
+  pub near : {m : ℕ} → m ≤ count + 3 → m < REACH
+  near a = omega arith
 
   -- a row behind what was read from token n₂ and row f₂ on
   placed : (n₂ f₂ lo hi : ℕ) {ℓ i : ℕ} (g : Part) → Ahead n₂ f₂ lo hi g → hi ≤ count + 1 → f₂ + hi ≤ n₂ + count → ℓ ≡ length w → i < count

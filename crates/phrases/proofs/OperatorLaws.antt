@@ -74,7 +74,19 @@ module _ {count n f v : ℕ} {w w₁ : List ℕ} where
     clear = b .clear ∙ a .clear;
   }
 
--- ---- rest: the token at n is of kind k, and binds as tightly as p
+-- ---- rest
+
+-- what is known of an answer, of a word that stands for it
+module _ {v u count n left f : ℕ} {w w′ : List ℕ} {g : Part} where
+  pub back-more : {h : Part} → Continues v u count w n left f h w′ → g ≡ h → Continues v u count w n left f g w′
+  back-more a e = subst (λ (x : Part). Continues v u count w n left f x w′) (sym e) a
+
+  -- a tree whose last row is its root
+  pub back-end : {m : ℕ} → Continues v u count w n left f (Part.Tree left m f) w′ → g ≡ Part.Tree left m (left + 1) → f ≡ left + 1
+      → Continues v u count w n left f g w′
+  back-end {m} a e o = back-more a (e ∙ ap (λ (k : ℕ). Part.Tree left m k) (sym o))
+
+-- the token at n is of kind k, and binds as tightly as p
 
 module _ (count n f v u left : ℕ) (w : List ℕ) (k p : ℕ) (low : 1 ≤ v) (hk : k ≡ kind-of w count n) (hp : p ≡ tightness k) where
   binds : (ts : List Token) → Stand w count ts → tightness (kind-at ts n) ≡ p

@@ -17,5 +17,5 @@ module _ (put : List ℕ → ℕ → ℕ → List ℕ) (behind : ℕ → ℕ) {g
   topped-tree {h = h} {w′ = w′} e x = subst (λ (z : Part). Topped put behind z w h w′) (sym e) x
 
   -- nothing, handed on
-  pub topped-none : {e : ℕ} → g ≡ Part.None e → Topped put behind g w (Part.None e) w
-  topped-none {e} q = subst (λ (z : Part). Topped put behind z w (Part.None e) w) (sym q) (refl, refl)
+  pub topped-none : {e : ℕ} → g ≡ Part.None e → Topped put behind g w g w
+  topped-none q = subst (λ (z : Part). Topped put behind z w g w) (sym q) (q, refl)

@@ -5,7 +5,7 @@ use mathlib.Core.Bool.{Bool, true, false}
 use mathlib.Core.List.{List}
 use mathlib.Core.Option.{Option, none, some}
 use mathlib.Core.Path.{_≡_}
-use Prim.Native.Nat.{ℕ, _+_, _≤_, _<_}
+use Prim.Native.Nat.{ℕ, zero, suc, _+_, _/_, _%_, _≤_, _<_}
 use lib.ListN.{length}
 use Rattle.language.specs.Sizes.{TOKENS, NODES, TABLE}
 use Rattle.language.specs.Tokens.{Token, Entry, entry, Means}
@@ -80,6 +80,20 @@ Bounds b n = λ ts r. Settles ts (read bounds) n (made r (span b))
 abbrev pub Ends : ℕ → Told Exps
 Ends n = λ ts r. (i : ℕ) (b : Bool) (x : Exp)
     → Tier 1 i ts (got x n) → Means ts n ranges b → Bounds b i ts (made r (more x))
+
+-- ---- words
+
+-- A reader answers its part as one word: REACH times the first free row, and the token. No tree is without a row, so
+-- where that is 0 reading failed; and a tree's root is the row before the first free one.
+abbrev pub REACH : ℕ
+REACH = 65536
+
+unfoldable pub parted : ℕ → ℕ → Part
+parted zero m = Part.None m
+parted (suc r) m = Part.Tree r m (suc r)
+
+unfoldable pub part-of : ℕ → Part
+part-of word = parted (word / REACH) (word % REACH)
 
 -- ---- numbers
 

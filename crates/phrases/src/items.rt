@@ -4,23 +4,26 @@ ghost use mathlib.Core.Path.{_≡_};
 ghost use Prim.Native.Nat.{_≤_};
 ghost use Rattle.language.specs.Tokens.{LET, IF, WHILE};
 ghost use Rattle.layout.specs.Table.{kind-of};
-ghost use Rattle.phrases.specs.Parts.{Room, Yields, Halts, Seq, Clause, Let, Until};
+ghost use Rattle.phrases.specs.Parts.{part-of, Room, Yields, Halts, Seq, Clause, Let, Until};
 use crate::loops::for_in;
 use crate::parts::Part;
 use crate::parts::around;
 use crate::parts::choice;
+use crate::parts::failed_at;
 use crate::parts::pair;
+use crate::parts::unpack;
 use crate::tiers::assign;
 use language::kinds;
 use layout::token::kind;
 
 // A Seq and the token `mark` behind it, at which it stops.
-pub fn until(table: &mut [u32], count: usize, at: usize, free: usize, mark: u32) -> Part
+pub fn until(table: &mut [u32], count: usize, at: usize, free: usize, mark: u32) -> u32
     requires { ⌜ Room count (now table) at free ⌝ }
     requires { ⌜ 1 ≤ mark ⌝ }
-    ensures { λ g. ⌜ Halts (Until mark at) count (now (table .entry)) at free g (now (table .exit)) ⌝ }
+    ensures { λ g. ⌜ Halts (Until mark at) count (now (table .entry)) at free (part-of g) (now (table .exit)) ⌝ }
 {
-    let whole = seq(table, count, at, free);
+    let whole_word = seq(table, count, at, free);
+    let whole = unpack(whole_word);
     match whole {
         Part::Tree {
             root,
@@ -28,25 +31,22 @@ pub fn until(table: &mut [u32], count: usize, at: usize, free: usize, mark: u32)
             free: rows,
         } => {
             if kind(table, count, next) == mark {
-                Part::Tree {
-                    root: root,
-                    next: next,
-                    free: rows,
-                }
+                whole_word
             } else {
-                Part::None { at: next }
+                failed_at(next)
             }
         }
-        Part::None { at: e } => Part::None { at: e },
+        Part::None { at: _ } => whole_word,
     }
 }
 
 // `;` associates to the right. Behind a Tail there is none: the body of its let has taken it.
-pub fn seq(table: &mut [u32], count: usize, at: usize, free: usize) -> Part
+pub fn seq(table: &mut [u32], count: usize, at: usize, free: usize) -> u32
     requires { ⌜ Room count (now table) at free ⌝ }
-    ensures { λ g. ⌜ Yields (Seq at) count (now (table .entry)) at free g (now (table .exit)) ⌝ }
+    ensures { λ g. ⌜ Yields (Seq at) count (now (table .entry)) at free (part-of g) (now (table .exit)) ⌝ }
 {
-    let first = clause(table, count, at, free);
+    let first_word = clause(table, count, at, free);
+    let first = unpack(first_word);
     match first {
         Part::Tree {
             root,
@@ -57,21 +57,17 @@ pub fn seq(table: &mut [u32], count: usize, at: usize, free: usize) -> Part
                 let rest = seq(table, count, next + 1, rows);
                 pair(table, kinds::SEMI, next, root, rest)
             } else {
-                Part::Tree {
-                    root: root,
-                    next: next,
-                    free: rows,
-                }
+                first_word
             }
         }
-        Part::None { at: e } => Part::None { at: e },
+        Part::None { at: _ } => first_word,
     }
 }
 
 // A Tail or an Item, which the first token does not tell: an `if` is a Tail where its last part is one.
-fn clause(table: &mut [u32], count: usize, at: usize, free: usize) -> Part
+fn clause(table: &mut [u32], count: usize, at: usize, free: usize) -> u32
     requires { ⌜ Room count (now table) at free ⌝ }
-    ensures { λ g. ⌜ Yields (Clause at) count (now (table .entry)) at free g (now (table .exit)) ⌝ }
+    ensures { λ g. ⌜ Yields (Clause at) count (now (table .entry)) at free (part-of g) (now (table .exit)) ⌝ }
 {
     let k = kind(table, count, at);
     if k == kinds::LET {
@@ -90,18 +86,19 @@ fn clause(table: &mut [u32], count: usize, at: usize, free: usize) -> Part
 }
 
 // At a `let`, whose body is a Seq, and so reaches as far as one can.
-fn let_in(table: &mut [u32], count: usize, at: usize, free: usize) -> Part
+fn let_in(table: &mut [u32], count: usize, at: usize, free: usize) -> u32
     requires { ⌜ Room count (now table) at free ⌝ }
     requires { ⌜ kind-of (now table) count at ≡ LET ⌝ }
-    ensures { λ g. ⌜ Yields (Let at) count (now (table .entry)) at free g (now (table .exit)) ⌝ }
+    ensures { λ g. ⌜ Yields (Let at) count (now (table .entry)) at free (part-of g) (now (table .exit)) ⌝ }
 {
     if kind(table, count, at + 1) != kinds::NAME {
-        return Part::None { at: at + 1 };
+        return failed_at(at + 1);
     }
     if kind(table, count, at + 2) != kinds::IS {
-        return Part::None { at: at + 2 };
+        return failed_at(at + 2);
     }
-    let value = until(table, count, at + 3, free, kinds::IN);
+    let value_word = until(table, count, at + 3, free, kinds::IN);
+    let value = unpack(value_word);
     match value {
         Part::Tree {
             root,
@@ -111,24 +108,26 @@ fn let_in(table: &mut [u32], count: usize, at: usize, free: usize) -> Part
             let body = seq(table, count, next + 1, rows);
             pair(table, kinds::LET, at, root, body)
         }
-        Part::None { at: e } => Part::None { at: e },
+        Part::None { at: _ } => value_word,
     }
 }
 
 // At an `if`, whose last part is a Tail or an Item: a `;` is taken by the let in it, or ends it.
-fn if_else(table: &mut [u32], count: usize, at: usize, free: usize) -> Part
+fn if_else(table: &mut [u32], count: usize, at: usize, free: usize) -> u32
     requires { ⌜ Room count (now table) at free ⌝ }
     requires { ⌜ kind-of (now table) count at ≡ IF ⌝ }
-    ensures { λ g. ⌜ Yields (Clause at) count (now (table .entry)) at free g (now (table .exit)) ⌝ }
+    ensures { λ g. ⌜ Yields (Clause at) count (now (table .entry)) at free (part-of g) (now (table .exit)) ⌝ }
 {
-    let test = until(table, count, at + 1, free, kinds::THEN);
+    let test_word = until(table, count, at + 1, free, kinds::THEN);
+    let test = unpack(test_word);
     match test {
         Part::Tree {
             root: test_root,
             next: then_at,
             free: test_rows,
         } => {
-            let yes = until(table, count, then_at + 1, test_rows, kinds::ELSE);
+            let yes_word = until(table, count, then_at + 1, test_rows, kinds::ELSE);
+            let yes = unpack(yes_word);
             match yes {
                 Part::Tree {
                     root: yes_root,
@@ -138,20 +137,21 @@ fn if_else(table: &mut [u32], count: usize, at: usize, free: usize) -> Part
                     let no = clause(table, count, else_at + 1, yes_rows);
                     choice(table, at, test_root, yes_root, no)
                 }
-                Part::None { at: e } => Part::None { at: e },
+                Part::None { at: _ } => yes_word,
             }
         }
-        Part::None { at: e } => Part::None { at: e },
+        Part::None { at: _ } => test_word,
     }
 }
 
 // At a `while`, whose body is a Block of its own.
-fn while_block(table: &mut [u32], count: usize, at: usize, free: usize) -> Part
+fn while_block(table: &mut [u32], count: usize, at: usize, free: usize) -> u32
     requires { ⌜ Room count (now table) at free ⌝ }
     requires { ⌜ kind-of (now table) count at ≡ WHILE ⌝ }
-    ensures { λ g. ⌜ Yields (Clause at) count (now (table .entry)) at free g (now (table .exit)) ⌝ }
+    ensures { λ g. ⌜ Yields (Clause at) count (now (table .entry)) at free (part-of g) (now (table .exit)) ⌝ }
 {
-    let test = until(table, count, at + 1, free, kinds::LBRACE);
+    let test_word = until(table, count, at + 1, free, kinds::LBRACE);
+    let test = unpack(test_word);
     match test {
         Part::Tree {
             root,
@@ -162,6 +162,6 @@ fn while_block(table: &mut [u32], count: usize, at: usize, free: usize) -> Part
             let block = around(table, kinds::LBRACE, brace, body);
             pair(table, kinds::WHILE, at, root, block)
         }
-        Part::None { at: e } => Part::None { at: e },
+        Part::None { at: _ } => test_word,
     }
 }

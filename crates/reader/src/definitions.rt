@@ -5,7 +5,7 @@ ghost use lib.ListN.{length};
 ghost use Rattle.language.specs.Sizes.{TOKENS, NODES, TABLE};
 ghost use Rattle.language.specs.Tokens.{DEF};
 ghost use Rattle.layout.specs.Table.{kind-of, put-row};
-ghost use Rattle.phrases.specs.Parts.{Room};
+ghost use Rattle.phrases.specs.Parts.{Room, part-of};
 ghost use Rattle.reader.specs.Definitions.{ParamsAnswer, DefAnswer, ProgramAnswer};
 ghost use Rattle.reader.specs.Definitions.{Headed, Params, Formals, Function, Sequel};
 use crate::types::Typing;
@@ -20,6 +20,7 @@ use phrases::items::seq;
 use phrases::items::until;
 use phrases::parts::Part;
 use phrases::parts::around;
+use phrases::parts::unpack;
 
 pub enum Rows {
     // The token behind what was laid, and the first free row.
@@ -91,11 +92,12 @@ fn formals(table: &mut [u32], count: usize, at: usize, free: usize) -> Rows
 }
 
 // The row of the function at `own`, kept free until its body's root is known.
-fn header(table: &mut [u32], row: usize, own: usize, count: usize, number: u32, body: Part) -> Rows
+fn header(table: &mut [u32], row: usize, own: usize, count: usize, number: u32, word: u32) -> Rows
     requires { ⌜ (TABLE ≤ length (now table)) × (row < NODES) × (own < TOKENS) × (count < TOKENS) ⌝ }
-    ensures { λ g. ⌜ Headed (λ w r. put-row w row DEF own count number r) body (now (table .entry)) g
+    ensures { λ g. ⌜ Headed (λ w r. put-row w row DEF own count number r) (part-of word) (now (table .entry)) g
         (now (table .exit)) ⌝ }
 {
+    let body = unpack(word);
     match body {
         Part::Tree { root, next, free } => {
             rows::put(
@@ -164,7 +166,8 @@ pub fn program(table: &mut [u32], count: usize, at: usize, free: usize, defs: us
             Rows::None { at: e } => Parsed::None { at: e },
         }
     } else {
-        let main = seq(table, count, at, free);
+        let word = seq(table, count, at, free);
+        let main = unpack(word);
         match main {
             Part::Tree {
                 root,

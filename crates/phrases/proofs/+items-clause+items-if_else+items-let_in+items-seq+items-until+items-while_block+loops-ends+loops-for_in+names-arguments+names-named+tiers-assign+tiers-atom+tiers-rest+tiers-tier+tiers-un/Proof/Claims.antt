@@ -28,6 +28,9 @@ use Rattle.phrases.proofs.parts.choice.Reads as choice-reads
 use Rattle.phrases.proofs.parts.node.Reads as node-reads
 use Rattle.phrases.proofs.parts.over.Reads as over-reads
 use Rattle.phrases.proofs.parts.pair.Reads as pair-reads
+use Rattle.phrases.proofs.parts.failed_at.Reads as failed-at-reads
+use Rattle.phrases.proofs.parts.tree_of.Reads as tree-of-reads
+use Rattle.phrases.proofs.parts.unpack.Reads as unpack-reads
 use readers.Proof.Setup.{items·clause-below, items·if-else-below, items·let-in-below, items·seq-below, items·until-below, items·while-block-below}
 use readers.Proof.Setup.{loops·ends-below, loops·for-in-below, names·arguments-below, names·named-below, tiers·assign-below}
 use readers.Proof.Setup.{tiers·atom-below, tiers·rest-below, tiers·tier-below, tiers·un-below}
@@ -49,15 +52,27 @@ items·clause-claims t = (
 )
 
 abbrev pub items·if-else-claims : ℕ → readers.Lts-items-if_else.Claims
-items·if-else-claims t =
-    (items·until-below t, items·until.Post, items·clause-below t, items·clause.Post, choice-reads.Asked, choice-reads.Learnt)
+items·if-else-claims t = (
+  items·until-below t,
+  items·until.Post,
+  unpack-reads.Asked,
+  unpack-reads.Learnt,
+  items·clause-below t,
+  items·clause.Post,
+  choice-reads.Asked,
+  choice-reads.Learnt,
+)
 
 abbrev pub items·let-in-claims : ℕ → readers.Lts-items-let_in.Claims
 items·let-in-claims t = (
   kind-reads.Asked,
   kind-reads.Learnt,
+  failed-at-reads.Asked,
+  failed-at-reads.Learnt,
   items·until-below t,
   items·until.Post,
+  unpack-reads.Asked,
+  unpack-reads.Learnt,
   items·seq-below t,
   items·seq.Post,
   pair-reads.Asked,
@@ -68,6 +83,8 @@ abbrev pub items·seq-claims : ℕ → readers.Lts-items-seq.Claims
 items·seq-claims t = (
   items·clause-below t,
   items·clause.Post,
+  unpack-reads.Asked,
+  unpack-reads.Learnt,
   kind-reads.Asked,
   kind-reads.Learnt,
   items·seq-below t,
@@ -77,16 +94,35 @@ items·seq-claims t = (
 )
 
 abbrev pub items·until-claims : ℕ → readers.Lts-items-until.Claims
-items·until-claims t = (items·seq-below t, items·seq.Post, kind-reads.Asked, kind-reads.Learnt)
+items·until-claims t = (
+  items·seq-below t,
+  items·seq.Post,
+  unpack-reads.Asked,
+  unpack-reads.Learnt,
+  kind-reads.Asked,
+  kind-reads.Learnt,
+  failed-at-reads.Asked,
+  failed-at-reads.Learnt,
+)
 
 abbrev pub items·while-block-claims : ℕ → readers.Lts-items-while_block.Claims
-items·while-block-claims t =
-    (items·until-below t, items·until.Post, around-reads.Asked, around-reads.Learnt, pair-reads.Asked, pair-reads.Learnt)
+items·while-block-claims t = (
+  items·until-below t,
+  items·until.Post,
+  unpack-reads.Asked,
+  unpack-reads.Learnt,
+  around-reads.Asked,
+  around-reads.Learnt,
+  pair-reads.Asked,
+  pair-reads.Learnt,
+)
 
 abbrev pub loops·ends-claims : ℕ → readers.Lts-loops-ends.Claims
 loops·ends-claims t = (
   tiers·tier-below t,
   tiers·tier.Post,
+  unpack-reads.Asked,
+  unpack-reads.Learnt,
   kind-reads.Asked,
   kind-reads.Learnt,
   over-reads.Asked,
@@ -101,8 +137,12 @@ abbrev pub loops·for-in-claims : ℕ → readers.Lts-loops-for_in.Claims
 loops·for-in-claims t = (
   kind-reads.Asked,
   kind-reads.Learnt,
+  failed-at-reads.Asked,
+  failed-at-reads.Learnt,
   tiers·tier-below t,
   tiers·tier.Post,
+  unpack-reads.Asked,
+  unpack-reads.Learnt,
   is-range-reads.Asked,
   is-range-reads.Learnt,
   loops·ends-below t,
@@ -119,10 +159,14 @@ abbrev pub names·arguments-claims : ℕ → readers.Lts-names-arguments.Claims
 names·arguments-claims t = (
   items·seq-below t,
   items·seq.Post,
+  unpack-reads.Asked,
+  unpack-reads.Learnt,
   kind-reads.Asked,
   kind-reads.Learnt,
   node-reads.Asked,
   node-reads.Learnt,
+  failed-at-reads.Asked,
+  failed-at-reads.Learnt,
   names·arguments-below t,
   names·arguments.Post,
   pair-reads.Asked,
@@ -142,8 +186,16 @@ names·named-claims t = (
 )
 
 abbrev pub tiers·assign-claims : ℕ → readers.Lts-tiers-assign.Claims
-tiers·assign-claims t =
-    (tiers·tier-below t, tiers·tier.Post, kind-reads.Asked, kind-reads.Learnt, pair-reads.Asked, pair-reads.Learnt)
+tiers·assign-claims t = (
+  tiers·tier-below t,
+  tiers·tier.Post,
+  unpack-reads.Asked,
+  unpack-reads.Learnt,
+  kind-reads.Asked,
+  kind-reads.Learnt,
+  pair-reads.Asked,
+  pair-reads.Learnt,
+)
 
 abbrev pub tiers·atom-claims : ℕ → readers.Lts-tiers-atom.Claims
 tiers·atom-claims t = (
@@ -159,6 +211,8 @@ tiers·atom-claims t = (
   items·until.Post,
   around-reads.Asked,
   around-reads.Learnt,
+  failed-at-reads.Asked,
+  failed-at-reads.Learnt,
 )
 
 abbrev pub tiers·rest-claims : ℕ → readers.Lts-tiers-rest.Claims
@@ -167,8 +221,12 @@ tiers·rest-claims t = (
   kind-reads.Learnt,
   tightness-reads.Asked,
   tightness-reads.Learnt,
+  tree-of-reads.Asked,
+  tree-of-reads.Learnt,
   tiers·tier-below t,
   tiers·tier.Post,
+  unpack-reads.Asked,
+  unpack-reads.Learnt,
   put-reads.Asked,
   put-reads.Learnt,
   after-reads.Asked,
@@ -178,7 +236,14 @@ tiers·rest-claims t = (
 )
 
 abbrev pub tiers·tier-claims : ℕ → readers.Lts-tiers-tier.Claims
-tiers·tier-claims t = (tiers·un-below t, tiers·un.Post, tiers·rest-below t, tiers·rest.Post)
+tiers·tier-claims t = (
+  tiers·un-below t,
+  tiers·un.Post,
+  unpack-reads.Asked,
+  unpack-reads.Learnt,
+  tiers·rest-below t,
+  tiers·rest.Post,
+)
 
 abbrev pub tiers·un-claims : ℕ → readers.Lts-tiers-un.Claims
 tiers·un-claims t = (

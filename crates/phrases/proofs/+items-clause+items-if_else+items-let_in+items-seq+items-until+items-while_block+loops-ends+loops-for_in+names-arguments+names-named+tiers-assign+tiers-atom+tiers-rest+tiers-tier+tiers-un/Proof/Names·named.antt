@@ -24,7 +24,7 @@ pub node-requires : (t : ℕ) → lts.Need-node-requires (names·named-claims t)
 node-requires t c κs =
     let p = c .before .before .before .before .before .pre .1 .0 in
     let i = within _ _ _ _ (c .before .before .before .before .before .pre .1 .1) (omega arith) in
-    node-fits p refl i (omega arith)
+    node-fits p refl i (omega arith) (omega arith)
 
 pub same-length : (t : ℕ) → lts.Need-same-length (names·named-claims t) (names·named-at t) names·named.Post
 same-length t c = c .before .before .node .kept .0
@@ -55,7 +55,7 @@ pub node-requires-2 : (t : ℕ) → lts.Need-node-requires-2 (names·named-claim
 node-requires-2 t c κs =
     let earlier = c .before .before .before .before .before .before .before in
     let start = earlier .before in
-    let p = start .pre .1 .0 in let i = within _ _ _ _ (start .pre .1 .1) (omega arith) in node-fits p refl i (omega arith)
+    let p = start .pre .1 .0 in let i = within _ _ _ _ (start .pre .1 .1) (omega arith) in node-fits p refl i (omega arith) (omega arith)
 
 pub same-length-2 : (t : ℕ) → lts.Need-same-length-2 (names·named-claims t) (names·named-at t) names·named.Post
 same-length-2 t c = c .before .before .node2 .kept .0

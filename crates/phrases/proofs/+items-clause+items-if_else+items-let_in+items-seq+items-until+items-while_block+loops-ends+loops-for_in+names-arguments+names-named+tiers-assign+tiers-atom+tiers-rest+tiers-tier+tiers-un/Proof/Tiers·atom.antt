@@ -8,10 +8,11 @@ use Rattle.phrases.proofs.+items-clause+items-if_else+items-let_in+item
 use readers.Lts-tiers-atom as lts
 use readers.Proof.Setup.{tiers·atom-at}
 use readers.Proof.Claims.{tiers·atom-claims}
-use Rattle.phrases.proofs.Moving.{ask, node-fits, top-fits, lower-with, later-with}
+use Rattle.phrases.proofs.Moving.{near, ask, node-fits, top-fits, lower-with, later-with}
 use Rattle.phrases.proofs.Standing.{within}
 use Rattle.phrases.proofs.OperandLaws.{atom-constant, atom-number, atom-float, atom-group, atom-block, atom-other}
 use Rattle.phrases.proofs.RowKinds.{constant-within}
+use Rattle.phrases.proofs.Answering.{back}
 
 pub kind-requires : (t : ℕ) → lts.Need-kind-requires (tiers·atom-claims t) (tiers·atom-at t) tiers·atom.Post
 kind-requires t c κs = ask (c .before .before .pre .1) refl
@@ -27,7 +28,7 @@ node-requires t c κs =
     let p = c .before .before .before .before .before .before .pre .1 in
     let i = constant-within _ _ _ _ (c .before .before .before .kind .ensures)
     (sym (c .before .before .is-constant .ensures) ∙ c .before .if1 .taken) in
-    node-fits p refl i (omega arith)
+    node-fits p refl i (omega arith) (omega arith)
 
 pub same-length : (t : ℕ) → lts.Need-same-length (tiers·atom-claims t) (tiers·atom-at t) tiers·atom.Post
 same-length t c = c .before .before .node .kept .0
@@ -47,7 +48,7 @@ pub node-requires-2 : (t : ℕ) → lts.Need-node-requires-2 (tiers·atom-claims
 node-requires-2 t c κs =
     let p = c .before .before .before .before .before .before .before .pre .1 in
     let i = within _ _ _ _ (sym (c .before .before .before .before .kind .ensures) ∙ c .before .match .keys1) (omega arith) in
-    node-fits p refl i (omega arith)
+    node-fits p refl i (omega arith) (omega arith)
 
 pub add-node-3 : (t : ℕ) → lts.Need-add-node-3 (tiers·atom-claims t) (tiers·atom-at t) tiers·atom.Post
 add-node-3 t c = let p = c .before .before .before .before .before .before .before .pre .1 in omega arith
@@ -56,7 +57,7 @@ pub node-requires-3 : (t : ℕ) → lts.Need-node-requires-3 (tiers·atom-claims
 node-requires-3 t c κs =
     let p = c .before .before .before .before .before .before .before .pre .1 in
     let i = within _ _ _ _ (sym (c .before .before .before .before .kind .ensures) ∙ c .before .match .keys2) (omega arith) in
-    node-fits p refl i (omega arith)
+    node-fits p refl i (omega arith) (omega arith)
 
 pub named-requires : (t : ℕ) → lts.Need-named-requires (tiers·atom-claims t) (tiers·atom-at t) tiers·atom.Post
 named-requires t c κs =
@@ -103,6 +104,9 @@ around-requires-2 t c κs =
     let p = start .pre .1 in
     let i = within _ _ _ _ (sym (at-kind .kind .ensures) ∙ at-match .match .keys5) (omega arith) in
     top-fits p _ (at-until2 .until2 .ensures) (omega arith) (omega arith) (at-until2 .until2 .kept .0) i
+
+pub failed-at-requires : (t : ℕ) → lts.Need-failed-at-requires (tiers·atom-claims t) (tiers·atom-at t) tiers·atom.Post
+failed-at-requires t c κs = let p = c .before .before .before .before .before .before .pre .1 in near p (omega arith)
 
 pub same-length-2 : (t : ℕ) → lts.Need-same-length-2 (tiers·atom-claims t) (tiers·atom-at t) tiers·atom.Post
 same-length-2 t c = c .before .before .node2 .kept .0
@@ -157,6 +161,6 @@ same-length-7 t c = refl
 
 pub returns-7 : (t : ℕ) → lts.Need-returns-7 (tiers·atom-claims t) (tiers·atom-at t) tiers·atom.Post
 returns-7 t c =
-    let q = c .match .rest in
-    atom-other (c .before .before .before .kind .ensures) (sym (c .before .before .is-constant .ensures) ∙ c .before .if1 .left)
-    (q .0 .0 .0 .0 .1) (q .0 .0 .0 .1) (q .0 .0 .1) (q .0 .1) (q .1)
+    let q = c .before .match .rest in
+    back (atom-other (c .before .before .before .before .kind .ensures) (sym (c .before .before .before .is-constant .ensures) ∙ c .before .before .if1 .left)
+    (q .0 .0 .0 .0 .1) (q .0 .0 .0 .1) (q .0 .0 .1) (q .0 .1) (q .1)) (c .failed-at .ensures)

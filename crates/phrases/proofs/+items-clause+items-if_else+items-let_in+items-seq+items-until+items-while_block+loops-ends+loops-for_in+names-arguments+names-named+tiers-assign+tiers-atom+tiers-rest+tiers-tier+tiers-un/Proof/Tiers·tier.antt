@@ -9,39 +9,44 @@ use readers.Lts-tiers-tier as lts
 use readers.Proof.Setup.{tiers·tier-at}
 use readers.Proof.Claims.{tiers·tier-claims}
 use Rattle.phrases.proofs.Moving.{lower, later-with}
-use Rattle.phrases.proofs.Answering.{known}
+use Rattle.phrases.proofs.Answering.{back, known}
 use Rattle.phrases.proofs.OperatorLaws.{tier-none, tier-first}
 
 pub un-requires : (t : ℕ) → lts.Need-un-requires (tiers·tier-claims t) (tiers·tier-at t) tiers·tier.Post
 un-requires t c κs = lower (c .before .before .pre .1 .0) 4 3 (c .before .before .pre .0) (omega arith)
+
+pub unpack-requires : (t : ℕ) → lts.Need-unpack-requires (tiers·tier-claims t) (tiers·tier-at t) tiers·tier.Post
+unpack-requires t c κs = search needs
 
 pub enum-known-first : (t : ℕ) → lts.Need-enum-known-first (tiers·tier-claims t) (tiers·tier-at t) tiers·tier.Post
 enum-known-first t c = search needs
 
 pub rest-requires : (t : ℕ) → lts.Need-rest-requires (tiers·tier-claims t) (tiers·tier-at t) tiers·tier.Post
 rest-requires t c κs =
-    let at-un = c .before .before .before .before .before .before in
+    let at-un = c .before .before .before .before .before .before .before in
     let start = at-un .before .before .before in
     let p = start .pre .1 .0 in
-    let o = (known (at-un .un .ensures) (c .before .before .first .given .1)) .ahead in
+    let seen = c .before .before .before .before .unpack .ensures ∙ c .before .before .first .given .1 in
+    let o = (known (at-un .un .ensures) seen) .ahead in
     let b = start .pre .1 .1 in
     later-with p 4 0 (start .pre .0) (at-un .un .kept .0) (omega arith) (omega arith) (omega arith) (omega arith)
     (o .end, (b .0, b .1, omega arith, b .2))
 
-pub enum-known-first-2 : (t : ℕ) → lts.Need-enum-known-first-2 (tiers·tier-claims t) (tiers·tier-at t) tiers·tier.Post
-enum-known-first-2 t c = search needs
+pub enum-told : (t : ℕ) → lts.Need-enum-told (tiers·tier-claims t) (tiers·tier-at t) tiers·tier.Post
+enum-told t c = search needs
 
 pub same-length : (t : ℕ) → lts.Need-same-length (tiers·tier-claims t) (tiers·tier-at t) tiers·tier.Post
 same-length t c =
-    let earlier = c .before .before .before .before .before .before .before in
+    let earlier = c .before .before .before .before .before .before .before .before in
     let at-un = earlier .before .before in
     c .before .before .rest .kept .0 ∙ at-un .un .kept .0
 
 pub returns : (t : ℕ) → lts.Need-returns (tiers·tier-claims t) (tiers·tier-at t) tiers·tier.Post
 returns t c =
     let at-first = c .before .before .before .before .before in
-    let at-un = at-first .before .before .before .before in
-    tier-first _ (known (at-un .un .ensures) (at-first .first .given .1)) (c .before .before .rest .ensures)
+    let at-un = at-first .before .before .before .before .before in
+    let seen = at-first .before .before .unpack .ensures ∙ at-first .first .given .1 in
+    tier-first _ (known (at-un .un .ensures) seen) (c .before .before .rest .ensures)
 
 pub same-length-2 : (t : ℕ) → lts.Need-same-length-2 (tiers·tier-claims t) (tiers·tier-at t) tiers·tier.Post
 same-length-2 t c = c .before .before .before .before .before .un .kept .0
@@ -50,4 +55,5 @@ pub returns-2 : (t : ℕ) → lts.Need-returns-2 (tiers·tier-claims t) (tiers·
 returns-2 t c =
     let at-un = c .before .before .before .before .before in
     let start = at-un .before .before .before in
-    tier-none (start .pre .1 .1 .1) (known (at-un .un .ensures) (c .before .first2 .given .1))
+    let seen = c .before .before .unpack .ensures ∙ c .enum-told .given .1 in
+    back (tier-none (start .pre .1 .1 .1) (known (at-un .un .ensures) seen)) seen

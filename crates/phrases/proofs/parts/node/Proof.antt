@@ -1,5 +1,5 @@
 -- A node's row is written, and clearing would take it away.
-use mathlib.Core.Path.{refl, ap, _∙_}
+use mathlib.Core.Path.{ap, _∙_}
 use native.Mathlib.Omega.{arith}
 use borrow.Author.Needs.{needs}
 use Rattle.layout.specs.Table.{without-rows}
@@ -13,11 +13,11 @@ cast-put c = search needs
 put-requires : tie.Need-put-requires
 put-requires c κs = search needs
 
-cast-t12 : tie.Need-cast-t12
-cast-t12 c = search needs
+cast-tree-of : tie.Need-cast-tree-of
+cast-tree-of c = search needs
 
-add-t13 : tie.Need-add-t13
-add-t13 c = search needs
+tree-of-requires : tie.Need-tree-of-requires
+tree-of-requires c κs = search needs
 
 same-length : tie.Need-same-length
 same-length c = search needs
@@ -25,11 +25,11 @@ same-length c = search needs
 returns : tie.Need-returns
 returns c =
     record {
-      answer = refl;
-      laid = c .before .before .put .ensures;
-      clear = ap without-rows (c .before .before .put .ensures)
+      answer = c .tree-of .ensures;
+      laid = c .before .before .before .put .ensures;
+      clear = ap without-rows (c .before .before .before .put .ensures)
           ∙ without-put-row _ _ _ _ _ _ _ (omega arith);
     }
 
 pub node-spec : {M : Type 1} → statement M
-node-spec = tie.close (tie.spec cast-put put-requires cast-t12 add-t13 same-length returns)
+node-spec = tie.close (tie.spec cast-put put-requires cast-tree-of tree-of-requires same-length returns)

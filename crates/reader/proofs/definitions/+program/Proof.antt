@@ -21,6 +21,7 @@ pub +program-spec : {M : Type 1} → statement M
     (Program.program-requires t)
     (Program.enum-known-first-2 t)
     (Program.seq-requires t)
+    (Program.unpack-requires t)
     (Program.enum-known-main t)
     (Program.enum-known-main-2 t)
     (Program.same-length t)

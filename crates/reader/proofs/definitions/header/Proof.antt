@@ -1,8 +1,12 @@
 -- A function's row, behind its body.
+use mathlib.Core.Path.{_∙_}
 use borrow.Author.Needs.{needs}
 use Rattle.reader.proofs.Heading.{headed-tree, headed-none}
 use Rattle.reader.proofs.definitions.header.Statement.{statement}
 use Rattle.reader.proofs.definitions.header.Tie as tie
+
+unpack-requires : tie.Need-unpack-requires
+unpack-requires c κs = search needs
 
 enum-known-body : tie.Need-enum-known-body
 enum-known-body c = search needs
@@ -23,15 +27,18 @@ same-length : tie.Need-same-length
 same-length c = search needs
 
 returns : tie.Need-returns
-returns c = headed-tree _ _ (c .before .before .before .before .before .body .given .1) (c .before .before .put .ensures)
+returns c =
+    let at-body = c .before .before .before .before .before in
+    headed-tree _ _ (at-body .before .before .unpack .ensures ∙ at-body .body .given .1) (c .before .before .put .ensures)
 
 returns-2 : tie.Need-returns-2
-returns-2 c = headed-none _ _ (c .before .body2 .given .1)
+returns-2 c = headed-none _ _ (c .before .before .before .unpack .ensures ∙ c .before .body2 .given .1)
 
 pub header-spec : {M : Type 1} → statement M
 header-spec =
     tie.close
     (tie.spec
+    unpack-requires
     enum-known-body
     cast-put
     cast-put-2

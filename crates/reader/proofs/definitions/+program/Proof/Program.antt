@@ -66,6 +66,9 @@ enum-known-first-2 t c = search needs
 pub seq-requires : (t : ℕ) → lts.Need-seq-requires (program-claims t) (program-at t) program.Post
 seq-requires t c κs = c .before .before .before .before .before .pre .1 .0
 
+pub unpack-requires : (t : ℕ) → lts.Need-unpack-requires (program-claims t) (program-at t) program.Post
+unpack-requires t c κs = search needs
+
 pub enum-known-main : (t : ℕ) → lts.Need-enum-known-main (program-claims t) (program-at t) program.Post
 enum-known-main t c = search needs
 
@@ -103,27 +106,27 @@ returns-2 t c =
     program-failed (sym (at-kind .kind .ensures) ∙ at-if1 .if1 .taken) (known-def (at-function .function .ensures) (c .before .first2 .given .1))
 
 pub same-length-3 : (t : ℕ) → lts.Need-same-length-3 (program-claims t) (program-at t) program.Post
-same-length-3 t c = c .before .before .before .before .before .seq .kept .0
+same-length-3 t c = c .before .before .before .before .before .before .seq .kept .0
 
 pub returns-3 : (t : ℕ) → lts.Need-returns-3 (program-claims t) (program-at t) program.Post
 returns-3 t c =
-    let at-seq = c .before .before .before .before .before in
+    let at-seq = c .before .before .before .before .before .before in
     let at-if1 = at-seq .before .before in
     let at-kind = at-if1 .before in
     program-seq
     (λ e. at-if1 .if1 .left
     (at-kind .kind .ensures ∙ e))
-    (known (at-seq .seq .ensures) (c .before .main .given .1))
+    (known (at-seq .seq .ensures) (c .before .before .before .unpack .ensures ∙ c .before .main .given .1))
 
 pub same-length-4 : (t : ℕ) → lts.Need-same-length-4 (program-claims t) (program-at t) program.Post
-same-length-4 t c = c .before .before .before .before .before .seq .kept .0
+same-length-4 t c = c .before .before .before .before .before .before .seq .kept .0
 
 pub returns-4 : (t : ℕ) → lts.Need-returns-4 (program-claims t) (program-at t) program.Post
 returns-4 t c =
-    let at-seq = c .before .before .before .before .before in
+    let at-seq = c .before .before .before .before .before .before in
     let at-if1 = at-seq .before .before in
     let at-kind = at-if1 .before in
     program-none
     (λ e. at-if1 .if1 .left
     (at-kind .kind .ensures ∙ e))
-    (known (at-seq .seq .ensures) (c .before .main2 .given .1))
+    (known (at-seq .seq .ensures) (c .before .before .before .unpack .ensures ∙ c .before .main2 .given .1))

@@ -10,6 +10,7 @@ use Rattle.reader.proofs.definitions.program.Kinds as program-kinds
 use Rattle.reader.proofs.definitions.+program.Lts-program as program-lts
 use Rattle.reader.proofs.definitions.function.Reads as function-reads
 use Rattle.phrases.proofs.items.seq.Reads as seq-reads
+use Rattle.phrases.proofs.parts.unpack.Reads as unpack-reads
 
 abbrev pub μ-program : Measures 1 program-kinds.ps ℕ
 μ-program κs a = a .1 .0 - a .1 .1 .0
@@ -32,4 +33,6 @@ program-claims t = (
   program.Post,
   seq-reads.Asked,
   seq-reads.Learnt,
+  unpack-reads.Asked,
+  unpack-reads.Learnt,
 )
