@@ -75,8 +75,8 @@ function name_cycles(   x, y) {
     if (!(x in rank) && y in rank) { rank[x] = rank[y]; counted[x] = counted[y] }
     if ((x, x) in reached) {
       for (y in frame) if ((x, y) in reached && (y, x) in reached && (!(x in cycle) || y < cycle[x])) cycle[x] = y
-      if (x ~ /^(phrases|reader)::/) of[x] = "t"
-      else if (x ~ /^(phrase_types|checker|resolver)::/) of[x] = "r"
+      if (x ~ /^(phrases|reader|phrase_types|checker)::/) of[x] = "t"
+      else if (x ~ /^resolver::/) of[x] = "r"
       else if (x ~ /^tally::calls::/) of[x] = "d"
       if (!(x in of && x in rank)) wrong("a cycle of calls of which nothing says what falls: " x)
     }

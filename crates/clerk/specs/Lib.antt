@@ -1,2 +1,3 @@
-pub mod Shifts
 pub mod Told
+pub mod Reports
+pub mod Shifts

@@ -1,7 +1,10 @@
 // The report for people.
 ghost use Rattle.io.specs.Counts.{Counts};
 ghost use Rattle.page.specs.Text.{Adds};
-ghost use Rattle.clerk.specs.Told.{number-words, line-words, Positioned};
+ghost use Rattle.wording.specs.Spots.{line-at, column-at};
+ghost use Rattle.clerk.specs.Told.{number-words, line-words, position-words, marked-lines, meaning-line};
+ghost use Rattle.clerk.specs.Told.{there-lines, on-line, placed-lines, cause-lines};
+ghost use Rattle.clerk.specs.Reports.{well-line, bound-words, units-line, counted-line, report-text};
 use page::blanks;
 use page::decimal;
 use page::put;
@@ -19,6 +22,7 @@ use wording::words;
 // A number, where there is one, and what is meant.
 fn meaning(out: &mut [u8], at: usize, why: Cause) -> usize
     ensures { λ r. ⌜ Counts r (now (out .exit)) ⌝ }
+    ensures { λ r. ⌜ Adds (meaning-line why) (now (out .entry)) (now (out .exit)) at r ⌝ }
 {
     let number = causes::number(why);
     if number == 0 {
@@ -36,7 +40,8 @@ fn meaning(out: &mut [u8], at: usize, why: Cause) -> usize
 pub fn position(out: &mut [u8], at: usize, file: &[u8], sheet: &[u8], place: usize) -> usize
     ensures { λ r. ⌜ Counts r (now (out .exit)) ⌝ }
     ensures { λ r.
-        ⌜ Positioned (now (file .entry)) (now (sheet .entry)) place (now (out .entry)) (now (out .exit)) at r ⌝ }
+        ⌜ Adds (position-words (now (file .entry)) (line-at (now (sheet .entry)) place)
+        (column-at (now (sheet .entry)) place)) (now (out .entry)) (now (out .exit)) at r ⌝ }
 {
     let spot = spot(sheet, place);
     let a = fields::name(out, at, file);
@@ -70,6 +75,9 @@ pub fn numbered(out: &mut [u8], at: usize, number: u32) -> usize
 // end is not shown.
 fn marked(out: &mut [u8], at: usize, line: &[u8], before: &[u8], plain: bool) -> usize
     ensures { λ r. ⌜ Counts r (now (out .exit)) ⌝ }
+    ensures { λ r.
+        ⌜ Adds (marked-lines plain (now (line .entry)) (now (before .entry)))
+        (now (out .entry)) (now (out .exit)) at r ⌝ }
 {
     let n = page::trimmed(line);
     let a = shown(out, at, &line[..n], plain);
@@ -81,6 +89,9 @@ fn marked(out: &mut [u8], at: usize, line: &[u8], before: &[u8], plain: bool) ->
 // A cause at a place of the sheet.
 fn there(out: &mut [u8], at: usize, file: &[u8], sheet: &[u8], why: Cause, place: usize) -> usize
     ensures { λ r. ⌜ Counts r (now (out .exit)) ⌝ }
+    ensures { λ r.
+        ⌜ Adds (there-lines (now (file .entry)) (now (sheet .entry)) why place)
+        (now (out .entry)) (now (out .exit)) at r ⌝ }
 {
     let spot = spot(sheet, place);
     let from = spot.from;
@@ -96,11 +107,32 @@ fn there(out: &mut [u8], at: usize, file: &[u8], sheet: &[u8], why: Cause, place
 // A cause at a line of a stored sheet, whose digits nobody is shown.
 fn on_line(out: &mut [u8], at: usize, file: &[u8], why: Cause, place: usize) -> usize
     ensures { λ r. ⌜ Counts r (now (out .exit)) ⌝ }
+    ensures { λ r. ⌜ Adds (on-line (now (file .entry)) why place) (now (out .entry)) (now (out .exit)) at r ⌝ }
 {
     let a = line(out, at, file, place);
     let b = numbered(out, a, causes::number(why));
     let c = words::words(out, b, why);
     put(out, c, b"\n")
+}
+
+fn placed(
+    out: &mut [u8],
+    at: usize,
+    file: &[u8],
+    sheet: &[u8],
+    places: Places,
+    why: Cause,
+    place: usize,
+) -> usize
+    ensures { λ r. ⌜ Counts r (now (out .exit)) ⌝ }
+    ensures { λ r.
+        ⌜ Adds (placed-lines (now (file .entry)) (now (sheet .entry)) places why place) (now (out .entry))
+        (now (out .exit)) at r ⌝ }
+{
+    match places {
+        Places::Bytes => there(out, at, file, sheet, why, place),
+        Places::Lines => on_line(out, at, file, why, place),
+    }
 }
 
 // A cause, with its place if it has one.
@@ -114,12 +146,12 @@ fn cause(
     place: usize,
 ) -> usize
     ensures { λ r. ⌜ Counts r (now (out .exit)) ⌝ }
+    ensures { λ r.
+        ⌜ Adds (cause-lines (now (file .entry)) (now (sheet .entry)) places why place) (now (out .entry))
+        (now (out .exit)) at r ⌝ }
 {
     if causes::is_placed(why) {
-        return match places {
-            Places::Bytes => there(out, at, file, sheet, why, place),
-            Places::Lines => on_line(out, at, file, why, place),
-        };
+        return placed(out, at, file, sheet, places, why, place);
     }
     let a = fields::name(out, at, file);
     let b = put(out, a, b": ");
@@ -128,6 +160,7 @@ fn cause(
 
 fn well(out: &mut [u8], at: usize) -> usize
     ensures { λ r. ⌜ Counts r (now (out .exit)) ⌝ }
+    ensures { λ r. ⌜ Adds well-line (now (out .entry)) (now (out .exit)) at r ⌝ }
 {
     put(out, at, b"number 0: all is well\n")
 }
@@ -135,6 +168,7 @@ fn well(out: &mut [u8], at: usize) -> usize
 // How many units it can use, where that is known.
 fn bound(out: &mut [u8], at: usize, most: Most) -> usize
     ensures { λ r. ⌜ Counts r (now (out .exit)) ⌝ }
+    ensures { λ r. ⌜ Adds (bound-words most) (now (out .entry)) (now (out .exit)) at r ⌝ }
 {
     match most {
         Most::Unknown => put(out, at, b""),
@@ -148,6 +182,7 @@ fn bound(out: &mut [u8], at: usize, most: Most) -> usize
 
 fn units(out: &mut [u8], at: usize, used: u32, limits: Limits) -> usize
     ensures { λ r. ⌜ Counts r (now (out .exit)) ⌝ }
+    ensures { λ r. ⌜ Adds (units-line used limits) (now (out .entry)) (now (out .exit)) at r ⌝ }
 {
     let most = limits.most;
     let a = put(out, at, b"units ");
@@ -161,6 +196,7 @@ fn units(out: &mut [u8], at: usize, used: u32, limits: Limits) -> usize
 // What the profile tells of a sheet that passes it.
 fn counted(out: &mut [u8], at: usize, count: u32) -> usize
     ensures { λ r. ⌜ Counts r (now (out .exit)) ⌝ }
+    ensures { λ r. ⌜ Adds (counted-line count) (now (out .entry)) (now (out .exit)) at r ⌝ }
 {
     let a = put(out, at, b"units at most ");
     let b = decimal(out, a, count as u64);
@@ -177,6 +213,9 @@ pub fn report(
     end: End,
 ) -> usize
     ensures { λ r. ⌜ Counts r (now (out .exit)) ⌝ }
+    ensures { λ r.
+        ⌜ Adds (report-text (now (file .entry)) (now (sheet .entry)) places limits end)
+        (now (out .entry)) (now (out .exit)) 0 r ⌝ }
 {
     match end {
         End::Passed(type_number) => {

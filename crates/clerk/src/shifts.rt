@@ -1,8 +1,12 @@
 // What is told of a shift, for people: a name and what it comes to on each line, one below the other.
 ghost use Prim.Native.Nat.{_<_};
 ghost use Rattle.io.specs.Counts.{Counts};
+ghost use Rattle.numbers.specs.Meanings.{stop-meant};
 ghost use Rattle.page.specs.Text.{Adds};
-ghost use Rattle.clerk.specs.Shifts.{pounds-words, count-line, amount-line, progress-line};
+ghost use Rattle.tally.specs.Stands.{report-in};
+ghost use Rattle.clerk.specs.Shifts.{pounds-words, count-line, amount-line, progress-line, stop-line};
+ghost use Rattle.clerk.specs.Shifts.{first-lines, second-lines, third-lines, stop-lines, count-lines};
+ghost use Rattle.clerk.specs.Shifts.{amount-lines, shift-text};
 use numbers::Stop;
 use page::decimal;
 use page::magnitude;
@@ -49,6 +53,8 @@ fn amount(out: &mut [u8], at: usize, name: &[u8], pence: i64) -> usize
 // A stop that came, with its words.
 fn stop(out: &mut [u8], at: usize, sums: Sums, why: Stop) -> usize
     ensures { λ r. ⌜ Counts r (now (out .exit)) ⌝ }
+    ensures { λ r.
+        ⌜ Adds (stop-line why (report-in sums .stops (stop-meant why))) (now (out .entry)) (now (out .exit)) at r ⌝ }
 {
     let lines = stopped(sums, why);
     if lines == 0 {
@@ -66,6 +72,7 @@ fn stop(out: &mut [u8], at: usize, sums: Sums, why: Stop) -> usize
 // The stops from 50, from 53 and from 56 on.
 fn first_stops(out: &mut [u8], at: usize, sums: Sums) -> usize
     ensures { λ r. ⌜ Counts r (now (out .exit)) ⌝ }
+    ensures { λ r. ⌜ Adds (first-lines (sums .stops)) (now (out .entry)) (now (out .exit)) at r ⌝ }
 {
     let a = stop(out, at, sums, Stop::NoUnit);
     let b = stop(out, a, sums, Stop::TooDeep);
@@ -74,6 +81,7 @@ fn first_stops(out: &mut [u8], at: usize, sums: Sums) -> usize
 
 fn second_stops(out: &mut [u8], at: usize, sums: Sums) -> usize
     ensures { λ r. ⌜ Counts r (now (out .exit)) ⌝ }
+    ensures { λ r. ⌜ Adds (second-lines (sums .stops)) (now (out .entry)) (now (out .exit)) at r ⌝ }
 {
     let a = stop(out, at, sums, Stop::ZeroDivisor);
     let b = stop(out, a, sums, Stop::CellFreed);
@@ -82,6 +90,7 @@ fn second_stops(out: &mut [u8], at: usize, sums: Sums) -> usize
 
 fn third_stops(out: &mut [u8], at: usize, sums: Sums) -> usize
     ensures { λ r. ⌜ Counts r (now (out .exit)) ⌝ }
+    ensures { λ r. ⌜ Adds (third-lines (sums .stops)) (now (out .entry)) (now (out .exit)) at r ⌝ }
 {
     let a = stop(out, at, sums, Stop::NotAByte);
     let b = stop(out, a, sums, Stop::OutputFull);
@@ -90,6 +99,7 @@ fn third_stops(out: &mut [u8], at: usize, sums: Sums) -> usize
 
 fn stops(out: &mut [u8], at: usize, sums: Sums) -> usize
     ensures { λ r. ⌜ Counts r (now (out .exit)) ⌝ }
+    ensures { λ r. ⌜ Adds (stop-lines (sums .stops)) (now (out .entry)) (now (out .exit)) at r ⌝ }
 {
     let a = first_stops(out, at, sums);
     let b = second_stops(out, a, sums);
@@ -98,6 +108,7 @@ fn stops(out: &mut [u8], at: usize, sums: Sums) -> usize
 
 fn counts(out: &mut [u8], at: usize, sums: Sums) -> usize
     ensures { λ r. ⌜ Counts r (now (out .exit)) ⌝ }
+    ensures { λ r. ⌜ Adds (count-lines sums) (now (out .entry)) (now (out .exit)) at r ⌝ }
 {
     let a = count(out, at, b"lines      ", sums.lines);
     let b = count(out, a, b"bad lines  ", sums.bad);
@@ -107,6 +118,7 @@ fn counts(out: &mut [u8], at: usize, sums: Sums) -> usize
 
 fn amounts(out: &mut [u8], at: usize, sums: Sums) -> usize
     ensures { λ r. ⌜ Counts r (now (out .exit)) ⌝ }
+    ensures { λ r. ⌜ Adds (amount-lines sums) (now (out .entry)) (now (out .exit)) at r ⌝ }
 {
     let a = amount(out, at, b"sum        ", sums.sum);
     let b = amount(out, a, b"least      ", sums.least);
@@ -116,6 +128,7 @@ fn amounts(out: &mut [u8], at: usize, sums: Sums) -> usize
 // The whole report.
 pub fn report(out: &mut [u8], sums: Sums) -> usize
     ensures { λ r. ⌜ Counts r (now (out .exit)) ⌝ }
+    ensures { λ r. ⌜ Adds (shift-text sums) (now (out .entry)) (now (out .exit)) 0 r ⌝ }
 {
     let a = counts(out, 0, sums);
     amounts(out, a, sums)

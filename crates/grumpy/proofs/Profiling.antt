@@ -1,6 +1,6 @@
 -- From a sheet that was examined to the answer of profile.
 use mathlib.Core.List.{List}
-use mathlib.Core.Path.{_≡_, refl, sym, subst, _∙_}
+use mathlib.Core.Path.{_≡_, refl, sym, ap, subst, _∙_}
 use Prim.Native.Nat.{ℕ, _≤_, _<_}
 use native.Mathlib.Omega.{arith}
 use lib.ListN.{length}
@@ -15,9 +15,11 @@ use Rattle.language.specs.Profile.{profile-report, profile-short, profile-refus
 use Rattle.numbers.specs.declared.Refusal.{Refusal}
 use Rattle.layout.specs.Table.{zeros}
 use Rattle.layout.specs.Names.{Stand}
+use Rattle.layout.specs.Decode.{Holds}
 use Rattle.layout.specs.declared.Held.{Held}
-use Rattle.layout.proofs.VariablesTrees.{holds-alike}
-use Rattle.layout.proofs.Wiped.{zeros-cleared}
+use Rattle.layout.proofs.VariablesTrees.{holds-without}
+use Rattle.layout.proofs.VariablesWords.{length-without}
+use Rattle.layout.proofs.Wiped.{zeros-cleared, wiped-without-variables}
 use Rattle.profiles.specs.Profiled as profiles
 use Rattle.profiles.specs.Profiled.{Countable, Answers}
 use Rattle.profiles.specs.declared.Counted.{Counted}
@@ -44,7 +46,7 @@ payable-sheet w h t s x z = subst (Payable w) z x
 
 -- the places of its tokens can be looked up when it was counted
 pub counted-long : {w w′ : List ℕ} {h : Held} {c : Counted} → Countable w h → profiles.Profiled w w′ h c → (TABLE ≤ length w′) × (h .count ≤ TOKENS)
-counted-long a x = (omega (arith, x .table .long, a .holds .long), a .holds .stand .few)
+counted-long {w} a x = let e = ap length (x .table) ∙ length-without w in (omega (arith, e, a .holds .long), a .holds .stand .few)
 
 module _ (first second : List ℕ) (f : Form) where
   module _ (w : List ℕ) (count t : ℕ) {c : Counted} where
@@ -75,12 +77,12 @@ module _ (first second : List ℕ) (f : Form) where
   profiling-sheet w w′ h t s c r x z k = record {
     told = λ edition table l y.
         let p = subst (OfSource (origin-of first second f edition) w) z y in
-        let H = holds-alike w′ w (x .table .before) (x .table .long) (p .holds) in
+        let H = subst (λ (v : List ℕ). Holds (p .tokens) v h (p .program)) (sym (x .table)) (holds-without (p .holds)) in
         subst (λ (r : Profiled). Profile.Profiled (origin-of first second f edition) table (profiled-report r)) (sym k)
         (counted-told edition w′ (h .count) t table c l (p .passes) (H .stand) (p .numbered)
         (x .right (p .tokens) (p .program) (p .holds) (p .passes .proper .reads)));
-    rest = x .table .wiped;
-    long = x .table .long;
+    rest = ap (λ (v : List ℕ). zeros v 0 TABLE) (x .table) ∙ wiped-without-variables w;
+    long = ap length (x .table) ∙ length-without w;
   }
 
   pub profiling-refused : (w : List ℕ) (y : Refusal) (i : ℕ) (s : Seen) → s ≡ Seen.Refused y i

@@ -1,7 +1,7 @@
 // What `putchar` prints.
 ghost use mathlib.Core.Path.{_≡_};
 ghost use Prim.Native.Nat.{_≤_, _<_};
-ghost use lib.ListN.{length};
+ghost use lib.ListN.{length, set};
 ghost use Rattle.layout.specs.Values.{meant};
 ghost use Rattle.machine.specs.Outcomes.{Printed, byte-more};
 use crate::operands;
@@ -12,6 +12,14 @@ use crate::state::Tally;
 use language::BYTE;
 use layout::values::Value;
 use numbers::Stop;
+
+// A byte in the place for the next.
+fn store(out: &mut [u8], at: usize, byte: u8)
+    requires { ⌜ at < length (now out) ⌝ }
+    ensures { λ _. ⌜ now (out .exit) ≡ set (now (out .entry)) at byte ⌝ }
+{
+    out[at] = byte;
+}
 
 // Prints v, a number from 0 to the largest byte, if there is room. Where it is printed, `printed` counts it.
 pub fn put(out: &mut [u8], v: Value, s: Tally) -> Outcome
@@ -29,7 +37,8 @@ pub fn put(out: &mut [u8], v: Value, s: Tally) -> Outcome
                 return Outcome::Halts(Stop::NotAByte);
             }
             if printed < out.len() {
-                out[printed] = z as u8;
+                let byte = z as u8;
+                store(out, printed, byte);
                 return Outcome::Gives(Value::Int(z));
             }
             Outcome::Halts(Stop::OutputFull)

@@ -30,7 +30,9 @@ use Rattle.rules.proofs.ShapeLaws.{for-shape}
 use Rattle.phrase_types.proofs.KeptLaws.{kept-then, kept-fewer, kept-put}
 use Rattle.phrase_types.proofs.NodeLaws.{over, told-shape}
 use Rattle.phrase_types.proofs.BindLaws.{under-told, types-told, wrong-told}
-use Rattle.phrase_types.proofs.ReadyLaws.{ready-parts, ready-row, ready-binds, ready-counts, ready-looped, ready-with, behind-named, ready-list}
+use Rattle.phrase_types.proofs.ReadyLaws.{ready-parts, ready-row, ready-binds, ready-counts, ready-looped}
+use Rattle.phrase_types.proofs.ReadyLaws.{covered-with, ready-with, behind-named, ready-list}
+use Rattle.phrase_types.proofs.CoveredLaws.{covered, covered-all, fewer-bounds, fewer-pass}
 use Rattle.phrase_types.proofs.InferredLaws.{inferred-as, plain}
 
 -- ---- what its parts are told, it is
@@ -94,12 +96,12 @@ module _ {w : List ℕ} {node seen binds : ℕ} (r : Ready w node seen binds) (k
   pf = without-variables w
 
   -- its bounds can be checked
-  pub ready-bounds : {row : ℕ} → row ≡ row-word w node START → (row ≤ node) × ReadyAll w row seen binds Taker.For 0
+  pub ready-bounds : {row : ℕ} → row ≡ row-word w node START → (covered-all w row < covered w node) × ReadyAll w row seen binds Taker.For 0
   ready-bounds e =
       let q = ready-parts r in
       let h = q .row .loops (ready-counts r kind) .bounds in
-      subst (λ (row : ℕ). (row ≤ node) × ReadyAll w row seen binds Taker.For 0) (ready-row r 2 (omega arith) ∙ sym e)
-      (h .0, ready-list r (q .f) _ (h .0) (h .1) (q .bounds (ready-counts r kind)) tt)
+      subst (λ (row : ℕ). (covered-all w row < covered w node) × ReadyAll w row seen binds Taker.For 0) (ready-row r 2 (omega arith) ∙ sym e)
+      (fewer-bounds w (q .f) (r .tokens) (q .row) (ready-counts r kind), ready-list r (q .f) _ (h .0) (h .1) (q .bounds (ready-counts r kind)) tt)
 
   module _ {row : ℕ} (er : row ≡ row-word w node START) {w₁ : List ℕ} {s : Passed} (h : InferredAll w w₁ row seen binds Taker.For 0 true s) where
     bounds-told : {q : Passed} → s ≡ q → ToldAll pf w (row-word pf node START) seen binds Taker.For 0 true q
@@ -112,12 +114,12 @@ module _ {w : List ℕ} {node seen binds : ℕ} (r : Ready w node seen binds) (k
     module _ {x m j : ℕ} {v : List ℕ} (ex : x ≡ token-value w (row-word w node OWN + 1)) (ei : m ≡ type-number int)
         (ev : v ≡ put-variable w₁ binds x m) (ej : j ≡ row-word w node PASS) where
       -- its body can be checked, with its name in sight
-      pub ready-pass : (j < node) × Ready v j seen (binds + 1)
+      pub ready-pass : (covered v j < covered w node) × Ready v j seen (binds + 1)
       ready-pass =
           let q = ready-parts r in
           let l = q .row .loops (ready-counts r kind) in
-          subst₂ (λ (v : List ℕ) (j : ℕ). (j < node) × Ready v j seen (binds + 1)) (sym ev) (ready-row r 3 (omega arith) ∙ sym ej) (
-            l .body .0,
+          subst₂ (λ (v : List ℕ) (j : ℕ). (covered v j < covered w node) × Ready v j seen (binds + 1)) (sym ev) (ready-row r 3 (omega arith) ∙ sym ej) (
+            rw (covered-with r (h .kept) x m) (fewer-pass w (q .f) (r .tokens) (q .row) (ready-counts r kind)),
             ready-with r (h .kept) int (q .f) _ (behind-named r (h .kept) (l .named) ex) ei (l .body .1) (q .body (ready-counts r kind)),
           )
 

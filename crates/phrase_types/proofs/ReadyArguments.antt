@@ -15,6 +15,7 @@ use Rattle.rules.proofs.PlainLaws.{readable-plain}
 use Rattle.phrase_types.specs.Inferred.{Kept, Ready, ReadyAll}
 use Rattle.phrase_types.proofs.KeptLaws.{stands-kept}
 use Rattle.phrase_types.proofs.BindLaws.{an-argument}
+use Rattle.phrase_types.proofs.CoveredLaws.{covered, covered-all, fewer-exp, fewer-next, covered-all-same}
 
 -- an argument that is ready, by its row
 record Argued (ts : List Token) (p : List ℕ) (row binds : ℕ) : Type 0 where
@@ -51,10 +52,10 @@ module _ {w : List ℕ} {row seen binds : ℕ} {c : Taker} {k : ℕ} (r : ReadyA
   args-row i l = row-without w row i args-inside l
 
   -- its expression can be checked
-  pub args-first : {j : ℕ} → j ≡ row-word w row EXPRESSION → (j < row) × Ready w j seen binds
+  pub args-first : {j : ℕ} → j ≡ row-word w row EXPRESSION → (covered w j < covered-all w row) × Ready w j seen binds
   args-first e =
-      subst (λ (j : ℕ). (j < row) × Ready w j seen binds) (args-row 2 (omega arith) ∙ sym e) (
-        ready-argued .here .exp .0,
+      subst (λ (j : ℕ). (covered w j < covered-all w row) × Ready w j seen binds) (args-row 2 (omega arith) ∙ sym e) (
+        fewer-exp w (ready-argued .f) (r .tokens) n (ready-argued .here),
         record {
           tokens = r .tokens;
           depth = ready-argued .f;
@@ -67,11 +68,12 @@ module _ {w : List ℕ} {row seen binds : ℕ} {c : Taker} {k : ℕ} (r : ReadyA
       )
 
   -- and then the arguments behind it
-  pub args-next : {j : ℕ} {w′ : List ℕ} → Kept w w′ binds → j ≡ row-word w row NEXT → (j < row) × ReadyAll w′ j seen binds c (k + 1)
+  pub args-next : {j : ℕ} {w′ : List ℕ} → Kept w w′ binds → j ≡ row-word w row NEXT
+      → (covered-all w′ j < covered-all w row) × ReadyAll w′ j seen binds c (k + 1)
   args-next {w′ = w′} h e =
       let a = ready-argued .here .next in
-      subst (λ (j : ℕ). (j < row) × ReadyAll w′ j seen binds c (k + 1)) (args-row 3 (omega arith) ∙ sym e) (
-        a .0,
+      subst (λ (j : ℕ). (covered-all w′ j < covered-all w row) × ReadyAll w′ j seen binds c (k + 1)) (args-row 3 (omega arith) ∙ sym e) (
+        rw (covered-all-same w′ w (h .rest)) (fewer-next w (ready-argued .f) (r .tokens) n (ready-argued .here)),
         record {
           tokens = r .tokens;
           depth = ready-argued .f;

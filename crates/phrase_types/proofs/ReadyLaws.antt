@@ -32,6 +32,7 @@ use Rattle.rules.proofs.PlainLaws.{headed-plain, callee-plain}
 use Rattle.rules.proofs.ShapeLaws.{for-shape}
 use Rattle.phrase_types.proofs.NodeLaws.{tree-is}
 use Rattle.phrase_types.proofs.BindLaws.{let-children}
+use Rattle.phrase_types.proofs.CoveredLaws.{covered, covered-all, fewer-first, fewer-second, fewer-third, fewer-args, covered-same}
 
 -- a part has fewer rows than the whole
 below-parts : (ts : List Token) (s : Shape) (i : ℕ) (a b c : Exp) (es : Exps)
@@ -175,33 +176,38 @@ module _ {w : List ℕ} {node seen binds : ℕ} (r : Ready w node seen binds) wh
       count : m ≡ children (ready-parts .row .shape)
       count = subst (λ (z : ℕ). Children z m) (sym (ready-row 0 (omega arith))) has _ (ready-parts .row .known)
 
-      child : {j : ℕ} (i : ℕ) → row-word p node i ≡ j → (row-word p node i < node) × Right (ready-parts .f) (r .tokens) p
-          (row-word p node i)
-          → binds + 1 + below (tree-at (ready-parts .f) (r .tokens) p (row-word p node i)) < NODES → (j < node) × Ready w′ j seen binds
-      child i e h l =
-          subst (λ (j : ℕ). (j < node) × Ready w′ j seen binds) e (
-            h .0,
-            ready-part (ready-parts .f) (row-word p node i) (h .1)
-                (omega arith),
-          )
+      child : {j : ℕ} (i : ℕ) → row-word p node i ≡ j → covered w (row-word p node i) < covered w node
+          → Right (ready-parts .f) (r .tokens) p (row-word p node i)
+          → binds + 1 + below (tree-at (ready-parts .f) (r .tokens) p (row-word p node i)) < NODES
+          → (covered w′ j < covered w node) × Ready w′ j seen binds
+      child i e m h l =
+          subst (λ (j : ℕ). (covered w′ j < covered w node) × Ready w′ j seen binds) e
+          (rw (covered-same w′ w (k .rest)) m, ready-part (ready-parts .f) (row-word p node i) h (omega arith))
 
       -- the first, the second and the third child
-      pub ready-first : {j : ℕ} → 1 ≤ m → j ≡ row-word w node FIRST → (j < node) × Ready w′ j seen binds
+      pub ready-first : {j : ℕ} → 1 ≤ m → j ≡ row-word w node FIRST → (covered w′ j < covered w node) × Ready w′ j seen binds
       ready-first l e =
           let d : 1 ≤ children (ready-parts .row .shape) = let q = count in omega arith in
-          child 2 (ready-row 2 (omega arith) ∙ sym e) (ready-parts .row .first d) (ready-parts .first d)
+          child 2 (ready-row 2 (omega arith) ∙ sym e) (fewer-first w (ready-parts .f) (r .tokens) (ready-parts .row) d)
+          (ready-parts .row .first d .1) (ready-parts .first d)
 
       -- the second child
-      pub ready-second : {j : ℕ} → 2 ≤ m → j ≡ row-word w node SECOND → (j < node) × Ready w′ j seen binds
+      pub ready-second : {j : ℕ} → 2 ≤ m → j ≡ row-word w node SECOND → (covered w′ j < covered w node) × Ready w′ j seen binds
       ready-second l e =
           let d : 2 ≤ children (ready-parts .row .shape) = let q = count in omega arith in
-          child 3 (ready-row 3 (omega arith) ∙ sym e) (ready-parts .row .second d) (ready-parts .second d)
+          child 3 (ready-row 3 (omega arith) ∙ sym e) (fewer-second w (ready-parts .f) (r .tokens) (ready-parts .row) d)
+          (ready-parts .row .second d .1) (ready-parts .second d)
 
       -- the third child
-      pub ready-third : {j : ℕ} → 3 ≤ m → j ≡ row-word w node THIRD → (j < node) × Ready w′ j seen binds
+      pub ready-third : {j : ℕ} → 3 ≤ m → j ≡ row-word w node THIRD → (covered w′ j < covered w node) × Ready w′ j seen binds
       ready-third l e =
           let d : 3 ≤ children (ready-parts .row .shape) = let q = count in omega arith in
-          child 4 (ready-row 4 (omega arith) ∙ sym e) (ready-parts .row .third d) (ready-parts .third d)
+          child 4 (ready-row 4 (omega arith) ∙ sym e) (fewer-third w (ready-parts .f) (r .tokens) (ready-parts .row) d)
+          (ready-parts .row .third d .1) (ready-parts .third d)
+
+    -- what a row covers is the same with a variable more
+    pub covered-with : (x n j : ℕ) → covered (put-variable w′ binds x n) j ≡ covered w j
+    covered-with x n j = covered-same (put-variable w′ binds x n) w (without-put-variable w′ binds x n ready-binds ∙ k .rest) j
 
     -- and one that sees a variable more
     pub ready-with : {x n : ℕ} {y : Name} (t : Ty) (f j : ℕ) → Named (r .tokens) x y → n ≡ type-number t → Right f (r .tokens) p j
@@ -239,7 +245,7 @@ module _ {w : List ℕ} {node seen binds : ℕ} (r : Ready w node seen binds) wh
     -- the body of a `let` can be checked
     pub ready-body : {x n j : ℕ} {v : List ℕ} → row-word w node KIND ≡ LET → x ≡ token-value w (row-word w node OWN + 1)
         → Told p w (row-word p node FIRST) seen binds (Typing.«Type» n) → v ≡ put-variable w′ binds x n → j ≡ row-word w node SECOND
-        → (j < node) × Ready v j seen (binds + 1)
+        → (covered v j < covered w node) × Ready v j seen (binds + 1)
     ready-body {x} {n} kind ex h ev ej =
         let c = ready-parts in
         let e = ready-row 0 (omega arith) ∙ kind in
@@ -247,8 +253,8 @@ module _ {w : List ℕ} {node seen binds : ℕ} (r : Ready w node seen binds) wh
         let d : 2 ≤ children (c .row .shape) = omega arith in
         let q = type-told (h (r .tokens) (c .f) (r .functions) (r .variables)
         record { depth = r .stands .depth; sight = r .stands .sight; whole = c .row .first (omega arith) .1; scope = r .stands .scope }) in
-        subst₂ (λ (v : List ℕ) (j : ℕ). (j < node) × Ready v j seen (binds + 1)) (sym ev) (ready-row 3 (omega arith) ∙ sym ej) (
-          c .row .second d .0,
+        subst₂ (λ (v : List ℕ) (j : ℕ). (covered v j < covered w node) × Ready v j seen (binds + 1)) (sym ev) (ready-row 3 (omega arith) ∙ sym ej) (
+          rw (covered-with x n) (fewer-second w (c .f) (r .tokens) (c .row) d),
           ready-with (q .0) (c .f) _ (behind-named (c .row .bound e) ex) (q .2) (c .row .second d .1) (c .second d),
         )
 
@@ -270,7 +276,7 @@ module _ {w : List ℕ} {node seen binds : ℕ} (r : Ready w node seen binds) wh
   -- the arguments of a call
   pub ready-args : {x row : ℕ} {c : Callee} → row-word w node KIND ≡ CALL → x ≡ token-value w (row-word w node OWN)
       → c ≡ callee-in w x seen → row ≡ row-word w node FIRST
-      → (row ≤ node) × ReadyAll w row seen binds (Taker.Call c) 0
+      → (covered-all w row < covered w node) × ReadyAll w row seen binds (Taker.Call c) 0
   ready-args {x} {c = c} kind ex ec er =
       let q = ready-parts in
       let k = ready-row 0 (omega arith) ∙ kind in
@@ -282,5 +288,5 @@ module _ {w : List ℕ} {node seen binds : ℕ} (r : Ready w node seen binds) wh
       let h = q .row .args k in
       let a = subst (λ (c : Callee). Rowed p c) (callee-plain w x seen (sight-headed (r .stands .sight)) ∙ sym ec)
       (callee-rowed (r .stands .sight) nm) in
-      subst (λ (row : ℕ). (row ≤ node) × ReadyAll w row seen binds (Taker.Call c) 0) (ready-row 2 (omega arith) ∙ sym er)
-      (h .0, ready-list (q .f) _ (h .0) (h .1) (q .args k) a)
+      subst (λ (row : ℕ). (covered-all w row < covered w node) × ReadyAll w row seen binds (Taker.Call c) 0) (ready-row 2 (omega arith) ∙ sym er)
+      (fewer-args w (q .f) (r .tokens) (q .row) k, ready-list (q .f) _ (h .0) (h .1) (q .args k) a)

@@ -1,5 +1,5 @@
 // Expressions: the checker calls itself on a node's children, from left to right, before the node asks
-// anything. A child's row comes before its node's, so the row's number falls.
+// anything. A child covers fewer tokens than its node, which is the number that falls (S131).
 ghost use mathlib.Core.Path.{_≡_};
 ghost use Prim.Native.Nat.{_+_, _≤_, _<_};
 ghost use lib.ListN.{length};

@@ -3,7 +3,7 @@ use mathlib.Core.Bool.{false}
 use mathlib.Core.List.{List, [], _∷_}
 use mathlib.Core.Option.{some}
 use mathlib.Core.Path.{_≡_, refl, sym, ap, ap₂, subst, _∙_}
-use Prim.Native.Nat.{ℕ, _+_, _-_, _≤_, _<_}
+use Prim.Native.Nat.{ℕ, _+_, _*_, _-_, _≤_, _<_}
 use native.Mathlib.Decide.{decLt, ℕ-discrete}
 use native.Mathlib.Numerals.{add-one}
 use native.Mathlib.Omega.{arith}
@@ -27,7 +27,7 @@ use Rattle.layout.proofs.FunctionLaws.{function-named, function-headed}
 use Rattle.layout.proofs.VariablesTrees.{right-inside, function-alike, holds-alike}
 use Rattle.profiles.specs.Shares.{FULL, going-on, share, body-word, put-share}
 use Rattle.profiles.specs.Passes.{Passed, pass-none, pass-more, Heads, AtRow, PassedTo}
-use Rattle.profiles.specs.Profiled.{Countable, Answers, Beyond, Profiled, told, Bodied, BodyPassed}
+use Rattle.profiles.specs.Profiled.{Countable, Answers, Beyond, Reckoned, told, Bodied, BodyPassed}
 use Rattle.profiles.specs.declared.Counted.{Counted}
 use Rattle.profiles.specs.declared.Counted.the-variants.{Endless, TooMany, Units}
 use Rattle.profiles.proofs.ShareLaws.{going-inside, share-endless, share-ends, count-many, count-few}
@@ -75,12 +75,12 @@ module _ (ts : List Token) (p : Program) (few : length ts ≤ TOKENS) (reading :
 -- ---- what stays
 
 pub beyond-self : (w : List ℕ) → Beyond w w
-beyond-self w = record { before = λ j h. refl; wiped = refl; long = refl }
+beyond-self w = record { before = λ j h. refl; rest = refl; long = refl }
 
 beyond-put : {w v : List ℕ} (i s : ℕ) → i < NODES + TOKENS → Beyond w v → Beyond w (put-share v i s)
 beyond-put {v = v} i s l h = record {
   before = λ j k. getD-set-other v (VARIABLES-AT + i) j s 0 (λ e. omega arith) ∙ h .before j k;
-  wiped = zeros-set TABLE v 0 (VARIABLES-AT + i) s (omega arith) (omega arith) ∙ h .wiped;
+  rest = zeros-set (2 * TOKENS) v VARIABLES-AT (VARIABLES-AT + i) s (omega arith) (omega arith) ∙ h .rest;
   long = length-set v (VARIABLES-AT + i) s ∙ h .long;
 }
 
@@ -238,7 +238,7 @@ module _ {u w : List ℕ} {P : Held} {k : ℕ} (lent : Countable u P) (h : Count
                       (priced-more (subst (λ (x : List ℕ). Prices ts x k (g .costs)) (sym e) prices) named (put ∙ z .1));
                 }
 
-      pub counting-stops : {r : Counted} → FULL < s → r ≡ told s → Profiled u w′ P r
+      pub counting-stops : {r : Counted} → FULL < s → r ≡ told s → Reckoned u w′ P r
       counting-stops far e = record {
         right = λ ts p a rd.
             let g = h .going ts p a in
@@ -283,7 +283,7 @@ module _ {u w : List ℕ} {P : Held} {k : ℕ} (lent : Countable u P) (h : Count
               ∙ ap₂ share (sym first) (ap (λ (x : Scope ℕ). cost x (p .main)) (sym cnt))
           go (d ∷ ds) l first cnt = absurd (omega arith)
 
-      pub counting-ends : {r : Counted} → r ≡ told s → Profiled u w′ P r
+      pub counting-ends : {r : Counted} → r ≡ told s → Reckoned u w′ P r
       counting-ends e = record {
         right = λ ts p a rd.
             subst (λ (r : Counted). Answers r p) (sym e)

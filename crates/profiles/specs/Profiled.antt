@@ -6,12 +6,12 @@ use mathlib.Core.Path.{_≡_}
 use Prim.Native.Nat.{ℕ, _+_, _-_, _≤_, _<_}
 use lib.Dec.{eqb, ltb}
 use lib.ListN.{length, getD}
-use Rattle.language.specs.Sizes.{NODES, PAY-COUNT, TABLE}
+use Rattle.language.specs.Sizes.{NODES, PAY-COUNT}
 use Rattle.language.specs.Tokens.{Token}
 use Rattle.language.specs.Trees.{Program}
 use Rattle.language.specs.Grammar.{Reading}
 use Rattle.language.specs.Profile.{first-endless, units-most}
-use Rattle.layout.specs.Table.{VARIABLES-AT, BODY, row-word, function-row, zeros}
+use Rattle.layout.specs.Table.{VARIABLES-AT, BODY, row-word, function-row, without-variables}
 use Rattle.layout.specs.Decode.{Holds}
 use Rattle.layout.specs.declared.Held.{Held}
 use Rattle.layout.specs.Functions.{function-name}
@@ -35,13 +35,18 @@ Answers (Units n) p = (first-endless p ≡ none) × (n ≡ units-most p) × (n �
 -- two tables differ in the words of variables alone
 pub record Beyond (w w′ : List ℕ) : Type 0 where
   pub before : (j : ℕ) → j < VARIABLES-AT → getD w′ j 0 ≡ getD w j 0
-  pub wiped : zeros w′ 0 TABLE ≡ zeros w 0 TABLE
+  pub rest : without-variables w′ ≡ without-variables w
   pub long : length w′ ≡ length w
 
 -- the answer is right of every program that the table held, if it is a reading
-pub record Profiled (w w′ : List ℕ) (P : Held) (r : Counted) : Type 0 where
+pub record Reckoned (w w′ : List ℕ) (P : Held) (r : Counted) : Type 0 where
   pub right : (ts : List Token) (p : Program) → Holds ts w P p → Reading ts p → Answers r p
   pub table : Beyond w w′
+
+-- and the variables are cleared
+pub record Profiled (w w′ : List ℕ) (P : Held) (r : Counted) : Type 0 where
+  pub right : (ts : List Token) (p : Program) → Holds ts w P p → Reading ts p → Answers r p
+  pub table : w′ ≡ without-variables w
 
 -- ---- on the way
 

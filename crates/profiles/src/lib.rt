@@ -1,6 +1,6 @@
 // The pay profile of a program that a table holds: its first endless node, or how many units it can use.
 ghost use mathlib.Core.Path.{_≡_};
-ghost use Rattle.profiles.specs.Profiled.{Countable, Profiled, told, Bodied, BodyPassed};
+ghost use Rattle.profiles.specs.Profiled.{Countable, Profiled, Reckoned, told, Bodied, BodyPassed};
 
 mod passes;
 mod shares;
@@ -8,7 +8,10 @@ mod shares;
 use language::NODES;
 use layout::HELD;
 use layout::Held;
+use layout::TABLE_END;
+use layout::VARIABLES_AT;
 use layout::functions;
+use layout::memory;
 use layout::rows;
 
 // The count of a program's last expression; that it is too large; or the token of the first endless node.
@@ -44,9 +47,9 @@ fn told(share: u32) -> Counted
 
 // Functions in their order, then the last expression, in which no function is the one that is defined. The
 // variables' words hold shares in the end.
-pub fn profile(table: &mut [u32], program: Held) -> Counted
+fn reckon(table: &mut [u32], program: Held) -> Counted
     requires { ⌜ Countable (now table) program ⌝ }
-    ensures { λ r. ⌜ Profiled (now (table .entry)) (now (table .exit)) program r ⌝ }
+    ensures { λ r. ⌜ Reckoned (now (table .entry)) (now (table .exit)) program r ⌝ }
 {
     let mut k = 0;
     while k < program.functions {
@@ -59,4 +62,14 @@ pub fn profile(table: &mut [u32], program: Held) -> Counted
     }
     let last = passes::pass(table, program.root, HELD, program.functions);
     told(last)
+}
+
+// The same, and the variables' words are cleared.
+pub fn profile(table: &mut [u32], program: Held) -> Counted
+    requires { ⌜ Countable (now table) program ⌝ }
+    ensures { λ r. ⌜ Profiled (now (table .entry)) (now (table .exit)) program r ⌝ }
+{
+    let answer = reckon(table, program);
+    memory::clear(table, VARIABLES_AT, TABLE_END);
+    answer
 }

@@ -1,15 +1,24 @@
 -- What the reader finds in a table whose tokens stand for ts: the table was w, and is w′.
 use mathlib.Core.List.{List}
 use mathlib.Core.Path.{_≡_}
-use Prim.Native.Nat.{ℕ}
+use Prim.Native.Nat.{ℕ, _≤_}
+use lib.ListN.{length}
+use Rattle.language.specs.Sizes.{TABLE}
 use Rattle.language.specs.Tokens.{Token}
 use Rattle.language.specs.Trees.{Program}
 use Rattle.language.specs.Grammar.{Reading}
 use Rattle.language.specs.Starts.{FirstWrong}
 use Rattle.layout.specs.Table.{without-rows}
+use Rattle.layout.specs.Names.{Stand}
 use Rattle.layout.specs.Rows.{lay-program, held-as}
 use Rattle.layout.specs.declared.Held.{Held}
 use Rattle.reader.specs.declared.Found.{Found}
+
+-- the table stands for some tokens
+pub record Standing (w : List ℕ) (count : ℕ) : Type 0 where
+  pub tokens : List Token
+  pub stand : Stand w count tokens
+  pub long : TABLE ≤ length w
 
 -- a reading, laid down
 pub record Read (ts : List Token) (w : List ℕ) (P : Held) (w′ : List ℕ) : Type 0 where

@@ -5,12 +5,9 @@ mod definitions;
 mod types;
 
 ghost use mathlib.Core.List.{List};
-ghost use Prim.Native.Nat.{_≤_};
-ghost use lib.ListN.{length};
-ghost use Rattle.language.specs.Sizes.{TOKENS, TABLE};
 ghost use Rattle.language.specs.Tokens.{Token};
 ghost use Rattle.layout.specs.Names.{Stand};
-ghost use Rattle.reader.specs.Findings.{Finds};
+ghost use Rattle.reader.specs.Findings.{Standing, Finds};
 use definitions::Parsed;
 use definitions::program;
 use layout::Held;
@@ -28,7 +25,7 @@ pub enum Found {
 // Reads the first `count` tokens of the table. Where there is no reading, no row is left in it. Each row has a
 // token of its own, so there is room for every row.
 pub fn read(table: &mut [u32], count: usize) -> Found
-    requires { ⌜ (TABLE ≤ length (now table)) × (count ≤ TOKENS) ⌝ }
+    requires { ⌜ Standing (now table) count ⌝ }
     ensures { λ g. ⌜ ((ts : List Token) → Stand (now (table .entry)) count ts
         → Finds ts (now (table .entry)) g (now (table .exit))) ⌝ }
 {

@@ -216,7 +216,7 @@ module _ (status : ℕ) (file : List ℕ) (allowance : ℕ) (s : Sums) where
     largest = refl;
   }
 
-  pub shift-back : Writable s → {r : Reading} → Reads (shift-lines status file allowance s) r → Back r false s
+  pub shift-back : Writable s → {r : Reading} → Reads (shift-lines status file allowance false s) r → Back r false s
   unfolding look apart same number-up-to number-from worth is-number all-digits is-digit between
   shift-back w {r} x =
       let y = subst (λ (t : List ℕ). Reads t r) (shift-text status file allowance s) x in
@@ -273,7 +273,7 @@ written {t} {entry} {exit} {n} a h =
     rw (e, a .text, take-all (length entry) t h) (take-append-seam t (drop (0 + length t) entry))
 
 pub shift-read : (status : ℕ) (file : List ℕ) (allowance : ℕ) (s : Sums) {entry exit : List ℕ} {n : ℕ}
-    → Adds (shift-lines status file allowance s) entry exit 0 n → length (shift-lines status file allowance s) ≤ length entry
+    → Adds (shift-lines status file allowance false s) entry exit 0 n → length (shift-lines status file allowance false s) ≤ length entry
     → Writable s → {r : Reading} → Reads (take n exit) r → Back r false s
 shift-read status file allowance s a h w {r} x =
     shift-back status file allowance s w (subst (λ (t : List ℕ). Reads t r) (written a h) x)

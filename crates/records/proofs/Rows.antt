@@ -10,7 +10,8 @@ use Rattle.page.specs.Lines.{feeds}
 use Rattle.page.specs.Text.{decimal-of}
 use Rattle.tally.specs.declared.sums.Sums.{Sums}
 use Rattle.wording.specs.Fields.{value-line, number-line, signed-line}
-use Rattle.records.specs.Machines.{sheet-line, well-lines, first-lines, second-lines}
+use Rattle.records.specs.Told.{sheet-line, well-lines}
+use Rattle.records.specs.Machines.{outcome-lines, first-lines, second-lines}
 use Rattle.records.specs.Machines.{third-lines, stop-lines, count-lines, amount-lines, shift-lines, together-lines, combined-lines}
 use Rattle.wording.specs.Fields.{name-words}
 use Rattle.wording.specs.Values.{signed-words}
@@ -215,8 +216,8 @@ six : (a b c e f g : List ℕ) → a ++ b ++ c ++ e ++ f ++ g ≡ a ++ (b ++ (c 
 six a b c e f g = sym (append-nil (a ++ b ++ c ++ e ++ f ++ g)) ∙ simp append-assoc
 
 pub shift-text : (status : ℕ) (file : List ℕ) (allowance : ℕ) (s : Sums)
-    → shift-lines status file allowance s ≡ text-of (shift-rows status file allowance s)
-unfolding shift-lines
+    → shift-lines status file allowance false s ≡ text-of (shift-rows status file allowance s)
+unfolding shift-lines outcome-lines
 shift-text status file allowance s =
     moved
     (six (number-line (spell "status") status) (sheet-line file) well-lines (number-line (spell "allowance") allowance) (count-lines s)

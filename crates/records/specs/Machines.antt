@@ -5,13 +5,9 @@ use mathlib.Core.List.{List, _++_}
 use Prim.Native.Nat.{ℕ}
 use Rattle.language.specs.Tokens.{spell}
 use Rattle.tally.specs.declared.sums.Sums.{Sums}
-use Rattle.wording.specs.Fields.{name-words, number-line, signed-line}
-
-unfoldable pub sheet-line : (file : List ℕ) → List ℕ
-sheet-line file = spell "sheet " ++ name-words file ++ spell "\n"
-
-unfoldable pub well-lines : List ℕ
-well-lines = spell "number 0\nmeaning all is well\n"
+use Rattle.wording.specs.Fields.{number-line, signed-line}
+use Rattle.wording.specs.declared.causes.Cause.{Cause}
+use Rattle.records.specs.Told.{sheet-line, well-lines, meaning-lines}
 
 -- ---- the sums
 
@@ -51,12 +47,16 @@ amount-lines s =
 
 -- ---- the whole
 
--- of a shift with no line too many
-unfoldable pub shift-lines : (status : ℕ) (file : List ℕ) (allowance : ℕ) → Sums → List ℕ
-shift-lines status file allowance s =
+-- whether there was a line too many
+unfoldable pub outcome-lines : Bool → List ℕ
+outcome-lines true = meaning-lines Cause.ManyLines
+outcome-lines false = well-lines
+
+unfoldable pub shift-lines : (status : ℕ) (file : List ℕ) (allowance : ℕ) (over : Bool) → Sums → List ℕ
+shift-lines status file allowance over s =
     number-line (spell "status") status
     ++ sheet-line file
-    ++ well-lines
+    ++ outcome-lines over
     ++ number-line (spell "allowance") allowance
     ++ count-lines s
     ++ amount-lines s

@@ -1,109 +1,27 @@
 // The report for machines: a name and a value on each line.
-ghost use mathlib.Core.Bool.{false};
-ghost use mathlib.Core.Path.{_≡_};
 ghost use Rattle.io.specs.Counts.{Counts};
 ghost use Rattle.numbers.specs.Meanings.{stop-meant};
 ghost use Rattle.page.specs.Text.{Adds};
 ghost use Rattle.tally.specs.Stands.{report-in};
-ghost use Rattle.records.specs.Machines.{sheet-line, well-lines, first-lines};
 ghost use Rattle.wording.specs.Fields.{number-line, signed-line};
+ghost use Rattle.records.specs.Told.{report-lines};
+ghost use Rattle.records.specs.Machines.{outcome-lines, first-lines};
 ghost use Rattle.records.specs.Machines.{second-lines, third-lines, stop-lines, count-lines, amount-lines};
 ghost use Rattle.records.specs.Machines.{shift-lines, together-lines, combined-lines};
+use crate::told::ended;
+use crate::told::meaning;
+use crate::told::sheet;
+use crate::told::well;
 use numbers::Stop;
 use page::put;
-use page::spot;
 use tally::sums::Sums;
 use tally::sums::stopped;
-use wording::causes;
 use wording::causes::Cause;
 use wording::ends::End;
-use wording::fields;
 use wording::fields::field;
 use wording::limits::Limits;
-use wording::limits::Most;
 use wording::places::Places;
 use wording::types;
-use wording::words;
-
-fn sheet(out: &mut [u8], at: usize, file: &[u8]) -> usize
-    ensures { λ r. ⌜ Counts r (now (out .exit)) ⌝ }
-    ensures { λ r. ⌜ Adds (sheet-line (now (file .entry))) (now (out .entry)) (now (out .exit)) at r ⌝ }
-{
-    let a = put(out, at, b"sheet ");
-    let b = fields::name(out, a, file);
-    put(out, b, b"\n")
-}
-
-fn well(out: &mut [u8], at: usize) -> usize
-    ensures { λ r. ⌜ Counts r (now (out .exit)) ⌝ }
-    ensures { λ r. ⌜ Adds well-lines (now (out .entry)) (now (out .exit)) at r ⌝ }
-{
-    put(out, at, b"number 0\nmeaning all is well\n")
-}
-
-// The number, where there is one, and what is meant.
-fn meaning(out: &mut [u8], at: usize, why: Cause) -> usize
-    ensures { λ r. ⌜ Counts r (now (out .exit)) ⌝ }
-{
-    let number = causes::number(why);
-    if number == 0 {
-        return meant(out, at, why);
-    }
-    let a = field(out, at, b"number", number as u64);
-    meant(out, a, why)
-}
-
-fn meant(out: &mut [u8], at: usize, why: Cause) -> usize
-    ensures { λ r. ⌜ Counts r (now (out .exit)) ⌝ }
-{
-    let a = put(out, at, b"meaning ");
-    let b = words::words(out, a, why);
-    put(out, b, b"\n")
-}
-
-// Where a place lies: its byte counted from 0, its line and column from 1.
-fn there(out: &mut [u8], at: usize, sheet: &[u8], place: usize) -> usize
-    ensures { λ r. ⌜ Counts r (now (out .exit)) ⌝ }
-{
-    let spot = spot(sheet, place);
-    let a = field(out, at, b"place", place as u64);
-    let b = field(out, a, b"line", spot.line as u64);
-    field(out, b, b"column", spot.column as u64)
-}
-
-// A place of a stored sheet is a line, and nothing more.
-fn cause(out: &mut [u8], at: usize, sheet: &[u8], places: Places, why: Cause, place: usize) -> usize
-    ensures { λ r. ⌜ Counts r (now (out .exit)) ⌝ }
-{
-    let a = meaning(out, at, why);
-    if causes::is_placed(why) {
-        return match places {
-            Places::Bytes => there(out, a, sheet, place),
-            Places::Lines => field(out, a, b"line", place as u64),
-        };
-    }
-    a
-}
-
-// The count of a sheet's profile, where it is known.
-fn bound(out: &mut [u8], at: usize, most: Most) -> usize
-    ensures { λ r. ⌜ Counts r (now (out .exit)) ⌝ }
-{
-    match most {
-        Most::Unknown => put(out, at, b""),
-        Most::Units(count) => field(out, at, b"count", count as u64),
-    }
-}
-
-fn ran(out: &mut [u8], at: usize, units: u32, limits: Limits, printed: usize) -> usize
-    ensures { λ r. ⌜ Counts r (now (out .exit)) ⌝ }
-{
-    let most = limits.most;
-    let a = field(out, at, b"units", units as u64);
-    let b = field(out, a, b"allowance", limits.allowance);
-    let c = bound(out, b, most);
-    field(out, c, b"printed", printed as u64)
-}
 
 // The whole report, with the status that the program ends with.
 pub fn report(
@@ -116,43 +34,13 @@ pub fn report(
     end: End,
 ) -> usize
     ensures { λ r. ⌜ Counts r (now (out .exit)) ⌝ }
+    ensures { λ r.
+        ⌜ Adds (report-lines status (now (file .entry)) (now (source .entry)) places limits end)
+        (now (out .entry)) (now (out .exit)) 0 r ⌝ }
 {
     let a = field(out, 0, b"status", status as u64);
     let b = sheet(out, a, file);
-    match end {
-        End::Passed(type_number) => {
-            let c = well(out, b);
-            fields::type_line(out, c, type_number)
-        }
-        End::Counted(type_number, count) => {
-            let c = well(out, b);
-            let d = fields::type_line(out, c, type_number);
-            field(out, d, b"count", count as u64)
-        }
-        End::Value {
-            type_number,
-            value,
-            units,
-            printed,
-        } => {
-            let c = well(out, b);
-            let d = fields::type_line(out, c, type_number);
-            let e = fields::value_lines(out, d, value);
-            ran(out, e, units, limits, printed)
-        }
-        End::Refused(why, place) => cause(out, b, source, places, why, place),
-        End::Stopped {
-            why,
-            place,
-            type_number,
-            units,
-            printed,
-        } => {
-            let c = cause(out, b, source, places, why, place);
-            let d = fields::type_line(out, c, type_number);
-            ran(out, d, units, limits, printed)
-        }
-    }
+    ended(out, b, source, places, limits, end)
 }
 
 // A name and a number that may be below 0.
@@ -236,7 +124,7 @@ fn amounts(out: &mut [u8], at: usize, sums: Sums) -> usize
 // Whether all is well: `over` where there was a line too many.
 fn outcome(out: &mut [u8], at: usize, over: bool) -> usize
     ensures { λ r. ⌜ Counts r (now (out .exit)) ⌝ }
-    ensures { λ r. ⌜ (over ≡ false → Adds well-lines (now (out .entry)) (now (out .exit)) at r) ⌝ }
+    ensures { λ r. ⌜ Adds (outcome-lines over) (now (out .entry)) (now (out .exit)) at r ⌝ }
 {
     if over {
         return meaning(out, at, Cause::ManyLines);
@@ -255,8 +143,7 @@ pub fn shift(
 ) -> usize
     ensures { λ r. ⌜ Counts r (now (out .exit)) ⌝ }
     ensures { λ r.
-        ⌜ (over ≡ false → Adds (shift-lines status (now (file .entry)) allowance sums) (now (out .entry))
-        (now (out .exit)) 0 r) ⌝ }
+        ⌜ Adds (shift-lines status (now (file .entry)) allowance over sums) (now (out .entry)) (now (out .exit)) 0 r ⌝ }
 {
     let a = field(out, 0, b"status", status as u64);
     let b = sheet(out, a, file);

@@ -32,10 +32,11 @@ use Rattle.tokens.specs.Answer as Tokens
 use Rattle.tokens.proofs.OneAnswer.{split-stands}
 use Rattle.tokens.specs.declared.answer.Split as split
 use Rattle.reader.specs.Findings as Reader
+use Rattle.reader.specs.Findings.{Standing}
 use Rattle.reader.specs.declared.Found as found
 use Rattle.checker.specs.Checked as Checker
 use Rattle.rules.specs.declared.Typing as typing
-use Rattle.sheets.specs.Sheets.{wiped, byte-of, OfProgram, Typed, Standing, OfTokens, Read, Placed, OfSource, Examined}
+use Rattle.sheets.specs.Sheets.{wiped, byte-of, OfProgram, Typed, OfTokens, Read, Placed, OfSource, Examined}
 use Rattle.sheets.specs.declared.Verdict.{Verdict}
 use Rattle.sheets.specs.declared.Seen.{Seen}
 

@@ -21,7 +21,8 @@ use Rattle.stored.proofs.Stands.{stored-stands}
 use Rattle.stored.specs.declared.Stored as stored
 use Rattle.tokens.proofs.Agreeing.{but-cleared}
 use Rattle.tokens.specs.Answer.{Laid}
-use Rattle.sheets.specs.Sheets.{wiped, Standing, OfTokens, Read, Near, lined-of, OfSource, Examined}
+use Rattle.sheets.specs.Sheets.{wiped, OfTokens, Read, Near, lined-of, OfSource, Examined}
+use Rattle.reader.specs.Findings.{Standing}
 use Rattle.sheets.specs.declared.Verdict.{Verdict}
 use Rattle.sheets.specs.declared.Seen.{Seen}
 

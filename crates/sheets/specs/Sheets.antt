@@ -46,11 +46,6 @@ pub record Typed (w w′ : List ℕ) (P : Held) (v : Verdict) : Type 0 where
 
 -- ---- tokens that the table stands for
 
-pub record Standing (w : List ℕ) (count : ℕ) : Type 0 where
-  pub tokens : List Token
-  pub stand : Stand w count tokens
-  pub long : TABLE ≤ length w
-
 -- they are a program of this type, which the table holds
 pub record Allowed (ts : List Token) (w : List ℕ) (P : Held) (n : ℕ) : Type 0 where
   pub program : Program

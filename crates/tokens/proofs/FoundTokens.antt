@@ -1,5 +1,5 @@
 -- The tokens that are found at a place, each with what it is worth; of these a float number alone has the kind of one.
-use borrow.Author.Tests.{eq-eqb, ne-eqb, eqb-true, le-leb, lt-leb, not-true}
+use borrow.Author.Tests.{eq-eqb, ne-eqb, eqb-true, le-leb, lt-leb, le-ltb, not-true}
 use lib.Dec.{eqb}
 use lib.ListN.{length}
 use lib.Seq.{slice}
@@ -11,6 +11,7 @@ use mathlib.Core.Path.{_≡_, refl, sym, _∙_, ap, subst₂}
 use native.Mathlib.Nat.{le-refl}
 use native.Mathlib.Omega.{arith}
 use Prim.Native.Nat.{ℕ, _+_, _-_, _≤_, _<_}
+use Rattle.language.proofs.Text.Bases.{Digits, base-first, untold-digits}
 use Rattle.language.proofs.Text.Choices.{either, clash, and-both}
 use Rattle.language.proofs.Text.Classes.{digit-of-ten}
 use Rattle.language.proofs.Text.Marks.{Laws}
@@ -19,14 +20,14 @@ use Rattle.language.proofs.Text.Runs.{Run, run-some}
 use Rattle.language.proofs.Text.Spellings.{byte-inside}
 use Rattle.language.proofs.Text.Tables.{Table, kind-of, row, every, every-row, found}
 use Rattle.language.specs.Sizes.{LARGEST, DIGITS}
-use Rattle.language.specs.Text.{byte, is-digit, is-digit-of, Content, Form, Piece, Wrong, word-kind, or-name, float-content}
+use Rattle.language.specs.Text.{byte, is-digit, is-digit-of, is-hex-digit, worth, Content, Form, Piece, Wrong, word-kind, or-name, float-content}
 use Rattle.language.specs.Text.Content.{token}
 use Rattle.language.specs.Text.Flaw.{long-float}
 use Rattle.language.specs.Text.Form.{blank, line, comment, unended, name, number, based, float, mark}
 use Rattle.language.specs.Text.WrongUnder.{long}
 use Rattle.language.specs.Tokens.{Spelling, Vocabulary, Token, spelled, NUMBER, FLOAT-NUMBER}
 use Rattle.layout.specs.Names.{float-bits}
-use Rattle.tokens.proofs.Editions.{other-words, other-marks}
+use Rattle.tokens.proofs.Editions.{laws-of, shared-bases, other-words, other-marks}
 use Rattle.tokens.specs.declared.edition.Edition.{Edition}
 use Rattle.tokens.specs.Editions.{meant}
 use Rattle.tokens.specs.Found.{has-point, PointAt, Decimal, IsToken}
@@ -118,6 +119,29 @@ decimal-run {t} {p} {q} r = record {
   each = λ k a b. sym (digit-of-ten (byte t k)) ∙ r .each k a b;
   stop = λ l. sym (digit-of-ten (byte t q)) ∙ r .stop l;
 }
+
+-- and the other way round
+pub run-decimal : {t : List ℕ} {p q : ℕ} → Run is-digit t p q → Run (is-digit-of 10) t p q
+run-decimal {t} {p} {q} r = record {
+  order = r .order;
+  within = r .within;
+  each = λ k a b. digit-of-ten (byte t k) ∙ r .each k a b;
+  stop = λ l. digit-of-ten (byte t q) ∙ r .stop l;
+}
+
+-- a number that begins with no 0 has no base
+and-false : (x : Bool) {y : Bool} → y ≡ false → (x && y) ≡ false
+and-false true e = e
+and-false false e = refl
+
+no-digit : (b : ℕ) → is-digit-of 0 b ≡ false
+unfolding is-digit-of
+no-digit b = and-false (is-hex-digit b) (le-ltb (worth b) 0 (omega arith))
+
+pub no-base : (ed : Edition) (t : List ℕ) (p : ℕ) → p < length t → is-digit (byte t p) ≡ true → (byte t p ≡ 48 → ⊥)
+    → Digits (meant ed) t p p 10
+no-base ed t p h d n =
+    untold-digits (laws-of ed) (shared-bases ed) t p 0 (base-first (byte t p) (byte t (p + 1)) n) h d (no-digit (byte t (p + 2)))
 
 -- digits that have a point behind them
 pub pointed : {voc : Vocabulary} {t : List ℕ} {p from base q : ℕ} → p < length t → is-digit (byte t p) ≡ true → (from ≡ p → base ≡ 10)

@@ -11,6 +11,7 @@ pub mod Compared
 pub mod Seeking
 pub mod HexDigits
 pub mod Views
+pub mod NameBytes
 pub mod WordRows
 pub mod FirstBytes
 pub mod MarkBytes

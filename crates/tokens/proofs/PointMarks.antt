@@ -16,15 +16,19 @@ use Rattle.language.proofs.Text.Marks.{laws-1, laws-2}
 use Rattle.language.proofs.Text.Pieces.{AtMost, at-most, at-most-less, mark-piece, mark-within}
 use Rattle.language.proofs.Text.Places.{Begins, Marked, view, sort-other}
 use Rattle.language.proofs.Text.Places.Sort.{others}
-use Rattle.language.proofs.Text.Spellings.{stands, stands-yes, stands-no, stands-slice, slice-stands}
+use Rattle.language.proofs.Text.Spellings.{stands, stands-yes, stands-no, no-stands, stands-slice, slice-stands}
 use Rattle.language.proofs.Text.Tables.{every, most, same-one, no-kind}
-use Rattle.language.specs.Text.{Stands, Form, Piece}
+use Rattle.language.specs.Text.{byte, between, is-blank, is-letter, is-digit, Stands, Form, Piece}
 use Rattle.language.specs.Text.Content.{token}
 use Rattle.language.specs.Text.Form.{mark}
-use Rattle.language.specs.Tokens.{Spelling, spell, same, spelled, marks, EDITION-1, EDITION-2, UPTO, THROUGH}
+use Rattle.language.specs.Tokens.{Spelling, spell, same, spelled, marks, EDITION-1, EDITION-2, PAST, SLASH, UPTO, THROUGH}
 use Rattle.language.specs.Tokens.Entry.{_is_}
 use Rattle.tokens.proofs.Compared.{stands-same}
-use Rattle.tokens.specs.Found.{IsMark}
+use Rattle.tokens.proofs.MarkBytes.{ahead, two-most, marked, unmarked, markless}
+use Rattle.tokens.specs.Editions.{meant}
+use Rattle.tokens.specs.Found.{Formless, IsMark, mark-kind}
+use Rattle.tokens.specs.declared.edition.Edition.{Edition}
+use Rattle.tokens.specs.declared.edition.Edition.the-variants.{One, Two}
 use Rattle.tokens.specs.declared.marks.Mark.{Mark}
 
 -- no mark has more than three bytes
@@ -91,3 +95,33 @@ module _ (t : List ℕ) (p : ℕ) (h : p < length t) (b : Begins t p others) whe
     pub as-before : (r : Mark) → IsMark EDITION-1 t p r → IsMark EDITION-2 t p r
     as-before (Mark.Is k n) x = mark-kept x
     as-before Mark.None x = none-up t x (λ z. stands-no t p (spell "..") clear (z .0, (z .1, tt)))
+
+  -- where no point stands they are those of every edition
+  pub in-either : (byte t p ≡ 46 → ⊥) → (e : Edition) (r : Mark) → IsMark EDITION-1 t p r → IsMark (meant e) t p r
+  in-either n One r x = x
+  in-either n Two r x = as-before (no-stands t p (spell "..") (λ s. n (s .0))) r x
+
+-- ---- marks that are told by one byte
+
+-- a slash that begins no comment begins a mark
+pub slash-plain : (t : List ℕ) (p : ℕ) → byte t p ≡ 47 → (byte t (p + 1) ≡ 47 → ⊥) → (byte t (p + 1) ≡ 42 → ⊥) → Begins t p others
+unfolding is-blank is-letter is-digit between
+slash-plain t p e m n = (record { blank = rw e; letter = rw e; digit = rw e }, λ x. m (x .1 .0), λ x. n (x .1 .0))
+
+module _ {t : List ℕ} {p : ℕ} (h : p < length t) (b : Begins t p others) where
+  -- no mark of edition 1 begins with a point
+  pub point-alone : byte t p ≡ 46 → Formless EDITION-1 t p
+  unfolding mark-kind spelled same
+  point-alone e =
+      let two : PAST ≡ mark-kind (ahead t p 2) = rw e in
+      let one : PAST ≡ mark-kind (ahead t p 1) = rw e in
+      markless b (unmarked h b 0 (unmarked h b 1 (two-most t p) two refl) one refl)
+
+  -- and only one with a slash
+  pub slash-mark : byte t p ≡ 47 → (e : Edition) → Piece (meant e) t p (p + 1) (token SLASH 0)
+  unfolding mark-kind spelled same
+  slash-mark e =
+      let two : PAST ≡ mark-kind (ahead t p 2) = rw e in
+      let one : SLASH ≡ mark-kind (ahead t p 1) = rw e in
+      let piece = marked h b 1 (unmarked h b 1 (two-most t p) two refl) one (λ z. omega (arith, z)) in
+      λ ed. in-either t p h b (λ z. omega (arith, e, z)) ed (Mark.Is SLASH 1) piece

@@ -1,6 +1,9 @@
 -- The text that a view shows: how long it may be, and where its bytes come from.
+use borrow.Author.Tests.{lt-ltb, le-ltb, le-leb, lt-leb}
+use lib.Dec.{ltb, leb}
 use lib.ListN.{length, getD, drop, take, length-drop}
 use lib.Seq.{slice, length-slice, take-all, getD-take, getD-drop}
+use mathlib.Core.Bool.{true}
 use mathlib.Core.List.{List, [], _∷_}
 use mathlib.Core.Logic.{⊎-elim}
 use mathlib.Core.Path.{_≡_, refl, sym, ap, ap₂, _∙_}
@@ -8,6 +11,7 @@ use native.Mathlib.Omega.{arith}
 use Prim.Native.Nat.{ℕ, zero, suc, _+_, _-_, _*_, _/_, _≤_, _<_}
 use Rattle.language.proofs.Pairs.Joined.{joined-length}
 use Rattle.language.proofs.Text.Choices.{either}
+use Rattle.language.specs.Pairs.{joined}
 use Rattle.language.specs.Text.{byte}
 use Rattle.tokens.specs.Shown.{two, told, shown}
 use Rattle.tokens.specs.declared.view.View as view
@@ -70,3 +74,18 @@ shown-long first second Plain = omega arith
 shown-long first second Joined = omega (arith, joined-length first second)
 shown-long first second (Line from to) =
     omega (arith, told-long (slice from to first), slice-long first from to .1)
+
+-- ---- two sheets against a limit, of which no sum is made
+
+module _ (first second : List ℕ) (most : ℕ) where
+  pub first-longer : most < length first → true ≡ ltb most (length (joined first second))
+  first-longer h = sym (lt-ltb most (length (joined first second)) (omega (arith, joined-length first second)))
+
+  -- what the first leaves of the limit is no more than the second has
+  pub both-longer : length first ≤ most → leb (most - length first) (length second) ≡ ltb most (length (joined first second))
+  both-longer h =
+      let z = joined-length first second in
+      let n = length (joined first second) in
+      ⊎-elim (λ l. lt-leb (most - length first) (length second) l ∙ sym (le-ltb most n (omega arith)))
+      (λ l. le-leb (most - length first) (length second) l ∙ sym (lt-ltb most n (omega arith)))
+      (either (length second) (most - length first))

@@ -15,10 +15,18 @@ use Rattle.language.proofs.Text.Choices.{either, outcome, clash, and-both}
 use Rattle.language.proofs.Text.Spellings.{stands}
 use Rattle.language.proofs.Text.Tables.{Table, spelling-of, kind-of, every, same-one, no-kind}
 use Rattle.language.specs.Text.{byte, or-name, word-kind}
-use Rattle.language.specs.Tokens.{Spelling, spell, same, Entry, spelled, words, EDITION-1, EDITION-2, NAME, FOR, BY}
+use Rattle.language.specs.Tokens.{Vocabulary, Spelling, spell, same, Entry, spelled, words, EDITION-1, EDITION-2, NAME}
 use Rattle.language.specs.Tokens.Entry.{_is_}
 use Rattle.tokens.proofs.Compared.{stands-same}
 use Rattle.tokens.proofs.FirstBytes.{NoneOf, begins-so, other-first}
+use Rattle.tokens.specs.Editions.{meant, has-loops}
+use Rattle.tokens.specs.declared.edition.Edition.{Edition}
+use Rattle.tokens.specs.declared.edition.Edition.the-variants.{One, Two}
+
+-- what is so of the words of each edition is so of those of any
+in-both : (f : Entry String ℕ → Bool) → every f words ≡ true → every f (EDITION-2 .words) ≡ true → (e : Edition) → every f (meant e .words) ≡ true
+in-both f x y One = x
+in-both f x y Two = y
 
 -- ---- the words that are left
 
@@ -92,30 +100,43 @@ module _ (t : List ℕ) (p n b : ℕ) (some : 0 < n) (inside : p + n ≤ length 
       (outcome (fits n b (spell w)))
 
   -- so it is by the table of the words
-  pub by-first : {r : ℕ} → r ≡ stood (left n b words) t p → r ≡ word-kind EDITION-1 name
+  by-table : (voc : Vocabulary) {r : ℕ} → r ≡ stood (left n b (voc .words)) t p → r ≡ word-kind voc name
   unfolding word-kind
-  by-first e = e ∙ sym (decide words)
+  by-table voc e = e ∙ sym (decide (voc .words))
+
+  -- the words that are left are those of edition 1
+  pub by-first : left n b (EDITION-2 .words) ≡ left n b words → {r : ℕ} → r ≡ stood (left n b words) t p
+      → (e : Edition) → r ≡ word-kind (meant e) name
+  by-first z x One = by-table EDITION-1 x
+  by-first z x Two = by-table EDITION-2 (rw z x)
+
+  -- one is left that edition 1 has not
+  pub by-added : (w : String) (k : ℕ) → left n b words ≡ [] → left n b (EDITION-2 .words) ≡ w is k ∷ [] → {r : ℕ} → (e : Edition)
+      → r ≡ cond (has-loops e && stands t p (spell w)) k NAME → r ≡ word-kind (meant e) name
+  by-added w k y z One x = by-table EDITION-1 (rw y x)
+  by-added w k y z Two x = by-table EDITION-2 (rw z x)
 
 -- where no word of that length begins so, it is a name
 pub no-first : (t : List ℕ) (p n b : ℕ) (ks : List ℕ) → p + (n + 1) ≤ length t → b ≡ byte t p
-    → every (λ r. begins-so n ks (spelling-of r)) words ≡ true → NoneOf ks b
-    → NAME ≡ word-kind EDITION-1 (slice p (p + (n + 1)) t)
+    → every (λ r. begins-so n ks (spelling-of r)) words ≡ true
+    → every (λ r. begins-so n ks (spelling-of r)) (EDITION-2 .words) ≡ true → NoneOf ks b
+    → (e : Edition) → NAME ≡ word-kind (meant e) (slice p (p + (n + 1)) t)
 unfolding word-kind
-no-first t p n b ks h f e m =
+no-first t p n b ks h f x y m e =
     let q = p + (n + 1) in
     let s = slice (suc p) q t in
     let l : length s ≡ n = omega (arith, length-slice (suc p) q t h) in
     rw (slice-cons p q t 0 (omega arith) h)
-    (ap or-name (sym (other-first words ks (byte t p) s (rw l e) (subst (NoneOf ks) f m))))
+    (ap or-name (sym (other-first (meant e .words) ks (byte t p) s (rw l (in-both (λ r. begins-so n ks (spelling-of r)) x y e)) (subst (NoneOf ks) f m))))
 
 -- ---- lengths
 
 -- a name that ends at q, by its length
-pub by-length : (t : List ℕ) (p q n : ℕ) {r : ℕ} → p ≤ q → q - p ≡ n
-    → r ≡ word-kind EDITION-1 (slice p (p + n) t) → r ≡ word-kind EDITION-1 (slice p q t)
-by-length t p q n {r} o e f =
+pub by-length : (voc : Vocabulary) (t : List ℕ) (p q n : ℕ) {r : ℕ} → p ≤ q → q - p ≡ n
+    → r ≡ word-kind voc (slice p (p + n) t) → r ≡ word-kind voc (slice p q t)
+by-length voc t p q n {r} o e f =
     let z : p + n ≡ q = omega arith in
-    subst (λ x. r ≡ word-kind EDITION-1 (slice p x t)) z f
+    subst (λ x. r ≡ word-kind voc (slice p x t)) z f
 
 -- a word has two to five bytes
 short : Spelling → Bool
@@ -131,26 +152,10 @@ not-short n m =
 
 -- any other name is none
 pub no-length : (t : List ℕ) (p q : ℕ) → q ≤ length t → NoneOf (5 ∷ 4 ∷ 3 ∷ 2 ∷ []) (q - p)
-    → NAME ≡ word-kind EDITION-1 (slice p q t)
+    → (e : Edition) → NAME ≡ word-kind (meant e) (slice p q t)
 unfolding word-kind short every
-no-length t p q h m =
+no-length t p q h m e =
     let s = slice p q t in
     let l : q - p ≡ length s = sym (length-slice p q t h) in
-    ap or-name (sym (no-kind short words s refl (not-short (length s) (subst (NoneOf (5 ∷ 4 ∷ 3 ∷ 2 ∷ [])) l m))))
-
--- ---- edition 2
-
--- its own words come before the others
-module _ (s : Spelling) where
-  pub word-for : same (spell "for") s ≡ true → FOR ≡ word-kind EDITION-2 s
-  unfolding word-kind spelled
-  word-for e = rw e
-
-  module _ (n : same (spell "for") s ≡ false) where
-    pub word-by : same (spell "by") s ≡ true → BY ≡ word-kind EDITION-2 s
-    unfolding word-kind spelled
-    word-by e = rw (n, e)
-
-    pub word-other : {r : ℕ} → same (spell "by") s ≡ false → r ≡ word-kind EDITION-1 s → r ≡ word-kind EDITION-2 s
-    unfolding word-kind spelled
-    word-other m e = rw (n, m) e
+    let each = in-both (λ r. short (spelling-of r)) refl refl e in
+    ap or-name (sym (no-kind short (meant e .words) s each (not-short (length s) (subst (NoneOf (5 ∷ 4 ∷ 3 ∷ 2 ∷ [])) l m))))

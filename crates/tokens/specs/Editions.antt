@@ -1,4 +1,5 @@
 -- The vocabularies that the code's editions are.
+use mathlib.Core.Bool.{Bool, true, false}
 use mathlib.Core.Option.{none, some}
 use mathlib.Core.Path.{_≡_}
 use Prim.Native.Nat.{ℕ}
@@ -17,3 +18,8 @@ meant Two = EDITION-2
 abbrev pub Names : ℕ → known.Known → Type 0
 Names n (known.the-variants.Is e) = edition n ≡ some (meant e)
 Names n None = edition n ≡ none
+
+-- counted loops, which edition 1 has not
+abbrev pub has-loops : edition-of.Edition → Bool
+has-loops One = false
+has-loops Two = true

@@ -44,6 +44,13 @@ is-of InLine = is-in-line
 
 -- ---- what stands at a place
 
+-- the bytes that are asked for by themselves
+abbrev pub POINT : ℕ
+POINT = code "."
+
+abbrev pub STROKE : ℕ
+STROKE = code "/"
+
 -- no form of the language begins at p
 abbrev pub Formless : Vocabulary → List ℕ → ℕ → Type 0
 Formless voc t p = (q : ℕ) (c : Content) → Form voc t p q c → ⊥

@@ -2,7 +2,7 @@
 // ends.
 ghost use mathlib.Core.Bool.{true};
 ghost use mathlib.Core.Path.{_≡_};
-ghost use Prim.Native.Nat.{_≤_};
+ghost use Prim.Native.Nat.{_+_, _≤_};
 ghost use lib.ListN.{length};
 ghost use Rattle.language.specs.Text as Text;
 ghost use Rattle.language.specs.Text.{is-blank, is-letter, is-digit, is-hex-digit, is-digit-of};
@@ -82,16 +82,29 @@ pub fn is_digit_of(base: u64, b: u8) -> bool
     worth(b) < base
 }
 
+// Most are small letters, so these are told first.
 pub fn is_name_byte(b: u8) -> bool
     ensures { λ r. ⌜ r ≡ is-name-byte b ⌝ }
 {
-    if is_letter(b) {
-        return true;
+    if b'a' <= b {
+        return b <= b'z';
     }
-    if is_digit(b) {
+    if b <= b'9' {
+        return b'0' <= b;
+    }
+    if b < b'A' {
+        return false;
+    }
+    if b <= b'Z' {
         return true;
     }
     b == b'_'
+}
+
+pub fn is_in_line(b: u8) -> bool
+    ensures { λ r. ⌜ r ≡ is-in-line b ⌝ }
+{
+    b != b'\n'
 }
 
 pub fn is_blank(b: u8) -> bool
@@ -127,7 +140,7 @@ pub fn is_of(class: Class, b: u8) -> bool
         Class::NameByte => is_name_byte(b),
         Class::DigitOf(base) => is_digit_of(base, b),
         Class::Capital => is_capital(b),
-        Class::InLine => b != b'\n',
+        Class::InLine => is_in_line(b),
     }
 }
 
@@ -147,12 +160,21 @@ pub fn run_end(first: &[u8], second: &[u8], view: View, at: usize, class: Class)
     i
 }
 
-// Where the name that goes on at a place ends.
+// Where the name that goes on at a place ends. Names, digits and lines are most of a text, so each has a loop of its
+// own, which need not ask for its class at each byte.
 pub fn name_end(first: &[u8], second: &[u8], view: View, at: usize) -> usize
     requires { ⌜ at ≤ length (text-of first second view) ⌝ }
     ensures { λ r. ⌜ Run is-name-byte (text-of (first .entry) (second .entry) view) at r ⌝ }
 {
-    run_end(first, second, view, at, Class::NameByte)
+    let size = len(first, second, view);
+    let mut i = at;
+    while i < size {
+        if !is_name_byte(byte(first, second, view, i)) {
+            return i;
+        }
+        i += 1;
+    }
+    i
 }
 
 // Where the digits of a base that go on at a place end.
@@ -163,12 +185,36 @@ pub fn digits_end(first: &[u8], second: &[u8], view: View, at: usize, base: u64)
     run_end(first, second, view, at, Class::DigitOf(base))
 }
 
+// The same of those of base 10.
+pub fn decimal_end(first: &[u8], second: &[u8], view: View, at: usize) -> usize
+    requires { ⌜ at ≤ length (text-of first second view) ⌝ }
+    ensures { λ r. ⌜ Run is-digit (text-of (first .entry) (second .entry) view) at r ⌝ }
+{
+    let size = len(first, second, view);
+    let mut i = at;
+    while i < size {
+        if !is_digit(byte(first, second, view, i)) {
+            return i;
+        }
+        i += 1;
+    }
+    i
+}
+
 // Where the line that goes on at a place ends: at its LF, which is not among its bytes, or with the text.
 pub fn line_end(first: &[u8], second: &[u8], view: View, at: usize) -> usize
     requires { ⌜ at ≤ length (text-of first second view) ⌝ }
     ensures { λ r. ⌜ Run is-in-line (text-of (first .entry) (second .entry) view) at r ⌝ }
 {
-    run_end(first, second, view, at, Class::InLine)
+    let size = len(first, second, view);
+    let mut i = at;
+    while i < size {
+        if !is_in_line(byte(first, second, view, i)) {
+            return i;
+        }
+        i += 1;
+    }
+    i
 }
 
 // Do these bytes stand at a place?
@@ -179,6 +225,21 @@ pub fn stands_at(first: &[u8], second: &[u8], view: View, at: usize, bytes: &[u8
     let mut i = 0;
     while i < bytes.len() {
         if ahead(first, second, view, at, i) != bytes[i] {
+            return false;
+        }
+        i += 1;
+    }
+    true
+}
+
+// The same where the text has as many bytes from there on.
+pub fn stands_within(first: &[u8], second: &[u8], view: View, at: usize, bytes: &[u8]) -> bool
+    requires { ⌜ at + length (now bytes) ≤ length (text-of first second view) ⌝ }
+    ensures { λ r. ⌜ r ≡ stands (text-of (first .entry) (second .entry) view) at (now (bytes .entry)) ⌝ }
+{
+    let mut i = 0;
+    while i < bytes.len() {
+        if byte(first, second, view, at + i) != bytes[i] {
             return false;
         }
         i += 1;

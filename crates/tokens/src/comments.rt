@@ -5,7 +5,6 @@ ghost use Rattle.language.specs.Text as Text;
 ghost use Rattle.tokens.specs.Found.{IsPair, IsClose};
 ghost use Rattle.tokens.specs.Shown.{text-of};
 use crate::view::View;
-use crate::view::ahead;
 use crate::view::byte;
 use crate::view::len;
 
@@ -21,17 +20,17 @@ pub fn pair_at(first: &[u8], second: &[u8], view: View, at: usize) -> Pair
     ensures { λ r. ⌜ IsPair (text-of (first .entry) (second .entry) view) at r ⌝ }
 {
     let here = byte(first, second, view, at);
-    let behind = ahead(first, second, view, at, 1);
     if here == b'/' {
-        if behind == b'*' {
+        if byte(first, second, view, at + 1) == b'*' {
             return Pair::Opens;
         }
         return Pair::Neither;
     }
-    if here == b'*' {
-        if behind == b'/' {
-            return Pair::Closes;
-        }
+    if here != b'*' {
+        return Pair::Neither;
+    }
+    if byte(first, second, view, at + 1) == b'/' {
+        return Pair::Closes;
     }
     Pair::Neither
 }

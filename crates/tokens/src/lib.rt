@@ -31,6 +31,7 @@ use crate::edition::Edition;
 use crate::pieces::Piece;
 use crate::view::View;
 use crate::view::len;
+use crate::view::longer;
 use language::SOURCE;
 use language::TOKENS;
 use language::kinds;
@@ -69,15 +70,20 @@ pub fn split(edition: Edition, first: &[u8], second: &[u8], view: View, table: &
         ⌜ IsSplit (meant edition) (text-of (first .entry) (second .entry) view) (now (table .entry))
         (now (table .exit)) r ⌝ }
 {
-    let size = len(first, second, view);
-    if SOURCE < size {
+    if longer(first, second, view, SOURCE) {
         return Split::TooLong;
     }
+    let size = len(first, second, view);
     forks::begin(table);
     let mut at = 0;
     let mut count = 0;
     while at < size {
-        match pieces::piece_at(edition, first, second, view, at) {
+        let here = view::byte(first, second, view, at);
+        if bytes::is_blank(here) {
+            at += 1;
+            continue;
+        }
+        match pieces::piece_of(edition, first, second, view, at, here) {
             Piece::Space(end) => {
                 at = end;
             }

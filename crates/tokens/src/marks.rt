@@ -2,18 +2,18 @@
 ghost use mathlib.Core.Bool.{cond};
 ghost use mathlib.Core.List.{[], _∷_};
 ghost use mathlib.Core.Path.{_≡_};
-ghost use Prim.Native.Nat.{_<_};
+ghost use Prim.Native.Nat.{_+_, _<_};
 ghost use lib.ListN.{length};
 ghost use Rattle.language.proofs.Text.Places.{Begins};
 ghost use Rattle.language.proofs.Text.Places.Sort.{others};
+ghost use Rattle.language.specs.Text as Text;
 ghost use Rattle.language.specs.Tokens.{EDITION-1, EDITION-2, PAST};
 ghost use Rattle.tokens.specs.Editions.{meant};
-ghost use Rattle.tokens.specs.Found.{IsMark, mark-kind};
+ghost use Rattle.tokens.specs.Found.{IsMark, POINT, mark-kind};
 ghost use Rattle.tokens.specs.Shown.{text-of};
 use crate::bytes::stands_at;
 use crate::edition::Edition;
 use crate::view::View;
-use crate::view::ahead;
 use crate::view::byte;
 use language::kinds;
 
@@ -23,21 +23,42 @@ pub enum Mark {
     None,
 }
 
-// The mark at a place where no blank, name, number or comment begins: of those that stand there the
-// longest.
-pub fn mark_at(edition: Edition, first: &[u8], second: &[u8], view: View, at: usize) -> Mark
-    requires { ⌜ (at < length (text-of first second view)) × Begins (text-of first second view) at others ⌝ }
+// The mark at a place where no blank, name, number or comment begins, and this byte stands: of those that stand there
+// the longest. Only with a point begin marks that edition 1 has not.
+pub fn mark_at(
+    edition: Edition,
+    first: &[u8],
+    second: &[u8],
+    view: View,
+    at: usize,
+    here: u8,
+) -> Mark
+    requires { ⌜ (at < length (text-of first second view)) × Begins (text-of first second view) at others
+        × (here ≡ Text.byte (text-of first second view) at) ⌝ }
+    ensures { λ r. ⌜ IsMark (meant edition) (text-of (first .entry) (second .entry) view) at r ⌝ }
+{
+    if here == b'.' {
+        return pointed(edition, first, second, view, at);
+    }
+    plain(first, second, view, at, here)
+}
+
+// With a point begins no mark of edition 1.
+fn pointed(edition: Edition, first: &[u8], second: &[u8], view: View, at: usize) -> Mark
+    requires { ⌜ (at < length (text-of first second view)) × Begins (text-of first second view) at others
+        × (Text.byte (text-of first second view) at ≡ POINT) ⌝ }
     ensures { λ r. ⌜ IsMark (meant edition) (text-of (first .entry) (second .entry) view) at r ⌝ }
 {
     match edition {
-        Edition::One => in_one(first, second, view, at),
-        Edition::Two => in_two(first, second, view, at),
+        Edition::One => Mark::None,
+        Edition::Two => points(first, second, view, at),
     }
 }
 
-// By edition 2, which adds two marks; with a point begins no other.
-fn in_two(first: &[u8], second: &[u8], view: View, at: usize) -> Mark
-    requires { ⌜ (at < length (text-of first second view)) × Begins (text-of first second view) at others ⌝ }
+// Edition 2 has two, of two points and of three bytes.
+fn points(first: &[u8], second: &[u8], view: View, at: usize) -> Mark
+    requires { ⌜ (at < length (text-of first second view)) × Begins (text-of first second view) at others
+        × (Text.byte (text-of first second view) at ≡ POINT) ⌝ }
     ensures { λ r. ⌜ IsMark EDITION-2 (text-of (first .entry) (second .entry) view) at r ⌝ }
 {
     if stands_at(first, second, view, at, b"..=") {
@@ -46,16 +67,16 @@ fn in_two(first: &[u8], second: &[u8], view: View, at: usize) -> Mark
     if stands_at(first, second, view, at, b"..") {
         return Mark::Is(kinds::UPTO, 2);
     }
-    in_one(first, second, view, at)
+    Mark::None
 }
 
-// By edition 1.
-fn in_one(first: &[u8], second: &[u8], view: View, at: usize) -> Mark
-    requires { ⌜ (at < length (text-of first second view)) × Begins (text-of first second view) at others ⌝ }
+// The mark of edition 1 that begins with this byte.
+fn plain(first: &[u8], second: &[u8], view: View, at: usize, here: u8) -> Mark
+    requires { ⌜ (at < length (text-of first second view)) × Begins (text-of first second view) at others
+        × (here ≡ Text.byte (text-of first second view) at) ⌝ }
     ensures { λ r. ⌜ IsMark EDITION-1 (text-of (first .entry) (second .entry) view) at r ⌝ }
 {
-    let here = byte(first, second, view, at);
-    let two = double(here, ahead(first, second, view, at, 1));
+    let two = doubled(first, second, view, at, here);
     if two != kinds::PAST {
         return Mark::Is(two, 2);
     }
@@ -64,6 +85,18 @@ fn in_one(first: &[u8], second: &[u8], view: View, at: usize) -> Mark
         return Mark::Is(one, 1);
     }
     Mark::None
+}
+
+// The kind of the mark of this byte and the one behind a place, PAST where they are none. That byte is read only where
+// some mark of two bytes begins so.
+fn doubled(first: &[u8], second: &[u8], view: View, at: usize, here: u8) -> u32
+    requires { ⌜ at < length (text-of first second view) ⌝ }
+    ensures { λ r. ⌜ r ≡ mark-kind (here ∷ Text.byte (text-of (first .entry) (second .entry) view) (at + 1) ∷ []) ⌝ }
+{
+    match here {
+        b'=' | b':' | b'&' | b'|' => double(here, byte(first, second, view, at + 1)),
+        _ => kinds::PAST,
+    }
 }
 
 // The kind of the mark of two bytes, PAST where they are none.

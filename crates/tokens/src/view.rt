@@ -4,6 +4,7 @@
 ghost use mathlib.Core.List.{_∷_};
 ghost use mathlib.Core.Path.{_≡_};
 ghost use Prim.Native.Nat.{_+_, _-_, _/_, _≤_};
+ghost use lib.Dec.{ltb};
 ghost use lib.ListN.{length};
 ghost use lib.Seq.{slice};
 ghost use Rattle.language.specs.Pairs.{joined};
@@ -49,6 +50,29 @@ pub fn len(first: &[u8], second: &[u8], view: View) -> usize
         View::Plain => first.len(),
         View::Joined => first.len() + 1 + second.len(),
         View::Line { from, to } => len_of_line(first, from, to),
+    }
+}
+
+// Have two sheets, with the LF between them, more bytes than this? Their lengths are compared and never added: what
+// a caller in C tells for one may be any number, and no sum of two may wrap to a small one.
+fn longer_both(first: &[u8], second: &[u8], most: usize) -> bool
+    ensures { λ r. ⌜ r ≡ ltb most (length (joined (now (first .entry)) (now (second .entry)))) ⌝ }
+{
+    let size = first.len();
+    if most < size {
+        return true;
+    }
+    most - size <= second.len()
+}
+
+// Has the text more bytes than this? Who has asked may add up lengths.
+pub fn longer(first: &[u8], second: &[u8], view: View, most: usize) -> bool
+    ensures { λ r. ⌜ r ≡ ltb most (length (text-of (first .entry) (second .entry) view)) ⌝ }
+{
+    match view {
+        View::Plain => most < first.len(),
+        View::Joined => longer_both(first, second, most),
+        View::Line { from, to } => most < len_of_line(first, from, to),
     }
 }
 

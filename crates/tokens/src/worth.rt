@@ -7,10 +7,12 @@ ghost use lib.ListN.{length};
 ghost use Rattle.language.proofs.Text.Bases as Bases;
 ghost use Rattle.language.proofs.Text.Bases.{base-told};
 ghost use Rattle.language.specs.Text as Text;
-ghost use Rattle.language.specs.Text.{is-digit};
+ghost use Rattle.language.proofs.Text.Runs.{Run};
+ghost use Rattle.language.specs.Text.{is-digit, is-digit-of};
 ghost use Rattle.tokens.specs.Editions.{meant};
 ghost use Rattle.tokens.specs.Found.{IsPiece, PointAt, has-point};
 ghost use Rattle.tokens.specs.Shown.{text-of};
+use crate::bytes::decimal_end;
 use crate::bytes::digits_end;
 use crate::bytes::is_digit_of;
 use crate::bytes::worth;
@@ -47,7 +49,7 @@ fn base_of(a: u8, b: u8) -> u64
 
 // How the number that begins with the digit at a place is written. Without a digit of its own a base is
 // none, and the number is the digits that stand there.
-fn digits_at(edition: Edition, first: &[u8], second: &[u8], view: View, at: usize) -> Digits
+fn based_at(edition: Edition, first: &[u8], second: &[u8], view: View, at: usize) -> Digits
     requires { ⌜ (at < length (text-of first second view))
         × (is-digit (Text.byte (text-of first second view) at) ≡ true) ⌝ }
     ensures { λ r. ⌜ Bases.Digits (meant edition) (text-of (first .entry) (second .entry) view) at (r .from) (r .base)
@@ -64,6 +66,37 @@ fn digits_at(edition: Edition, first: &[u8], second: &[u8], view: View, at: usiz
         };
     }
     Digits { from: at, base: 10 }
+}
+
+// The same where that digit is known: only a 0 begins a base.
+fn digits_at(
+    edition: Edition,
+    first: &[u8],
+    second: &[u8],
+    view: View,
+    at: usize,
+    here: u8,
+) -> Digits
+    requires { ⌜ (at < length (text-of first second view)) × (is-digit here ≡ true)
+        × (here ≡ Text.byte (text-of first second view) at) ⌝ }
+    ensures { λ r. ⌜ Bases.Digits (meant edition) (text-of (first .entry) (second .entry) view) at (r .from) (r .base)
+        × (r .from ≡ at → r .base ≡ 10) ⌝ }
+{
+    if here == b'0' {
+        return based_at(edition, first, second, view, at);
+    }
+    Digits { from: at, base: 10 }
+}
+
+// Where the digits of a base that go on at a place end.
+fn ends(first: &[u8], second: &[u8], view: View, at: usize, base: u64) -> usize
+    requires { ⌜ at ≤ length (text-of first second view) ⌝ }
+    ensures { λ r. ⌜ Run (is-digit-of base) (text-of (first .entry) (second .entry) view) at r ⌝ }
+{
+    if base == 10 {
+        return decimal_end(first, second, view, at);
+    }
+    digits_end(first, second, view, at, base)
 }
 
 // May a point that this byte follows belong to a number? In edition 2 the points of `..` may not.
@@ -96,7 +129,7 @@ fn takes_point(
     if byte(first, second, view, end) != b'.' {
         return false;
     }
-    points(edition, ahead(first, second, view, end, 1))
+    points(edition, byte(first, second, view, end + 1))
 }
 
 // The float number at a place, with its point where the digits there end.
@@ -119,17 +152,24 @@ fn float_number(
     Piece::Token(kinds::FLOAT_NUMBER, end, bits)
 }
 
-// The number that begins with the digit at a place. No digit is read once the value is too large, and
+// The number that begins with this digit at a place. No digit is read once the value is too large, and
 // so no product can wrap.
-pub fn number(edition: Edition, first: &[u8], second: &[u8], view: View, at: usize) -> Piece
-    requires { ⌜ (at < length (text-of first second view))
-        × (is-digit (Text.byte (text-of first second view) at) ≡ true) ⌝ }
+pub fn number(
+    edition: Edition,
+    first: &[u8],
+    second: &[u8],
+    view: View,
+    at: usize,
+    here: u8,
+) -> Piece
+    requires { ⌜ (at < length (text-of first second view)) × (is-digit here ≡ true)
+        × (here ≡ Text.byte (text-of first second view) at) ⌝ }
     ensures { λ r. ⌜ IsPiece (meant edition) (text-of (first .entry) (second .entry) view) at r ⌝ }
 {
-    let digits = digits_at(edition, first, second, view, at);
+    let digits = digits_at(edition, first, second, view, at, here);
     let from = digits.from;
     let base = digits.base;
-    let end = digits_end(first, second, view, from, base);
+    let end = ends(first, second, view, from, base);
     if takes_point(edition, first, second, view, at, from, end) {
         return float_number(edition, first, second, view, at, end);
     }

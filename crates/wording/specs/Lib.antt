@@ -1,5 +1,10 @@
 pub mod Causes
 pub mod Ends
 pub mod Limits
+pub mod Types
 pub mod Fields
 pub mod Values
+pub mod Words
+pub mod Help
+pub mod Mistakes
+pub mod Spots

@@ -4,6 +4,7 @@ ghost use Rattle.page.specs.Text.{Adds};
 ghost use Rattle.layout.specs.Values.{meant};
 ghost use Rattle.wording.specs.Fields.{number-line};
 ghost use Rattle.wording.specs.Fields.{name-words};
+ghost use Rattle.wording.specs.Types.{type-line};
 ghost use Rattle.wording.specs.Values.{value-lines};
 use crate::types;
 use layout::values::Value;
@@ -35,6 +36,7 @@ pub fn field(out: &mut [u8], at: usize, name: &[u8], n: u64) -> usize
 // The type.
 pub fn type_line(out: &mut [u8], at: usize, type_number: u32) -> usize
     ensures { λ r. ⌜ Counts r (now (out .exit)) ⌝ }
+    ensures { λ r. ⌜ Adds (type-line «type_number») (now (out .entry)) (now (out .exit)) at r ⌝ }
 {
     let a = put(out, at, b"type ");
     let b = types::name(out, a, type_number);

@@ -2,6 +2,7 @@
 pub mod causes;
 pub mod ends;
 pub mod fields;
+pub mod help;
 pub mod limits;
 pub mod mistakes;
 pub mod places;

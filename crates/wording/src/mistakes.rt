@@ -1,5 +1,7 @@
 // What is wrong with the words behind the program's name, and with files that they name.
 ghost use Rattle.io.specs.Counts.{Counts};
+ghost use Rattle.page.specs.Text.{Adds};
+ghost use Rattle.wording.specs.Mistakes.{strange-text, no-number-text, file-text, no-report-text};
 use crate::fields::name;
 use page::decimal;
 use page::put;
@@ -7,6 +9,7 @@ use page::put;
 // A word that looks like an option and is none.
 pub fn strange(out: &mut [u8], at: usize, word: &[u8]) -> usize
     ensures { λ r. ⌜ Counts r (now (out .exit)) ⌝ }
+    ensures { λ r. ⌜ Adds (strange-text (now (word .entry))) (now (out .entry)) (now (out .exit)) at r ⌝ }
 {
     let a = put(out, at, b"slip: `");
     let b = name(out, a, word);
@@ -16,6 +19,8 @@ pub fn strange(out: &mut [u8], at: usize, word: &[u8]) -> usize
 // A word that is no number up to `most`, where `what` wants one.
 pub fn no_number(out: &mut [u8], at: usize, what: &[u8], word: &[u8], most: u32) -> usize
     ensures { λ r. ⌜ Counts r (now (out .exit)) ⌝ }
+    ensures { λ r.
+        ⌜ Adds (no-number-text (now (what .entry)) (now (word .entry)) most) (now (out .entry)) (now (out .exit)) at r ⌝ }
 {
     let a = put(out, at, b"slip: ");
     let b = put(out, a, what);
@@ -29,6 +34,7 @@ pub fn no_number(out: &mut [u8], at: usize, what: &[u8], word: &[u8], most: u32)
 // A file's name, before the system's own words for what is wrong with it.
 pub fn file(out: &mut [u8], at: usize, word: &[u8]) -> usize
     ensures { λ r. ⌜ Counts r (now (out .exit)) ⌝ }
+    ensures { λ r. ⌜ Adds (file-text (now (word .entry))) (now (out .entry)) (now (out .exit)) at r ⌝ }
 {
     let a = put(out, at, b"slip: `");
     let b = name(out, a, word);
@@ -38,6 +44,7 @@ pub fn file(out: &mut [u8], at: usize, word: &[u8]) -> usize
 // A file that is no report of a shift, or one without its sums.
 pub fn no_report(out: &mut [u8], at: usize, word: &[u8]) -> usize
     ensures { λ r. ⌜ Counts r (now (out .exit)) ⌝ }
+    ensures { λ r. ⌜ Adds (no-report-text (now (word .entry))) (now (out .entry)) (now (out .exit)) at r ⌝ }
 {
     let a = file(out, at, word);
     put(

@@ -1,36 +1,45 @@
 // Types in words, by their numbers, and values.
+ghost use Prim.Native.Nat.{_/_, min};
+ghost use lib.ListN.{length, take};
 ghost use Rattle.io.specs.Counts.{Counts};
 ghost use Rattle.layout.specs.Values.{meant};
 ghost use Rattle.page.specs.Text.{Adds};
+ghost use Rattle.wording.specs.Types.{base-words, ref-words, type-words};
 ghost use Rattle.wording.specs.Values.{signed-words, truth-words, cell-words, value-words, bits-line, bits-words};
 use layout::floats;
 use layout::values::Value;
 use page::decimal;
+use page::least;
 use page::magnitude;
 use page::put;
 
 // The first bytes of a text.
-fn part(out: &mut [u8], at: usize, text: &[u8], bytes: u32) -> usize
+fn part(out: &mut [u8], at: usize, text: &[u8], bytes: usize) -> usize
     ensures { λ r. ⌜ Counts r (now (out .exit)) ⌝ }
+    ensures { λ r.
+        ⌜ Adds (take (min bytes (length (now (text .entry)))) (now (text .entry))) (now (out .entry)) (now (out .exit))
+        at r ⌝ }
 {
-    let n = io::count(bytes as isize, text);
+    let n = least(bytes, text.len());
     put(out, at, &text[..n])
 }
 
 // As many `ref` as the type has, which are 15 at most.
 fn refs(out: &mut [u8], at: usize, type_number: u32) -> usize
     ensures { λ r. ⌜ Counts r (now (out .exit)) ⌝ }
+    ensures { λ r. ⌜ Adds (ref-words (min («type_number» / 8) 15)) (now (out .entry)) (now (out .exit)) at r ⌝ }
 {
     part(
         out,
         at,
         b" ref ref ref ref ref ref ref ref ref ref ref ref ref ref ref",
-        type_number / 8 * 4,
+        type_number as usize / 8 * 4,
     )
 }
 
 fn base(out: &mut [u8], at: usize, number: u32) -> usize
     ensures { λ r. ⌜ Counts r (now (out .exit)) ⌝ }
+    ensures { λ r. ⌜ Adds (base-words number) (now (out .entry)) (now (out .exit)) at r ⌝ }
 {
     match number {
         1 => put(out, at, b"int"),
@@ -43,6 +52,7 @@ fn base(out: &mut [u8], at: usize, number: u32) -> usize
 // A type's name.
 pub fn name(out: &mut [u8], at: usize, type_number: u32) -> usize
     ensures { λ r. ⌜ Counts r (now (out .exit)) ⌝ }
+    ensures { λ r. ⌜ Adds (type-words «type_number») (now (out .entry)) (now (out .exit)) at r ⌝ }
 {
     let a = base(out, at, type_number % 8);
     refs(out, a, type_number)

@@ -1,5 +1,8 @@
 // Why a sheet does not pay, in words.
 ghost use Rattle.io.specs.Counts.{Counts};
+ghost use Rattle.page.specs.Text.{Adds};
+ghost use Rattle.wording.specs.Words.{flaw-words, reason-words, refusal-words, stop-words};
+ghost use Rattle.wording.specs.Words.{pay-words, called-words, wage-words, cause-words};
 use crate::causes::Cause;
 use crate::types;
 use numbers::Flaw;
@@ -10,6 +13,7 @@ use page::put;
 
 fn flaw(out: &mut [u8], at: usize, why: Flaw) -> usize
     ensures { λ r. ⌜ Counts r (now (out .exit)) ⌝ }
+    ensures { λ r. ⌜ Adds (flaw-words why) (now (out .entry)) (now (out .exit)) at r ⌝ }
 {
     match why {
         Flaw::StrangeByte => put(out, at, b"a byte that begins no token"),
@@ -22,6 +26,7 @@ fn flaw(out: &mut [u8], at: usize, why: Flaw) -> usize
 
 fn reason(out: &mut [u8], at: usize, why: Reason) -> usize
     ensures { λ r. ⌜ Counts r (now (out .exit)) ⌝ }
+    ensures { λ r. ⌜ Adds (reason-words why) (now (out .entry)) (now (out .exit)) at r ⌝ }
 {
     match why {
         Reason::TooManyFunctions => put(out, at, b"more than 32 functions"),
@@ -45,6 +50,7 @@ fn reason(out: &mut [u8], at: usize, why: Reason) -> usize
 
 fn refusal(out: &mut [u8], at: usize, why: Refusal) -> usize
     ensures { λ r. ⌜ Counts r (now (out .exit)) ⌝ }
+    ensures { λ r. ⌜ Adds (refusal-words why) (now (out .entry)) (now (out .exit)) at r ⌝ }
 {
     match why {
         Refusal::ShortMemory => put(out, at, b"a memory is too short"),
@@ -78,6 +84,7 @@ fn refusal(out: &mut [u8], at: usize, why: Refusal) -> usize
 // What is wrong with `pay`, where the box refuses the call of it.
 fn pay(out: &mut [u8], at: usize, why: Reason) -> usize
     ensures { λ r. ⌜ Counts r (now (out .exit)) ⌝ }
+    ensures { λ r. ⌜ Adds (pay-words why) (now (out .entry)) (now (out .exit)) at r ⌝ }
 {
     match why {
         Reason::NoFunction => put(out, at, b"the sheet has no function pay"),
@@ -90,6 +97,7 @@ fn pay(out: &mut [u8], at: usize, why: Reason) -> usize
 // Why the box refuses the call under a sheet.
 fn called(out: &mut [u8], at: usize, why: Refusal) -> usize
     ensures { λ r. ⌜ Counts r (now (out .exit)) ⌝ }
+    ensures { λ r. ⌜ Adds (called-words why) (now (out .entry)) (now (out .exit)) at r ⌝ }
 {
     match why {
         Refusal::LongSource => put(
@@ -114,6 +122,7 @@ fn called(out: &mut [u8], at: usize, why: Refusal) -> usize
 
 fn stop(out: &mut [u8], at: usize, why: Stop) -> usize
     ensures { λ r. ⌜ Counts r (now (out .exit)) ⌝ }
+    ensures { λ r. ⌜ Adds (stop-words why) (now (out .entry)) (now (out .exit)) at r ⌝ }
 {
     match why {
         Stop::NoUnit => put(out, at, b"stopped: the allowance is used up"),
@@ -134,6 +143,7 @@ fn stop(out: &mut [u8], at: usize, why: Stop) -> usize
 
 fn no_wage(out: &mut [u8], at: usize, type_number: u32) -> usize
     ensures { λ r. ⌜ Counts r (now (out .exit)) ⌝ }
+    ensures { λ r. ⌜ Adds (wage-words «type_number») (now (out .entry)) (now (out .exit)) at r ⌝ }
 {
     let a = put(out, at, b"pay gives ");
     let b = types::name(out, a, type_number);
@@ -143,6 +153,7 @@ fn no_wage(out: &mut [u8], at: usize, type_number: u32) -> usize
 // Puts it in words.
 pub fn words(out: &mut [u8], at: usize, why: Cause) -> usize
     ensures { λ r. ⌜ Counts r (now (out .exit)) ⌝ }
+    ensures { λ r. ⌜ Adds (cause-words why) (now (out .entry)) (now (out .exit)) at r ⌝ }
 {
     match why {
         Cause::Refused(why) => refusal(out, at, why),

@@ -1,6 +1,7 @@
 -- `position` puts the parts one behind the other.
-use Rattle.page.proofs.Adding.{both}
+use Rattle.clerk.proofs.Saying.{position-at}
 use Rattle.clerk.specs.Told.{position-words}
+use Rattle.page.proofs.Adding.{being, both}
 use borrow.Author.Needs.{needs}
 use Rattle.clerk.proofs.people.position.Statement.{statement}
 use Rattle.clerk.proofs.people.position.Tie as tie
@@ -35,15 +36,16 @@ same-length c = search needs
 returns : tie.Need-returns
 unfolding position-words
 returns c =
-    let k5 = c .before .before in
-    let k4 = k5 .before .before .before .before in
-    let k3 = k4 .before .before .before .before .before in
-    let k2 = k3 .before .before .before .before in
-    let k1 = k2 .before .before .before .before .before in
-    let s = k1 .before .before in
-    let line = both (both (k1 .name .ensures) (k2 .put .ensures)) (k3 .decimal .ensures) in
-    let all = both (both line (k4 .put2 .ensures)) (k5 .decimal2 .ensures) in
-    (all .0, record { spot = _; spotted = s .spot .ensures; adds = all .1 })
+    let k1 = c .before .before in
+    let k2 = k1 .before .before .before .before in
+    let k3 = k2 .before .before .before .before .before in
+    let k4 = k3 .before .before .before .before in
+    let k5 = k4 .before .before .before .before .before in
+    let k6 = k5 .before .before in
+    let to2 = both (k5 .name .ensures) (k4 .put .ensures) in
+    let to3 = both to2 (k3 .decimal .ensures) in
+    let to4 = both to3 (k2 .put2 .ensures) in
+    being (position-at _ (k6 .spot .ensures) _) (both to4 (k1 .decimal2 .ensures))
 
 pub position-spec : {M : Type 1} → statement M
 position-spec =

@@ -1,5 +1,5 @@
 -- What the borrow checker leaves of `output::put`.
-use mathlib.Core.Path.{refl, sym, ap, _∙_}
+use mathlib.Core.Path.{sym, ap, _∙_}
 use mir.Syntax.{w32}
 use mir.Val.{SFits}
 use mir.Facts.{toZ-ofZ}
@@ -32,27 +32,32 @@ returns-2 c =
     let z : SFits w32 (at-n .n .given .0 .0) = search needs in put-out (meant (start .args .v)) (start .pre) _
     (sym (ap number-in (at-n .n .given .1)) ∙ (at-int-of .int-of .ensures)) (put-high _ (rw (toZ-ofZ {w = w32} z) at (c .if2 .taken)))
 
-cast-out : tie.Need-cast-out
-cast-out c =
+cast-byte : tie.Need-cast-byte
+cast-byte c =
     let at-n = c .before .before .before .before in
     let z : SFits w32 (at-n .n .given .0 .0) = search needs in rw (toZ-ofZ {w = w32} z)
     (let q = byte-fits (at-n .n .given .0 .0) (rw (toZ-ofZ {w = w32} z) at (c .before .before .if1 .left))
     (rw (toZ-ofZ {w = w32} z) at (c .before .if2 .left)) in (q .0, record { fits = q .1 }))
 
-slice-write-out : tie.Need-slice-write-out
-slice-write-out c = search needs
+store-requires : tie.Need-store-requires
+store-requires c κs = search needs
 
 same-length : tie.Need-same-length
 same-length c = search needs
 
 returns-3 : tie.Need-returns-3
 returns-3 c =
-    let at-n = c .before .before .before .before in
+    let at-store = c .before .before in
+    let at-if3 = at-store .before .before in
+    let at-if2 = at-if3 .before in
+    let at-if1 = at-if2 .before in
+    let at-n = at-if1 .before .before in
     let at-int-of = at-n .before .before in
     let start = at-int-of .before .before in
     let z : SFits w32 (at-n .n .given .0 .0) = search needs in rw (toZ-ofZ {w = w32} z)
-    (put-done (at-n .n .given .0 .0) (rw (toZ-ofZ {w = w32} z) at (c .before .before .if1 .left)) (rw (toZ-ofZ {w = w32} z) at (c .before .if2 .left)) _
-    _ (c .if3 .taken) _ refl (meant (start .args .v)) (sym (ap number-in (at-n .n .given .1)) ∙ (at-int-of .int-of .ensures)))
+    (put-done (at-n .n .given .0 .0) (rw (toZ-ofZ {w = w32} z) at (at-if1 .if1 .left)) (rw (toZ-ofZ {w = w32} z) at (at-if2 .if2 .left)) _
+    _ (at-if3 .if3 .taken) _ (rw (toZ-ofZ {w = w32} z) at (at-store .store .ensures)) (meant (start .args .v))
+    (sym (ap number-in (at-n .n .given .1)) ∙ (at-int-of .int-of .ensures)))
 
 enum-told : tie.Need-enum-told
 enum-told c = search needs
@@ -84,8 +89,8 @@ put-spec =
     enum-known-n
     returns
     returns-2
-    cast-out
-    slice-write-out
+    cast-byte
+    store-requires
     same-length
     returns-3
     enum-told

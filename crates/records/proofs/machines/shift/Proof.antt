@@ -1,6 +1,6 @@
 -- `shift` puts the parts one behind the other.
-use Rattle.records.specs.Machines.{shift-lines}
 use Rattle.page.proofs.Adding.{both}
+use Rattle.records.specs.Machines.{shift-lines}
 use borrow.Author.Needs.{needs}
 use Rattle.records.proofs.machines.shift.Statement.{statement}
 use Rattle.records.proofs.machines.shift.Tie as tie
@@ -35,18 +35,17 @@ same-length c = search needs
 returns : tie.Need-returns
 unfolding shift-lines
 returns c =
-    let at-amounts = c .before .before in
-    let at-counts = at-amounts .before .before .before .before in
-    let at-field2 = at-counts .before .before .before .before in
-    let at-outcome = at-field2 .before .before .before .before .before in
-    let at-sheet = at-outcome .before .before .before .before in
-    let at-field = at-sheet .before .before .before .before in
-    let front = both (at-field .field .ensures) (at-sheet .sheet .ensures) in (
-      at-amounts .amounts .ensures .0,
-      λ h.
-          let well = both front (at-outcome .outcome .ensures .0, at-outcome .outcome .ensures .1 h) in
-          both (both (both well (at-field2 .field2 .ensures)) (at-counts .counts .ensures)) (at-amounts .amounts .ensures) .1,
-    )
+    let k1 = c .before .before in
+    let k2 = k1 .before .before .before .before in
+    let k3 = k2 .before .before .before .before in
+    let k4 = k3 .before .before .before .before .before in
+    let k5 = k4 .before .before .before .before in
+    let k6 = k5 .before .before .before .before in
+    let to2 = both (k6 .field .ensures) (k5 .sheet .ensures) in
+    let to3 = both to2 (k4 .outcome .ensures) in
+    let to4 = both to3 (k3 .field2 .ensures) in
+    let to5 = both to4 (k2 .counts .ensures) in
+    both to5 (k1 .amounts .ensures)
 
 pub shift-spec : {M : Type 1} → statement M
 shift-spec =

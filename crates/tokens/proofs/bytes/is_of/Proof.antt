@@ -1,6 +1,5 @@
 -- `is_of` decides whether a byte is of a class.
 use mathlib.Core.Path.{sym, _∙_, ap}
-use Rattle.language.specs.Text.{is-in-line}
 use Rattle.tokens.specs.Found.{is-of}
 use borrow.Author.Needs.{needs}
 use Rattle.tokens.proofs.bytes.is_of.Statement.{statement}
@@ -27,6 +26,9 @@ is-capital-requires c κs = search needs
 enum-told-3 : tie.Need-enum-told-3
 enum-told-3 c = search needs
 
+is-in-line-requires : tie.Need-is-in-line-requires
+is-in-line-requires c κs = search needs
+
 returns : tie.Need-returns
 returns c = c .is-name-byte .ensures ∙ ap (λ x. is-of x (c .before .before .before .args .b)) (sym (c .before .enum-told .given .1))
 
@@ -37,8 +39,7 @@ returns-3 : tie.Need-returns-3
 returns-3 c = c .is-capital .ensures ∙ ap (λ x. is-of x (c .before .before .before .args .b)) (sym (c .before .enum-told2 .given .1))
 
 returns-4 : tie.Need-returns-4
-unfolding is-in-line
-returns-4 c = ap (λ x. is-of x (c .before .before .args .b)) (sym (c .enum-told3 .given .1))
+returns-4 c = c .is-in-line .ensures ∙ ap (λ x. is-of x (c .before .before .before .args .b)) (sym (c .before .enum-told3 .given .1))
 
 pub is-of-spec : {M : Type 1} → statement M
 is-of-spec =
@@ -51,6 +52,7 @@ is-of-spec =
     enum-told-2
     is-capital-requires
     enum-told-3
+    is-in-line-requires
     returns
     returns-2
     returns-3

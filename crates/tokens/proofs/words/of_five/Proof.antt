@@ -41,7 +41,7 @@ returns c =
     let m = c .before .before .before in
     let s = m .before .before .before .before in
     by-first (text s) (s .args .p) 5 (code "f") (lit< tt) (s .pre)
-    (sym (m .before .byte .ensures) ∙ m .match .keys1) (c .either .ensures)
+    (sym (m .before .byte .ensures) ∙ m .match .keys1) refl (c .either .ensures)
 
 returns-2 : tie.Need-returns-2
 unfolding left fits
@@ -49,13 +49,13 @@ returns-2 c =
     let m = c .before .before in
     let s = m .before .before .before .before in
     by-first (text s) (s .args .p) 5 (code "w") (lit< tt) (s .pre)
-    (sym (m .before .byte .ensures) ∙ m .match .keys2) (c .only .ensures)
+    (sym (m .before .byte .ensures) ∙ m .match .keys2) refl (c .only .ensures)
 
 returns-3 : tie.Need-returns-3
 unfolding every begins-so
 returns-3 c =
     let s = c .before .before .before .before in
-    no-first (text s) (s .args .p) 4 _ (spell "wf") (s .pre) (c .before .byte .ensures) refl (c .match .rest)
+    no-first (text s) (s .args .p) 4 _ (spell "wf") (s .pre) (c .before .byte .ensures) refl refl (c .match .rest)
 
 pub of-five-spec : {M : Type 1} → statement M
 of-five-spec =

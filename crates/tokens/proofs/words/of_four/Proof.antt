@@ -53,7 +53,7 @@ returns c =
     let m = c .before .before in
     let s = m .before .before .before .before in
     by-first (text s) (s .args .p) 4 (code "b") (lit< tt) (s .pre)
-    (sym (m .before .byte .ensures) ∙ m .match .keys1) (c .only .ensures)
+    (sym (m .before .byte .ensures) ∙ m .match .keys1) refl (c .only .ensures)
 
 returns-2 : tie.Need-returns-2
 unfolding left fits
@@ -61,7 +61,7 @@ returns-2 c =
     let m = c .before .before in
     let s = m .before .before .before .before in
     by-first (text s) (s .args .p) 4 (code "e") (lit< tt) (s .pre)
-    (sym (m .before .byte .ensures) ∙ m .match .keys2) (c .only2 .ensures)
+    (sym (m .before .byte .ensures) ∙ m .match .keys2) refl (c .only2 .ensures)
 
 returns-3 : tie.Need-returns-3
 unfolding left fits
@@ -69,7 +69,7 @@ returns-3 c =
     let m = c .before .before .before in
     let s = m .before .before .before .before in
     by-first (text s) (s .args .p) 4 (code "t") (lit< tt) (s .pre)
-    (sym (m .before .byte .ensures) ∙ m .match .keys3) (c .either .ensures)
+    (sym (m .before .byte .ensures) ∙ m .match .keys3) refl (c .either .ensures)
 
 returns-4 : tie.Need-returns-4
 unfolding left fits
@@ -77,13 +77,13 @@ returns-4 c =
     let m = c .before .before in
     let s = m .before .before .before .before in
     by-first (text s) (s .args .p) 4 (code "u") (lit< tt) (s .pre)
-    (sym (m .before .byte .ensures) ∙ m .match .keys4) (c .only3 .ensures)
+    (sym (m .before .byte .ensures) ∙ m .match .keys4) refl (c .only3 .ensures)
 
 returns-5 : tie.Need-returns-5
 unfolding every begins-so
 returns-5 c =
     let s = c .before .before .before .before in
-    no-first (text s) (s .args .p) 3 _ (spell "uteb") (s .pre) (c .before .byte .ensures) refl (c .match .rest)
+    no-first (text s) (s .args .p) 3 _ (spell "uteb") (s .pre) (c .before .byte .ensures) refl refl (c .match .rest)
 
 pub of-four-spec : {M : Type 1} → statement M
 of-four-spec =

@@ -6,9 +6,9 @@ use Prim.Native.Char.{code}
 use mathlib.Core.List.{List}
 use Prim.Native.Nat.{ℕ}
 use Rattle.language.proofs.Text.Tables.{every}
-use Rattle.language.specs.Tokens.{spell}
+use Rattle.language.specs.Tokens.{spell, BY}
 use Rattle.tokens.proofs.FirstBytes.{begins-so}
-use Rattle.tokens.proofs.WordRows.{fits, left, by-first, no-first}
+use Rattle.tokens.proofs.WordRows.{fits, left, by-first, by-added, no-first}
 use Rattle.tokens.proofs.words.of_two.Statement.{statement}
 use Rattle.tokens.proofs.words.of_two.Tie as tie
 use Rattle.tokens.specs.Shown.{shown}
@@ -19,6 +19,12 @@ text s = shown (s .args .first .now) (s .args .second .now) (s .args .view)
 
 byte-requires : tie.Need-byte-requires
 byte-requires c κs = search needs
+
+slice-aggregate-added : tie.Need-slice-aggregate-added
+slice-aggregate-added c = search needs
+
+added-requires : tie.Need-added-requires
+added-requires c κs = search needs
 
 slice-aggregate-only : tie.Need-slice-aggregate-only
 slice-aggregate-only c = search needs
@@ -46,36 +52,46 @@ unfolding left fits
 returns c =
     let m = c .before .before in
     let s = m .before .before .before .before in
-    by-first (text s) (s .args .p) 2 (code "d") (lit< tt) (s .pre)
-    (sym (m .before .byte .ensures) ∙ m .match .keys1) (c .only .ensures)
+    by-added (text s) (s .args .p) 2 (code "b") (lit< tt) (s .pre)
+    (sym (m .before .byte .ensures) ∙ m .match .keys1) "by" BY refl refl (s .args .edition) (c .added .ensures)
 
 returns-2 : tie.Need-returns-2
 unfolding left fits
 returns-2 c =
-    let m = c .before .before .before in
+    let m = c .before .before in
     let s = m .before .before .before .before in
-    by-first (text s) (s .args .p) 2 (code "i") (lit< tt) (s .pre)
-    (sym (m .before .byte .ensures) ∙ m .match .keys2) (c .either .ensures)
+    by-first (text s) (s .args .p) 2 (code "d") (lit< tt) (s .pre)
+    (sym (m .before .byte .ensures) ∙ m .match .keys2) refl (c .only .ensures) (s .args .edition)
 
 returns-3 : tie.Need-returns-3
 unfolding left fits
 returns-3 c =
+    let m = c .before .before .before in
+    let s = m .before .before .before .before in
+    by-first (text s) (s .args .p) 2 (code "i") (lit< tt) (s .pre)
+    (sym (m .before .byte .ensures) ∙ m .match .keys3) refl (c .either .ensures) (s .args .edition)
+
+returns-4 : tie.Need-returns-4
+unfolding left fits
+returns-4 c =
     let m = c .before .before in
     let s = m .before .before .before .before in
     by-first (text s) (s .args .p) 2 (code "t") (lit< tt) (s .pre)
-    (sym (m .before .byte .ensures) ∙ m .match .keys3) (c .only2 .ensures)
+    (sym (m .before .byte .ensures) ∙ m .match .keys4) refl (c .only2 .ensures) (s .args .edition)
 
-returns-4 : tie.Need-returns-4
+returns-5 : tie.Need-returns-5
 unfolding every begins-so
-returns-4 c =
+returns-5 c =
     let s = c .before .before .before .before in
-    no-first (text s) (s .args .p) 1 _ (spell "tid") (s .pre) (c .before .byte .ensures) refl (c .match .rest)
+    no-first (text s) (s .args .p) 1 _ (spell "tidb") (s .pre) (c .before .byte .ensures) refl refl (c .match .rest) (s .args .edition)
 
 pub of-two-spec : {M : Type 1} → statement M
 of-two-spec =
     tie.close
     (tie.spec
     byte-requires
+    slice-aggregate-added
+    added-requires
     slice-aggregate-only
     only-requires
     slice-aggregate-either
@@ -86,4 +102,5 @@ of-two-spec =
     returns
     returns-2
     returns-3
-    returns-4)
+    returns-4
+    returns-5)

@@ -2,6 +2,7 @@
 use mathlib.Core.Path.{_∙_}
 use Rattle.phrase_types.proofs.ReadyArguments.{args-inside, args-readable, args-first, args-next}
 use Rattle.phrase_types.proofs.InferredLaws.{end-inferred, stop-inferred, more-inferred}
+use Rattle.phrase_types.proofs.CoveredLaws.{falls-along}
 use Prim.Native.Nat.{ℕ}
 use borrow.Author.Needs.{needs}
 use native.Mathlib.Omega.{arith}
@@ -36,7 +37,7 @@ type-at-requires t c κs =
     let at-link = c .before .before .before .before .before in
     let at-if1 = at-link .before .before in
     let start = at-if1 .before .before in
-    let q = args-first (start .pre .1) (at-if1 .if1 .left) (at-link .link .ensures) in (omega (arith, q .0, start .pre .0), q .1)
+    let q = args-first (start .pre .1) (at-if1 .if1 .left) (at-link .link .ensures) in (falls-along (q .0) (start .pre .0), q .1)
 
 pub enum-known-first :
     (t : ℕ) → lts.Need-enum-known-first (arguments-claims t) (arguments-at t) arguments.Post
@@ -66,7 +67,7 @@ arguments-requires t c κs =
     let at-if1 = at-link2 .before .before .before .before in
     let start = at-if1 .before .before in
     let q = args-next (start .pre .1) (at-if1 .if1 .left) (at-type-at .type-at .ensures .kept) (at-link2 .link2 .ensures) in
-    (omega (arith, q .0, start .pre .0), q .1)
+    (falls-along (q .0) (start .pre .0), q .1)
 
 pub same-length :
     (t : ℕ) → lts.Need-same-length (arguments-claims t) (arguments-at t) arguments.Post

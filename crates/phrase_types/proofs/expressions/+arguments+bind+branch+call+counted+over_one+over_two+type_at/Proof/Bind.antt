@@ -4,6 +4,7 @@ use Rattle.phrase_types.proofs.KeptLaws.{kept-self}
 use Rattle.phrase_types.proofs.BindLaws.{let-children}
 use Rattle.phrase_types.proofs.ReadyLaws.{bound-number, ready-inside, ready-binds, ready-bound, ready-first, ready-body}
 use Rattle.phrase_types.proofs.InferredLaws.{first-inferred, first-told, let-inferred}
+use Rattle.phrase_types.proofs.CoveredLaws.{falls-inside}
 use Prim.Native.Nat.{ℕ}
 use borrow.Author.Needs.{needs}
 use native.Mathlib.Omega.{arith}
@@ -40,7 +41,7 @@ type-at-requires t c κs =
     let at-link2 = c .before .before .before in
     let start = at-link2 .before .before .before .before .before .before .before in
     let q = ready-first (start .pre .1 .0) (kept-self _ _) (let-children _ (start .pre .1 .1)) (omega arith) (at-link2 .link2 .ensures) in
-    (omega (arith, q .0, start .pre .0), q .1)
+    (falls-inside (q .0) (start .pre .0), q .1)
 
 pub enum-known-first : (t : ℕ) → lts.Need-enum-known-first (bind-claims t) (bind-at t) bind.Post
 enum-known-first t c = search needs
@@ -77,7 +78,7 @@ type-at-requires-2 t c κs =
     (bound-number (start .pre .1 .0) (at-link .link .ensures) (at-value .value .ensures))
     (first-told (start .pre .1 .0) (at-link2 .link2 .ensures) (at-type-at .type-at .ensures) (at-first2 .first2 .given .1))
     (at-put .put .ensures) (at-link3 .link3 .ensures) in
-    (omega (arith, q .0, start .pre .0), q .1)
+    (falls-inside (q .0) (start .pre .0), q .1)
 
 pub same-length : (t : ℕ) → lts.Need-same-length (bind-claims t) (bind-at t) bind.Post
 same-length t c = c .before .before .before .before .before .type-at .ensures .kept .long

@@ -3,6 +3,7 @@ use mathlib.Core.Path.{_∙_}
 use Rattle.phrase_types.proofs.KeptLaws.{kept-self, kept-then}
 use Rattle.phrase_types.proofs.ReadyLaws.{ready-inside, ready-first, ready-second, ready-third}
 use Rattle.phrase_types.proofs.InferredLaws.{first-inferred, then-inferred, else-inferred, if-inferred}
+use Rattle.phrase_types.proofs.CoveredLaws.{falls-inside}
 use Prim.Native.Nat.{ℕ}
 use borrow.Author.Needs.{needs}
 use native.Mathlib.Omega.{arith}
@@ -33,7 +34,7 @@ type-at-requires t c κs =
     let at-link = c .before .before .before .before .before in
     let start = at-link .before .before .before .before .before in
     let q = ready-first (start .pre .1 .0) (kept-self _ _) (start .pre .1 .1) (omega arith) (at-link .link .ensures) in
-    (omega (arith, q .0, start .pre .0), q .1)
+    (falls-inside (q .0) (start .pre .0), q .1)
 
 pub enum-known-condition :
     (t : ℕ) → lts.Need-enum-known-condition (branch-claims t) (branch-at t) branch.Post
@@ -50,7 +51,7 @@ type-at-requires-2 t c κs =
     let at-link2 = at-type-at .before .before .before .before in
     let start = at-link2 .before .before .before .before .before .before .before in
     let q = ready-second (start .pre .1 .0) (at-type-at .type-at .ensures .kept) (start .pre .1 .1) (omega arith) (at-link2 .link2 .ensures) in
-    (omega (arith, q .0, start .pre .0), q .1)
+    (falls-inside (q .0) (start .pre .0), q .1)
 
 pub enum-known-first :
     (t : ℕ) → lts.Need-enum-known-first (branch-claims t) (branch-at t) branch.Post
@@ -71,7 +72,7 @@ type-at-requires-3 t c κs =
     let q =
     ready-third (start .pre .1 .0) (kept-then (at-type-at .type-at .ensures .kept) (at-type-at2 .type-at2 .ensures .kept)) (start .pre .1 .1)
     (omega arith) (at-link3 .link3 .ensures) in
-    (omega (arith, q .0, start .pre .0), q .1)
+    (falls-inside (q .0) (start .pre .0), q .1)
 
 pub enum-known-second :
     (t : ℕ) → lts.Need-enum-known-second (branch-claims t) (branch-at t) branch.Post

@@ -1,6 +1,7 @@
 -- What the borrow checker leaves of `call`.
 use Rattle.phrase_types.proofs.ReadyLaws.{called-number, ready-inside, ready-called, ready-headed, ready-args}
 use Rattle.phrase_types.proofs.InferredLaws.{arguments-inferred, callee-ready, call-inferred}
+use Rattle.phrase_types.proofs.CoveredLaws.{falls-inside}
 use Prim.Native.Nat.{ℕ}
 use borrow.Author.Needs.{needs}
 use native.Mathlib.Omega.{arith}
@@ -40,7 +41,7 @@ arguments-requires t c κs =
     let q =
     ready-args (start .pre .1 .0) (start .pre .1 .1) (called-number (start .pre .1 .0) (at-link .link .ensures) (at-value .value .ensures))
     (at-called .called .ensures) (c .before .link2 .ensures) in
-    (omega (arith, q .0, start .pre .0), q .1)
+    (falls-inside (q .0) (start .pre .0), q .1)
 
 pub enum-known-passed : (t : ℕ) → lts.Need-enum-known-passed (call-claims t) (call-at t) call.Post
 enum-known-passed t c = search needs

@@ -3,6 +3,7 @@ use mathlib.Core.Path.{refl, _∙_}
 use Rattle.language.specs.Meaning.{type-number}
 use Rattle.phrase_types.proofs.ReadyLaws.{bound-number, ready-inside, ready-binds, ready-looped}
 use Rattle.phrase_types.proofs.CountedLaws.{ready-bounds, ready-pass, bounds-inferred, pass-inferred, counted-inferred}
+use Rattle.phrase_types.proofs.CoveredLaws.{falls-inside}
 use Prim.Native.Nat.{ℕ}
 use borrow.Author.Needs.{needs}
 use native.Mathlib.Omega.{arith}
@@ -45,7 +46,7 @@ arguments-requires t c κs =
     let at-link2 = c .before .before .before in
     let start = at-link2 .before .before .before .before .before .before .before .before .before in
     let q = ready-bounds (start .pre .1 .0) (start .pre .1 .1) (at-link2 .link2 .ensures) in
-    (omega (arith, q .0, start .pre .0), q .1)
+    (falls-inside (q .0) (start .pre .0), q .1)
 
 pub enum-known-bounds : (t : ℕ) → lts.Need-enum-known-bounds (counted-claims t) (counted-at t) counted.Post
 enum-known-bounds t c = search needs
@@ -80,7 +81,7 @@ type-at-requires t c κs =
     let q =
     ready-pass (start .pre .1 .0) (start .pre .1 .1) (at-link2 .link2 .ensures) (at-arguments .arguments .ensures) e refl (at-put .put .ensures)
     (at-link3 .link3 .ensures) in
-    (omega (arith, q .0, start .pre .0), q .1)
+    (falls-inside (q .0) (start .pre .0), q .1)
 
 pub enum-known-pass : (t : ℕ) → lts.Need-enum-known-pass (counted-claims t) (counted-at t) counted.Post
 enum-known-pass t c = search needs

@@ -2,6 +2,7 @@
 use Rattle.phrase_types.proofs.KeptLaws.{kept-self}
 use Rattle.phrase_types.proofs.ReadyLaws.{ready-inside, ready-first}
 use Rattle.phrase_types.proofs.InferredLaws.{first-inferred, one-inferred}
+use Rattle.phrase_types.proofs.CoveredLaws.{falls-inside}
 use Prim.Native.Nat.{ℕ}
 use borrow.Author.Needs.{needs}
 use native.Mathlib.Omega.{arith}
@@ -31,7 +32,7 @@ type-at-requires t c κs =
     let earlier = c .before .before .before .before .before .before .before in
     let start = earlier .before in
     let q = ready-first (start .pre .1 .0) (kept-self _ _) (start .pre .1 .1) (omega arith) (c .before .link .ensures) in
-    (omega (arith, q .0, start .pre .0), q .1)
+    (falls-inside (q .0) (start .pre .0), q .1)
 
 pub enum-known-inside :
     (t : ℕ) → lts.Need-enum-known-inside (over-one-claims t) (over-one-at t) over-one.Post

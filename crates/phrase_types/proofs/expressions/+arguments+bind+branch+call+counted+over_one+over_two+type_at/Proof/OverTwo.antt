@@ -3,6 +3,7 @@ use mathlib.Core.Path.{_∙_}
 use Rattle.phrase_types.proofs.KeptLaws.{kept-self}
 use Rattle.phrase_types.proofs.ReadyLaws.{ready-inside, ready-first, ready-second}
 use Rattle.phrase_types.proofs.InferredLaws.{first-inferred, second-inferred, two-inferred}
+use Rattle.phrase_types.proofs.CoveredLaws.{falls-inside}
 use Prim.Native.Nat.{ℕ}
 use borrow.Author.Needs.{needs}
 use native.Mathlib.Omega.{arith}
@@ -39,7 +40,7 @@ type-at-requires t c κs =
     let at-link = c .before .before .before in
     let start = at-link .before .before .before .before .before .before .before in
     let q = ready-first (start .pre .1 .0) (kept-self _ _) (start .pre .1 .1) (omega arith) (at-link .link .ensures) in
-    (omega (arith, q .0, start .pre .0), q .1)
+    (falls-inside (q .0) (start .pre .0), q .1)
 
 pub enum-known-first :
     (t : ℕ) → lts.Need-enum-known-first (over-two-claims t) (over-two-at t) over-two.Post
@@ -57,7 +58,7 @@ type-at-requires-2 t c κs =
     let earlier = at-link2 .before .before .before .before .before .before .before in
     let start = earlier .before .before in
     let q = ready-second (start .pre .1 .0) (at-type-at .type-at .ensures .kept) (start .pre .1 .1) (omega arith) (at-link2 .link2 .ensures) in
-    (omega (arith, q .0, start .pre .0), q .1)
+    (falls-inside (q .0) (start .pre .0), q .1)
 
 pub enum-known-second :
     (t : ℕ) → lts.Need-enum-known-second (over-two-claims t) (over-two-at t) over-two.Post

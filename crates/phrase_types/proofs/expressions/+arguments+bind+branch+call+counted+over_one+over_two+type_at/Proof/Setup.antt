@@ -3,6 +3,7 @@
 use Prim.Native.Nat.{ℕ, _<_, _+_, _*_}
 use borrow.Fn.Kinds.{In}
 use borrow.Fn.PlainCycle.{Measures, is, falls, and}
+use Rattle.phrase_types.proofs.CoveredLaws.{covered, covered-all}
 use Rattle.phrase_types.proofs.expressions.arguments.Reads as arguments
 use Rattle.phrase_types.proofs.expressions.arguments.Kinds as arguments-kinds
 use Rattle.phrase_types.proofs.expressions.+arguments+bind+branch+call+counted+over_one+over_two+type_at.Lts-arguments as arguments-lts
@@ -45,28 +46,28 @@ use Rattle.layout.proofs.token.value.Reads as value-reads
 use Rattle.layout.proofs.variables.put.Reads as put-reads
 
 abbrev pub μ-arguments : Measures 1 arguments-kinds.ps ℕ
-μ-arguments κs a = 4 * a .1 .0
+μ-arguments κs a = 2 * covered-all (a .0 .now) (a .1 .0) + 1
 
 abbrev pub μ-bind : Measures 1 bind-kinds.ps ℕ
-μ-bind κs a = 4 * a .1 .0 + 2
+μ-bind κs a = 2 * covered (a .0 .now) (a .1 .0)
 
 abbrev pub μ-branch : Measures 1 branch-kinds.ps ℕ
-μ-branch κs a = 4 * a .1 .0 + 2
+μ-branch κs a = 2 * covered (a .0 .now) (a .1 .0)
 
 abbrev pub μ-call : Measures 1 call-kinds.ps ℕ
-μ-call κs a = 4 * a .1 .0 + 2
+μ-call κs a = 2 * covered (a .0 .now) (a .1 .0)
 
 abbrev pub μ-counted : Measures 1 counted-kinds.ps ℕ
-μ-counted κs a = 4 * a .1 .0 + 2
+μ-counted κs a = 2 * covered (a .0 .now) (a .1 .0)
 
 abbrev pub μ-over-one : Measures 1 over-one-kinds.ps ℕ
-μ-over-one κs a = 4 * a .1 .0 + 2
+μ-over-one κs a = 2 * covered (a .0 .now) (a .1 .0)
 
 abbrev pub μ-over-two : Measures 1 over-two-kinds.ps ℕ
-μ-over-two κs a = 4 * a .1 .0 + 2
+μ-over-two κs a = 2 * covered (a .0 .now) (a .1 .0)
 
 abbrev pub μ-type-at : Measures 1 type-at-kinds.ps ℕ
-μ-type-at κs a = 4 * a .1 .0 + 3
+μ-type-at κs a = 2 * covered (a .0 .now) (a .1 .0) + 1
 
 abbrev pub arguments-at : ℕ → In 1 arguments-kinds.ps
 arguments-at t = and 1 arguments-kinds.ps (is 1 arguments-kinds.ps μ-arguments t) arguments.Pre

@@ -5,6 +5,7 @@ use Rattle.layout.specs.Decode.{counts}
 use Rattle.rules.proofs.ShapeLaws.{children-as, children-rest}
 use Rattle.phrase_types.proofs.ReadyLaws.{ready-inside, ready-name, ready-binds}
 use Rattle.phrase_types.proofs.InferredLaws.{name-inferred, constant-inferred}
+use Rattle.phrase_types.proofs.CoveredLaws.{falls-to-node}
 use Prim.Native.Nat.{ℕ}
 use native.Mathlib.Omega.{arith}
 use Rattle.phrase_types.proofs.expressions.type_at.Reads as type-at
@@ -33,7 +34,7 @@ pub call-requires : (t : ℕ) → lts.Need-call-requires (type-at-claims t) (typ
 call-requires t c κs =
     let at-word = c .before .before .before in
     let start = at-word .before .before .before in
-    (omega (arith, start .pre .0), (start .pre .1, sym (at-word .word .ensures) ∙ c .before .if2 .taken))
+    (falls-to-node _ (start .pre .0), (start .pre .1, sym (at-word .word .ensures) ∙ c .before .if2 .taken))
 
 pub same-length-2 : (t : ℕ) → lts.Need-same-length-2 (type-at-claims t) (type-at-at t) type-at.Post
 same-length-2 t c = c .before .before .call .ensures .kept .long
@@ -45,7 +46,7 @@ pub bind-requires : (t : ℕ) → lts.Need-bind-requires (type-at-claims t) (typ
 bind-requires t c κs =
     let at-word = c .before .before .before .before in
     let start = at-word .before .before .before in
-    (omega (arith, start .pre .0), (start .pre .1, sym (at-word .word .ensures) ∙ c .before .if3 .taken))
+    (falls-to-node _ (start .pre .0), (start .pre .1, sym (at-word .word .ensures) ∙ c .before .if3 .taken))
 
 pub same-length-3 : (t : ℕ) → lts.Need-same-length-3 (type-at-claims t) (type-at-at t) type-at.Post
 same-length-3 t c = c .before .before .bind .ensures .kept .long
@@ -63,7 +64,7 @@ counted-requires t c κs =
     let at-word = at-counts .before .before .before .before in
     let start = at-word .before .before .before in
     let e = ap counts (sym (at-word .word .ensures)) ∙ sym (at-counts .counts .ensures) ∙ c .before .if4 .taken in
-    (omega (arith, start .pre .0), (start .pre .1, e))
+    (falls-to-node _ (start .pre .0), (start .pre .1, e))
 
 pub same-length-4 : (t : ℕ) → lts.Need-same-length-4 (type-at-claims t) (type-at-at t) type-at.Post
 same-length-4 t c = c .before .before .counted .ensures .kept .long
@@ -100,7 +101,7 @@ over-one-requires t c κs =
     let at-children = c .before .before .before in
     let at-word = at-children .before .before .before .before .before .before in
     let start = at-word .before .before .before in
-    (omega (arith, start .pre .0), (start .pre .1, children-as (at-word .word .ensures) (c .before .if6 .taken) (at-children .children .ensures)))
+    (falls-to-node _ (start .pre .0), (start .pre .1, children-as (at-word .word .ensures) (c .before .if6 .taken) (at-children .children .ensures)))
 
 pub same-length-6 : (t : ℕ) → lts.Need-same-length-6 (type-at-claims t) (type-at-at t) type-at.Post
 same-length-6 t c = c .before .before .over-one .ensures .kept .long
@@ -115,7 +116,7 @@ over-two-requires t c κs =
     let at-if3 = at-children .before .before .before in
     let at-word = at-if3 .before .before .before in
     let start = at-word .before .before .before in (
-      omega (arith, start .pre .0),
+      falls-to-node _ (start .pre .0),
       (
         start .pre .1,
         children-as (at-word .word .ensures) (c .before .if7 .taken) (at-children .children .ensures),
@@ -136,7 +137,7 @@ branch-requires t c κs =
     let at-children = at-if5 .before in
     let at-word = at-children .before .before .before .before .before .before in
     let start = at-word .before .before .before in (
-      omega (arith, start .pre .0),
+      falls-to-node _ (start .pre .0),
       (
         start .pre .1,
         children-rest (at-word .word .ensures) (at-if5 .if5 .left) (c .before .before .if6 .left) (c .before .if7 .left)

@@ -1,0 +1,36 @@
+-- `type_line` puts the parts one behind the other.
+use Rattle.page.proofs.Adding.{both}
+use Rattle.wording.specs.Types.{type-line}
+use borrow.Author.Needs.{needs}
+use Rattle.wording.proofs.fields.type_line.Statement.{statement}
+use Rattle.wording.proofs.fields.type_line.Tie as tie
+
+slice-aggregate-put : tie.Need-slice-aggregate-put
+slice-aggregate-put c = search needs
+
+put-requires : tie.Need-put-requires
+put-requires c κs = search needs
+
+name-requires : tie.Need-name-requires
+name-requires c κs = search needs
+
+slice-aggregate-put-2 : tie.Need-slice-aggregate-put-2
+slice-aggregate-put-2 c = search needs
+
+put-requires-2 : tie.Need-put-requires-2
+put-requires-2 c κs = search needs
+
+same-length : tie.Need-same-length
+same-length c = search needs
+
+returns : tie.Need-returns
+unfolding type-line
+returns c =
+    let k3 = c .before .before in
+    let k2 = k3 .before .before .before .before .before in
+    let k1 = k2 .before .before .before .before in
+    both (both (k1 .put .ensures) (k2 .name .ensures)) (k3 .put2 .ensures)
+
+pub type-line-spec : {M : Type 1} → statement M
+type-line-spec =
+    tie.close (tie.spec slice-aggregate-put put-requires name-requires slice-aggregate-put-2 put-requires-2 same-length returns)
