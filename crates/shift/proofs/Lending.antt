@@ -71,7 +71,7 @@ refused-passed e = let z : _≡_ {A = ℕ} 0 1 = cc in omega arith
 
 an-int : {s : State.State} {t : Ty} {v : Value} {z : ℤ} → OfType s t v → v ≡ number z → in-range z ≡ true
 an-int (of-int {z = y} r) e = subst (λ (z : ℤ). in-range z ≡ true) (cc) r
-an-int of-float e = let z : _≡_ {A = ℕ} 0 1 = cc in absurd (omega arith)
+an-int (of-float h) e = let z : _≡_ {A = ℕ} 0 1 = cc in absurd (omega arith)
 an-int of-bool e = let z : _≡_ {A = ℕ} 0 1 = cc in absurd (omega arith)
 an-int of-unit e = let z : _≡_ {A = ℕ} 0 1 = cc in absurd (omega arith)
 an-int (of-freed a b h) e = let z : _≡_ {A = ℕ} 0 1 = cc in absurd (omega arith)
