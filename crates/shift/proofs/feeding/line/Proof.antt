@@ -10,7 +10,10 @@ none-requires : tie.Need-none-requires
 none-requires c κs = search needs
 
 add-requires : tie.Need-add-requires
-add-requires c κs = search needs
+add-requires c κs =
+    let at-come = c .before .before .before .before .before .before .before in
+    let x = at-come .before .before .before .before .before .before .before .before .before .pre .0 in
+    at-come .come .ensures (x .edition) (x .book) (x .ready) .small
 
 same-length : tie.Need-same-length
 same-length c = search needs
