@@ -16,3 +16,9 @@ pub mod Knowing
 pub mod Profiling
 pub mod PayDemands
 pub mod BothEditions
+pub mod Revalued
+pub mod Laying
+pub mod Relaid
+pub mod BookCalls
+pub mod Preparing
+pub mod Calling

@@ -17,7 +17,7 @@ use Rattle.runner.specs.Contract as Runner
 use Rattle.runner.specs.declared.Done.{Done}
 use Rattle.runner.specs.declared.Spent as spent
 use Rattle.grumpy.specs.Outcomes.{Told, Executed}
-use Rattle.grumpy.specs.declared.outcomes.Ending.{Ending}
+use Rattle.grumpy.specs.declared.answers.Ending.{Ending}
 
 -- ---- no more units are left than were allowed
 

@@ -32,7 +32,7 @@ use Rattle.grumpy.specs.Reports.{checked-report, ran-report}
 use Rattle.grumpy.specs.Outcomes.{ending-meant, printed-in, Executed, ran-of, Ready, Runnable, Reported, Answered}
 use Rattle.grumpy.specs.declared.answers.Checked as checked
 use Rattle.grumpy.specs.declared.answers.Ran.{Ran}
-use Rattle.grumpy.specs.declared.outcomes.Ending.{Ending}
+use Rattle.grumpy.specs.declared.answers.Ending.{Ending}
 use Rattle.grumpy.proofs.Leaving.{checked-left, ran-left}
 use Rattle.grumpy.proofs.Resolving.{resolved-rest}
 

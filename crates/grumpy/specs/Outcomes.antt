@@ -25,7 +25,7 @@ use Rattle.sheets.specs.declared.Form.{Form}
 use Rattle.sheets.specs.declared.Seen.{Seen}
 use Rattle.grumpy.specs.Reports.{ran-report}
 use Rattle.grumpy.specs.declared.answers.Ran.{Ran}
-use Rattle.grumpy.specs.declared.outcomes.Ending.{Ending}
+use Rattle.grumpy.specs.declared.answers.Ending.{Ending}
 
 -- ---- a program that is run
 

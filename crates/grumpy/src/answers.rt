@@ -29,6 +29,22 @@ pub enum Ran {
     Refused(Refusal, usize),
 }
 
+// How a program ends: a value, or a stop and the token it is told at; with the units
+// used and the bytes printed.
+pub enum Ending {
+    Value {
+        value: Value,
+        units: u32,
+        printed: usize,
+    },
+    Stopped {
+        why: Stop,
+        at: u32,
+        units: u32,
+        printed: usize,
+    },
+}
+
 // How many bytes were written, or a refusal and the byte it is told at.
 pub enum Wrote {
     Written(usize),

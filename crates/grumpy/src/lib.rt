@@ -17,6 +17,7 @@ ghost use Rattle.grumpy.specs.Reports.{checked-report, ran-report, wrote
 ghost use Rattle.grumpy.specs.Reports.{pair-checked-report, pair-ran-report, pair-profiled-report};
 
 pub mod answers;
+pub mod calls;
 mod outcomes;
 mod places;
 mod profilings;

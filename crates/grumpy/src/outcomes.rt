@@ -6,35 +6,18 @@ ghost use Rattle.language.specs.Sizes.{TOKENS, TABLE, WORK};
 ghost use Rattle.layout.specs.Table.{zeros};
 ghost use Rattle.runner.specs.Contract.{Loaded};
 ghost use Rattle.grumpy.specs.Outcomes.{Executed, ran-of, Runnable, Answered};
+use crate::answers::Ending;
 use crate::answers::Ran;
 use language::WORK;
 use layout::Held;
 use layout::memory;
-use layout::values::Value;
 use numbers::Refusal;
-use numbers::Stop;
 use runner::Done;
 use sheets::Form;
 use sheets::Seen;
 
-// How a program ends: a value, or a stop and the token it is told at; with the units
-// used and the bytes printed.
-enum Ending {
-    Value {
-        value: Value,
-        units: u32,
-        printed: usize,
-    },
-    Stopped {
-        why: Stop,
-        at: u32,
-        units: u32,
-        printed: usize,
-    },
-}
-
 // Runs the program that the table holds.
-fn execute(table: &[u32], work: &mut [u32], out: &mut [u8], program: Held, allowance: u32) -> Ending
+pub fn execute(table: &[u32], work: &mut [u32], out: &mut [u8], program: Held, allowance: u32) -> Ending
     requires { ⌜ Loaded (now table) (now work) program allowance ⌝ }
     ensures { λ r. ⌜ Executed (now (table .entry)) (now (work .entry)) (now (out .entry)) (now (work .exit))
         (now (out .exit)) program allowance r ⌝ }

@@ -6,43 +6,36 @@ use lib.Signed.{mag}
 use mathlib.Core.Bool.{Bool, true, false, cond}
 use mathlib.Core.List.{List, []}
 use mathlib.Core.Logic.{inl, inr}
-use mathlib.Core.Path.{_≡_, refl, sym, subst, _∙_}
+use mathlib.Core.Path.{_≡_, refl, sym, ap, subst, _∙_}
 use borrow.Author.Tests.{leb-true}
 use native.Mathlib.Omega.{arith}
 use Prim.Native.Nat.{ℕ, _≤_, _<_}
 use Rattle.language.specs.Sizes.{LARGEST, TABLE, WORK}
-use Rattle.language.specs.State.{Stop, float, flag, nothing, cell, number}
+use Rattle.language.specs.State.{float, flag, nothing, cell, number}
 use Rattle.language.specs.State as State
 use Rattle.language.specs.Meaning.{in-range}
-use Rattle.language.specs.Numbers.{Refusal, Told, passed, refused, stopped}
-use Rattle.language.specs.Answers.{Lent, Run, left}
-use Rattle.language.specs.Edition.{pair-in}
-use Rattle.language.specs.Shift.{Job, call-of, runs-to-stop, runs-to-pay}
-use Rattle.language.proofs.Answers.Editions.{pair-in-lawful}
-use Rattle.language.proofs.Shift.LineOutcomes.{Admitted, admitted, Ended, never-refused, passed-stop}
-use Rattle.shift.proofs.Lending.{SameRun, ran-lent}
+use Rattle.language.specs.Numbers.{passed}
+use Rattle.language.specs.Answers.{Lent, Enough}
+use Rattle.language.specs.Shift.{Job, runs-to-stop, runs-to-pay}
+use Rattle.language.proofs.Shift.LineOutcomes.{Admitted, Ended, never-refused, passed-stop}
 use Rattle.language.proofs.Shift.Totals.{range-mag}
 use Rattle.layout.specs.declared.values.Value.{Value}
 use Rattle.layout.specs.Values as Values
-use Rattle.numbers.specs.declared.Stop as Code
-use Rattle.grumpy.specs.declared.answers.PairRan.{PairRan}
-use Rattle.grumpy.specs.Reports.{pair-ran-report}
-use Rattle.grumpy.proofs.Leaving.{ran-left}
+use Rattle.layout.specs.Table.{zeros}
+use Rattle.layout.specs.declared.Held.{Held}
+use Rattle.layout.proofs.Wiped.{zeros-cleared}
+use Rattle.grumpy.specs.Calls.{Prepared, Callable, CallRan, Called}
+use Rattle.grumpy.specs.Outcomes.{ending-meant}
+use Rattle.grumpy.specs.declared.answers.Ending.{Ending}
+use Rattle.grumpy.proofs.Calling.{laid-rest, prepared-on}
 use Rattle.tally.specs.Parts.{job-told}
 use Rattle.tally.specs.declared.lines.Part.{Part}
 use Rattle.tally.specs.declared.lines.Job as Line
 use Rattle.tally.specs.declared.sums.Outcome.{Outcome}
-use Rattle.shift.specs.Meanings.{lent}
-use Rattle.shift.specs.Feeding.{Lends, ended-as, Leaves, Ran, Came}
+use Rattle.shift.specs.Feeding.{Ready, ReadyForSome, ended-as, Leaves, Ran, RanForAny, CameForAny}
 use Rattle.shift.specs.Taking.{needed, ends-bad, ends-run}
 
 -- ---- the end of a run
-
-refused-passed : {r : Refusal} → _≡_ {A = Told} (refused r) passed → ⊥
-refused-passed e = let z : _≡_ {A = ℕ} 0 1 = cc in omega arith
-
-refused-stopped : {r : Refusal} {s : Stop} → _≡_ {A = Told} (refused r) (stopped s) → ⊥
-refused-stopped e = let z : _≡_ {A = ℕ} 0 1 = cc in omega arith
 
 float-number : {x : _} {z : ℤ} → _≡_ {A = State.Value} (float x) (number z) → ⊥
 float-number e = let z : _≡_ {A = ℕ} 0 1 = cc in omega arith
@@ -62,85 +55,87 @@ one-int e = cc
 small-int : (z : ℤ) → in-range z ≡ true → mag z < 2147483648
 small-int z r = omega (arith, range-mag z r)
 
-module _ (ed : ℕ) (book table work out : List ℕ) (allowance : ℕ) (lends : Lends ed book table work out allowance) where
+module _ (ed : ℕ) (book : List ℕ) (P : Held) (table work out : List ℕ) (allowance : ℕ) (ready : Ready ed book P table work allowance) where
+  -- what each line is lent
   abbrev l : Lent
-  l = lent table work (length out) allowance
+  l = needed (length out) allowance
 
-  ready : Admitted ed book l
-  ready = admitted (lends .admits) refl
+  enough : Enough l
+  enough = record { table = omega arith; work = omega arith }
 
-  -- what each line is lent of it
-  abbrev k : Lent
-  k = needed (length out) allowance
-
-  as-needed : SameRun l k
-  as-needed = record {
-    enough = ready .enough;
-    also = record { table = omega arith; work = omega arith };
-    output = refl;
-    allowance = refl;
+  book-admitted : Admitted ed book l
+  book-admitted = record {
+    enough = enough;
+    fair = ready .fair;
+    calls = λ j p q. let h = ready .prepared .calls j p q in (h .tokens, h .program, h .passes);
   }
 
   module _ (j : Job) (p : j .picks ≤ LARGEST) (q : j .rate ≤ LARGEST) (table′ work′ out′ : List ℕ) where
-    abbrev Ends : PairRan → Type 0
-    Ends r = Run (pair-in ed book (call-of j)) table work out allowance (pair-ran-report r) table′ work′ out′
+    abbrev Ends : Ending → Type 0
+    Ends r = Called table work out table′ work′ out′ P j allowance r
 
-    leaves : (r : PairRan) → (x : Ends r) → Leaves table work out (x .printed) table′ work′ out′
-    leaves r x =
-        let z = ran-left (pair-in-lawful ed book (call-of j)) (ready .enough) (x .answer) in
-        record {
-          table-same = x .table-left ∙ z TABLE table ∙ lends .table-clear;
-          work-same = x .work-left ∙ z WORK work ∙ lends .work-clear;
-          output = x .output-left;
-        }
+    so : (r : Ending) → Ends r → CallRan ed book j l out out′ r
+    so r x = x .told ed book l (ready .prepared) enough refl refl
 
-    ended-so : (r : PairRan) → Ends r → Ended (pair-ran-report r .told) (pair-ran-report r .value)
-    ended-so r x = never-refused ready p q (x .answer)
+    leaves : (r : Ending) (x : Ends r) → Leaves ed book P table work out (so r x .printed) table′ work′ out′
+    leaves r x = record {
+      prepared = subst (λ (w : List ℕ). Prepared ed book w P) (sym (x .numbers)) (prepared-on P j table (ready .prepared));
+      table-rest = ap (λ (w : List ℕ). zeros w 0 TABLE) (x .numbers) ∙ laid-rest P j table (ready .prepared .six) (ready .prepared .few);
+      work-same = x .cleared ∙ zeros-cleared WORK work (ready .long) ∙ ready .work-clear;
+      output = so r x .output;
+    }
 
-    Pays : PairRan → Type 0
-    Pays r = Ran ed book k j table work out (ended-as r) table′ work′ out′
+    ended-so : (r : Ending) (x : Ends r) → Ended (ending-meant r (so r x .printed) .told) (ending-meant r (so r x .printed) .value)
+    ended-so r x = never-refused book-admitted p q (so r x .ran)
 
-    value-so : (t : ℕ) (v : Value) (u n : ℕ) → Ends (PairRan.Value t v u n) → (z : ℤ) → Values.meant v ≡ number z → in-range z ≡ true
-        → Pays (PairRan.Value t v u n)
+    Pays : Ending → Type 0
+    Pays r = Ran ed book l j P table work out (ended-as r) table′ work′ out′
+
+    value-so : (v : Value) (u n : ℕ) → Ends (Ending.Value v u n) → (z : ℤ) → Values.meant v ≡ number z → in-range z ≡ true
+        → Pays (Ending.Value v u n)
     unfolding Pays
-    value-so t (Value.Int y) u n x z e r = record {
-      printed = x .printed;
-      runs = runs-to-pay (ran-lent as-needed (x .answer)) refl refl;
+    value-so (Value.Int y) u n x z e r = record {
+      printed = so (Ending.Value (Value.Int y) u n) x .printed;
+      runs = runs-to-pay (so (Ending.Value (Value.Int y) u n) x .ran) refl refl;
       small = small-int _ (subst (λ (z : ℤ). in-range z ≡ true) (one-int e) r);
-      leaves = leaves (PairRan.Value t (Value.Int y) u n) x;
+      leaves = leaves (Ending.Value (Value.Int y) u n) x;
     }
-    value-so t (Value.Float y) u n x z e r = absurd (float-number e)
-    value-so t (Value.Flag b) u n x z e r = absurd (flag-number e)
-    value-so t Value.Nothing u n x z e r = absurd (nothing-number e)
-    value-so t (Value.Cell c) u n x z e r = absurd (cell-number e)
+    value-so (Value.Float y) u n x z e r = absurd (float-number e)
+    value-so (Value.Flag b) u n x z e r = absurd (flag-number e)
+    value-so Value.Nothing u n x z e r = absurd (nothing-number e)
+    value-so (Value.Cell c) u n x z e r = absurd (cell-number e)
 
-    pays-so : (r : PairRan) → Ends r → Pays r
+    pays-so : (r : Ending) → Ends r → Pays r
     unfolding Pays
-    pays-so (PairRan.Value t v u n) x = by (ended-so (PairRan.Value t v u n) x)
+    pays-so (Ending.Value v u n) x = by (ended-so (Ending.Value v u n) x)
       where
-        by : Ended passed (Values.meant v) → Pays (PairRan.Value t v u n)
-        by (inl e) = value-so t v u n x (e .1) (e .2) (e .3)
+        by : Ended passed (Values.meant v) → Pays (Ending.Value v u n)
+        by (inl e) = value-so v u n x (e .1) (e .2) (e .3)
         by (inr e) = absurd (passed-stop (e .1))
-    pays-so (PairRan.Stopped y s t u n) x = record {
-      printed = x .printed;
-      runs = runs-to-stop (ran-lent as-needed (x .answer)) refl;
+    pays-so (Ending.Stopped y i u n) x = record {
+      printed = so (Ending.Stopped y i u n) x .printed;
+      runs = runs-to-stop (so (Ending.Stopped y i u n) x .ran) refl;
       small = tt;
-      leaves = leaves (PairRan.Stopped y s t u n) x;
+      leaves = leaves (Ending.Stopped y i u n) x;
     }
-    pays-so (PairRan.Refused y s) x = absurd (by (ended-so (PairRan.Refused y s) x))
-      where
-        by : {r : Refusal} {v : State.Value} → Ended (refused r) v → ⊥
-        by (inl e) = refused-passed (e .0)
-        by (inr e) = refused-stopped (e .1)
 
-    -- the call that was lent is the one of the job
-    pub ran-so : (second : List ℕ) (r : PairRan) (o : Outcome) → second ≡ call-of j
-        → Run (pair-in ed book second) table work out allowance (pair-ran-report r) table′ work′ out′ → o ≡ ended-as r
-        → Ran ed book k j table work out o table′ work′ out′
+    pub ran-so : (r : Ending) (o : Outcome) → Called table work out table′ work′ out′ P j allowance r → o ≡ ended-as r
+        → Ran ed book (needed (length out) allowance) j P table work out o table′ work′ out′
     unfolding Pays
-    ran-so second r o e x f =
-        subst (λ (o : Outcome). Ran ed book k j table work out o table′ work′ out′) (sym f)
-        (pays-so r (subst (λ (s : List ℕ). Run (pair-in ed book s) table work out allowance (pair-ran-report r) table′ work′ out′) e x))
+    ran-so r o x f = subst (λ (o : Outcome). Ran ed book l j P table work out o table′ work′ out′) (sym f) (pays-so r x)
+
+-- a book that is ready can be called
+pub ready-callable : (P : Held) (table work : List ℕ) (allowance : ℕ) (j : Job) → ReadyForSome P table work allowance → j .picks ≤ LARGEST
+    → j .rate ≤ LARGEST → Callable table work P j allowance
+ready-callable P table work allowance j x p q = record {
+  edition = x .edition;
+  book = x .book;
+  prepared = x .ready .prepared;
+  picks = p;
+  rate = q;
+  long = x .ready .long;
+  allowed = x .ready .fair;
+}
 
 -- ---- a line
 
@@ -169,16 +164,18 @@ good-small p k a b e f =
         let s = both-good e in
         (subst (λ (n : ℕ). n ≤ LARGEST) (s .0) (leb-true _ _ g), subst (λ (n : ℕ). n ≤ LARGEST) (s .1) (leb-true _ _ h))
 
-module _ (ed : ℕ) (book : List ℕ) (l : Lent) (table work out : List ℕ) (part : Part) (k : Line.Job) (told : k ≡ job-told part) where
+module _ (P : Held) (table work out : List ℕ) (allowance : ℕ) (part : Part) (k : Line.Job) (told : k ≡ job-told part) where
   pub came-good : (a b : ℕ) (o : Outcome) (table′ work′ out′ : List ℕ) → k ≡ Line.Job.Good a b
-      → Ran ed book l record { picks = a; rate = b } table work out o table′ work′ out′ → Came ed book l part table work out o table′ work′ out′
-  came-good a b o table′ work′ out′ e r =
+      → RanForAny P record { picks = a; rate = b } table work out allowance o table′ work′ out′
+      → CameForAny P part table work out allowance o table′ work′ out′
+  came-good a b o table′ work′ out′ e ran ed book x =
+      let r = ran ed book x in
       record { printed = r .printed; ends = ends-run (sym told ∙ e) (r .runs); small = r .small; leaves = r .leaves }
 
-  pub came-bad : k ≡ Line.Job.Bad → Came ed book l part table work out Outcome.Bad table work out
-  came-bad e = record {
+  pub came-bad : k ≡ Line.Job.Bad → CameForAny P part table work out allowance Outcome.Bad table work out
+  came-bad e ed book x = record {
     printed = [];
     ends = ends-bad (sym told ∙ e);
     small = tt;
-    leaves = record { table-same = refl; work-same = refl; output = refl };
+    leaves = record { prepared = x .prepared; table-rest = refl; work-same = refl; output = refl };
   }

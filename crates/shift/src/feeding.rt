@@ -2,15 +2,18 @@
 ghost use mathlib.Core.List.{_∷_, []};
 ghost use mathlib.Core.Path.{_≡_};
 ghost use Prim.Native.Nat.{_≤_};
-ghost use lib.ListN.{length};
 ghost use Rattle.language.specs.Sizes.{LARGEST};
-ghost use Rattle.shift.specs.Feeding.{Lends, paid-as, ended-as, Ran, Came, Goes};
-ghost use Rattle.shift.specs.Taking.{needed, Going, with-byte, overfull};
+ghost use Rattle.shift.specs.Feeding.{Lends, ReadyForSome, paid-as, ended-as, RanForAny, CameForAny};
+ghost use Rattle.shift.specs.Feeding.{GoesForAny, Goes};
+ghost use Rattle.shift.specs.Taking.{Going, with-byte, overfull};
 use crate::State;
-use grumpy::answers::PairRan;
+use grumpy::answers::Ending;
+use grumpy::calls;
+use language::TABLE;
+use layout::Held;
+use layout::memory;
 use layout::values::Value;
 use tally::LINES;
-use tally::calls;
 use tally::lines;
 use tally::lines::Job;
 use tally::lines::Part;
@@ -30,32 +33,28 @@ fn paid(value: Value) -> Outcome
     }
 }
 
-// What the end of a run is counted as. A book that was admitted is not refused.
-fn ended(ran: PairRan) -> Outcome
-    ensures { λ r. ⌜ r ≡ ended-as ran ⌝ }
+// What the end of a run is counted as.
+fn ended(ending: Ending) -> Outcome
+    ensures { λ r. ⌜ r ≡ ended-as ending ⌝ }
 {
-    match ran {
-        PairRan::Value {
-            type_number: _,
+    match ending {
+        Ending::Value {
             value,
             units: _,
             printed: _,
         } => paid(value),
-        PairRan::Stopped {
+        Ending::Stopped {
             why,
-            spot: _,
-            type_number: _,
+            at: _,
             units: _,
             printed: _,
         } => Outcome::Stopped(why),
-        PairRan::Refused(_, _) => Outcome::Bad,
     }
 }
 
 // A good line runs the book with its call.
 fn run(
-    edition: u32,
-    book: &[u8],
+    program: Held,
     picks: u32,
     rate: u32,
     table: &mut [u32],
@@ -63,58 +62,44 @@ fn run(
     out: &mut [u8],
     allowance: u64,
 ) -> Outcome
-    requires { ⌜ Lends edition (now book) (now table) (now work) (now out) allowance × (picks ≤ LARGEST) ×
-        (rate ≤ LARGEST) ⌝ }
+    requires { ⌜ ReadyForSome program (now table) (now work) allowance × (picks ≤ LARGEST) × (rate ≤ LARGEST) ⌝ }
     ensures { λ r.
-        ⌜ Ran edition (now (book .entry)) (needed (length (now (out .entry))) allowance)
-        record { picks = picks; rate = rate } (now (table .entry)) (now (work .entry)) (now (out .entry)) r
-        (now (table .exit)) (now (work .exit)) (now (out .exit)) ⌝ }
+        ⌜ RanForAny program record { picks = picks; rate = rate } (now (table .entry)) (now (work .entry))
+        (now (out .entry)) allowance r (now (table .exit)) (now (work .exit)) (now (out .exit)) ⌝ }
 {
-    let call = calls::call(picks, rate);
-    let text = call.text;
-    let n = call.len;
-    ended(grumpy::run_pair(edition, book, &text[..n], table, work, out, allowance))
+    ended(calls::call(table, work, out, program, picks, rate, allowance))
 }
 
 // A line that has ended, of which so much was kept.
 fn come(
-    edition: u32,
-    book: &[u8],
+    program: Held,
     part: Part,
     table: &mut [u32],
     work: &mut [u32],
     out: &mut [u8],
     allowance: u64,
 ) -> Outcome
-    requires { ⌜ Lends edition (now book) (now table) (now work) (now out) allowance ⌝ }
+    requires { ⌜ ReadyForSome program (now table) (now work) allowance ⌝ }
     ensures { λ r.
-        ⌜ Came edition (now (book .entry)) (needed (length (now (out .entry))) allowance) part
-        (now (table .entry)) (now (work .entry)) (now (out .entry)) r (now (table .exit)) (now (work .exit))
-        (now (out .exit)) ⌝ }
+        ⌜ CameForAny program part (now (table .entry)) (now (work .entry)) (now (out .entry)) allowance r
+        (now (table .exit)) (now (work .exit)) (now (out .exit)) ⌝ }
 {
     match lines::ended(part) {
-        Job::Good { picks, rate } => run(edition, book, picks, rate, table, work, out, allowance),
+        Job::Good { picks, rate } => run(program, picks, rate, table, work, out, allowance),
         Job::Bad => Outcome::Bad,
     }
 }
 
 // The LF of a line: one line more is summed up.
-fn line(
-    edition: u32,
-    book: &[u8],
-    table: &mut [u32],
-    work: &mut [u32],
-    out: &mut [u8],
-    state: State,
-) -> State
-    requires { ⌜ Lends edition (now book) (now table) (now work) (now out) (state .allowance) × Going state ⌝ }
+fn line(program: Held, table: &mut [u32], work: &mut [u32], out: &mut [u8], state: State) -> State
+    requires { ⌜ ReadyForSome program (now table) (now work) (state .allowance) × Going state ⌝ }
     ensures { λ r.
-        ⌜ Goes edition (now (book .entry)) (10 ∷ []) (now (table .entry)) (now (work .entry)) (now (out .entry)) state
+        ⌜ GoesForAny program (10 ∷ []) (now (table .entry)) (now (work .entry)) (now (out .entry)) state
         r (now (table .exit)) (now (work .exit)) (now (out .exit)) ⌝ }
 {
     let part = state.part;
     let before = state.sums;
-    let outcome = come(edition, book, part, table, work, out, state.allowance);
+    let outcome = come(program, part, table, work, out, state.allowance);
     let mut n = state;
     n.part = lines::none();
     n.sums = sums::add(before, outcome);
@@ -141,17 +126,16 @@ fn filled(state: State) -> State
 
 // One byte more.
 fn byte(
-    edition: u32,
-    book: &[u8],
+    program: Held,
     b: u8,
     table: &mut [u32],
     work: &mut [u32],
     out: &mut [u8],
     state: State,
 ) -> State
-    requires { ⌜ Lends edition (now book) (now table) (now work) (now out) (state .allowance) ⌝ }
+    requires { ⌜ ReadyForSome program (now table) (now work) (state .allowance) ⌝ }
     ensures { λ r.
-        ⌜ Goes edition (now (book .entry)) (b ∷ []) (now (table .entry)) (now (work .entry)) (now (out .entry)) state r
+        ⌜ GoesForAny program (b ∷ []) (now (table .entry)) (now (work .entry)) (now (out .entry)) state r
         (now (table .exit)) (now (work .exit)) (now (out .exit)) ⌝ }
 {
     if state.over {
@@ -162,12 +146,12 @@ fn byte(
         return filled(state);
     }
     if b == b'\n' {
-        return line(edition, book, table, work, out, state);
+        return line(program, table, work, out, state);
     }
     within(state, b)
 }
 
-// All bytes of a piece.
+// All bytes of a piece: the book is read once, and the table cleared at the end.
 pub fn bytes(
     edition: u32,
     book: &[u8],
@@ -182,11 +166,13 @@ pub fn bytes(
         ⌜ Goes edition (now (book .entry)) (now (piece .entry)) (now (table .entry)) (now (work .entry))
         (now (out .entry)) state r (now (table .exit)) (now (work .exit)) (now (out .exit)) ⌝ }
 {
+    let program = calls::prepare(edition, book, table);
     let mut so_far = state;
     let mut i = 0;
     while i < piece.len() {
-        so_far = byte(edition, book, piece[i], table, work, out, so_far);
+        so_far = byte(program, piece[i], table, work, out, so_far);
         i += 1;
     }
+    memory::clear(table, 0, TABLE);
     so_far
 }

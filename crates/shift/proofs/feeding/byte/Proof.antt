@@ -5,17 +5,17 @@ use Rattle.shift.proofs.feeding.byte.Tie as tie
 
 returns : tie.Need-returns
 returns c =
-    let a = c .before .before .before .before .before .args in
-    goes-past (a .edition) (a .book .now) (a .table .now) (a .work .now) (a .out .now) (a .state) (a .b) (c .if1 .taken)
+    let a = c .before .before .before .before .args in
+    goes-past (a .program) (a .table .now) (a .work .now) (a .out .now) (a .state) (a .b) (c .if1 .taken)
 
 filled-requires : tie.Need-filled-requires
 filled-requires c κs = search needs
 
 returns-2 : tie.Need-returns-2
 returns-2 c =
-    let start = c .before .before .before .before .before .before .before in
+    let start = c .before .before .before .before .before .before in
     let a = start .args in
-    goes-full (a .edition) (a .book .now) (a .table .now) (a .work .now) (a .out .now) (a .state) (a .b) (c .filled .result)
+    goes-full (a .program) (a .table .now) (a .work .now) (a .out .now) (a .state) (a .b) (c .filled .result)
     (c .before .before .if1 .left) (c .before .if2 .taken) (c .filled .ensures)
 
 line-requires : tie.Need-line-requires
@@ -34,9 +34,9 @@ returns-3 : tie.Need-returns-3
 returns-3 c =
     let at-line = c .before .before .before .before .before .before in
     let at-if3 = at-line .before .before .before .before in
-    let start = at-if3 .before .before .before .before .before .before .before in
+    let start = at-if3 .before .before .before .before .before .before in
     let a = start .args in
-    goes-feed (a .edition) (a .book .now) (a .table .now) (a .work .now) (a .out .now) (a .state) (a .b) (at-line .line .result) _ _ _
+    goes-feed (a .program) (a .table .now) (a .work .now) (a .out .now) (a .state) (a .b) (at-line .line .result) _ _ _
     (at-if3 .if3 .taken) (at-line .line .ensures)
 
 within-requires : tie.Need-within-requires
@@ -45,9 +45,9 @@ within-requires c κs = search needs
 returns-4 : tie.Need-returns-4
 returns-4 c =
     let at-if1 = c .before .before .before in
-    let start = at-if1 .before .before .before .before .before in
+    let start = at-if1 .before .before .before .before in
     let a = start .args in
-    goes-byte (a .edition) (a .book .now) (a .table .now) (a .work .now) (a .out .now) (a .state) (a .b) (c .within .result) (at-if1 .if1 .left)
+    goes-byte (a .program) (a .table .now) (a .work .now) (a .out .now) (a .state) (a .b) (c .within .result) (at-if1 .if1 .left)
     (c .before .before .if2 .left) (c .before .if3 .left) (c .within .ensures)
 
 pub byte-spec : {M : Type 1} → statement M

@@ -13,7 +13,7 @@ run-requires : tie.Need-run-requires
 run-requires c κs =
     let at-picks = c .before .before .before .before in
     let at-ended = at-picks .before .before in
-    let start = at-ended .before .before .before .before .before in
+    let start = at-ended .before .before .before .before in
     let s = good-small _ (at-ended .ended .result) _ _ (at-ended .ended .ensures) (at-picks .picks .given .1) in (start .pre, s .0, s .1)
 
 enum-told : tie.Need-enum-told
@@ -33,16 +33,16 @@ returns c =
     let at-run = c .before .before .before .before .before .before in
     let at-picks = at-run .before .before .before .before .before in
     let at-ended = at-picks .before .before in
-    let start = at-ended .before .before .before .before .before in
+    let start = at-ended .before .before .before .before in
     let a = start .args in
-    came-good (a .edition) (a .book .now) _ (a .table .now) (a .work .now) (a .out .now) (a .part) (at-ended .ended .result)
+    came-good (a .program) (a .table .now) (a .work .now) (a .out .now) (a .allowance) (a .part) (at-ended .ended .result)
     (at-ended .ended .ensures) _ _ (at-run .run .result) _ _ _ (at-picks .picks .given .1) (at-run .run .ensures)
 
 returns-2 : tie.Need-returns-2
 returns-2 c =
-    let start = c .before .before .before .before .before .before .before in
+    let start = c .before .before .before .before .before .before in
     let a = start .args in
-    came-bad (a .edition) (a .book .now) _ (a .table .now) (a .work .now) (a .out .now) (a .part) (c .before .before .ended .result)
+    came-bad (a .program) (a .table .now) (a .work .now) (a .out .now) (a .allowance) (a .part) (c .before .before .ended .result)
     (c .before .before .ended .ensures) (c .enum-told .given .1)
 
 pub come-spec : {M : Type 1} → statement M

@@ -10,7 +10,10 @@ none-requires : tie.Need-none-requires
 none-requires c κs = search needs
 
 add-requires : tie.Need-add-requires
-add-requires c κs = search needs
+add-requires c κs =
+    let at-come = c .before .before .before .before .before .before .before in
+    let x = at-come .before .before .before .before .before .before .before .before .before .pre .0 in
+    at-come .come .ensures (x .edition) (x .book) (x .ready) .small
 
 same-length : tie.Need-same-length
 same-length c = search needs
@@ -23,12 +26,10 @@ same-length-3 c = search needs
 
 returns : tie.Need-returns
 returns c =
-    let earlier = c .before .before .before .before .before .before .before in
-    let at-come = earlier .before in
-    let earlier-2 = at-come .before .before .before .before .before .before .before in
-    let start = earlier-2 .before .before .before in
+    let at-come = c .before .before .before .before .before .before .before .before in
+    let start = at-come .before .before .before .before .before .before .before .before .before in
     let a = start .args in
-    goes-line (a .edition) (a .book .now) (a .table .now) (a .work .now) (a .out .now) (a .state) (at-come .come .result) _ _ _ _ _ (start .pre .1)
+    goes-line (a .program) (a .table .now) (a .work .now) (a .out .now) (a .state) (at-come .come .result) _ _ _ _ _ (start .pre .1)
     (at-come .come .ensures) (c .before .none .ensures) (c .add .ensures)
 
 pub line-spec : {M : Type 1} → statement M
