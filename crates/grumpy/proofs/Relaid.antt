@@ -158,7 +158,7 @@ module _ {count : ℕ} {ts ts′ : List Token} {w w′ : List ℕ} (l : Laid cou
       placed-anew (owned-counted {i} {e = f} a e o q) L p = (
         all-placed o L (p .0),
         subst (λ (x : ℕ). Placed w′ w′ defs (counting x L) (anew v f)) (sym (l .names (i + 1) a))
-        (placed-anew q (counting (token-value w (i + 1)) L) (p .1)),
+            (placed-anew q (counting (token-value w (i + 1)) L) (p .1)),
       )
 
       all-placed : {es : Exps} → OwnedAll ts es → (L : List ℕ) → PlacedAll w w defs L es → PlacedAll w′ w′ defs L (all-anew v es)
