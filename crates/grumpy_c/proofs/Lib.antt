@@ -11,3 +11,4 @@ pub mod OneShift
 pub mod ToldCombined
 pub mod PartsWhole
 pub mod AnyWords
+pub mod Exported
