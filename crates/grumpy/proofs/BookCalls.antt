@@ -126,8 +126,13 @@ module _ (n : ℕ) (book : List ℕ) (x : Admissible n book) where
       omega (arith, joined-length book (call-of j), joined-length book LARGEST-CALL, no-longer j, most .short)
       in
       let few : length (front ++ cs j pw rr) ≤ TOKENS =
-      omega (arith, most .splits .few, ap length most-is, length-append front (cs j pw rr),
-      length-append front (cs LARGEST-JOB (omega arith) (omega arith)))
+      omega (
+        arith,
+        most .splits .few,
+        ap length most-is,
+        length-append front (cs j pw rr),
+        length-append front (cs LARGEST-JOB (omega arith) (omega arith)),
+      )
       in
       passes-in n (pair-alike book (call-of j)) named (call-passes j pw rr short few)
 

@@ -17,7 +17,13 @@ use sheets::Form;
 use sheets::Seen;
 
 // Runs the program that the table holds.
-pub fn execute(table: &[u32], work: &mut [u32], out: &mut [u8], program: Held, allowance: u32) -> Ending
+pub fn execute(
+    table: &[u32],
+    work: &mut [u32],
+    out: &mut [u8],
+    program: Held,
+    allowance: u32,
+) -> Ending
     requires { ⌜ Loaded (now table) (now work) program allowance ⌝ }
     ensures { λ r. ⌜ Executed (now (table .entry)) (now (work .entry)) (now (out .entry)) (now (work .exit))
         (now (out .exit)) program allowance r ⌝ }
