@@ -1,24 +1,21 @@
 -- The two services for a book that is called for many jobs: from what was examined to a table that is prepared, and from that
 -- to the written run of a call.
 use mathlib.Core.List.{List}
-use mathlib.Core.Option.{some}
 use mathlib.Core.Path.{_≡_, refl, sym, ap, subst, _∙_}
-use Prim.Native.Nat.{ℕ, _+_, _-_, _*_, _≤_, _<_}
+use Prim.Native.Nat.{ℕ, _+_, _-_, _*_, _≤_}
 use native.Mathlib.Omega.{arith}
-use lib.ListN.{length, getD, set, length-set}
+use lib.ListN.{length, set, length-set}
 use lib.Seq.{getD-set-other, set-set, set-comm}
-use Rattle.language.specs.Sizes.{TOKENS, TABLE, WORK, ALLOWANCE, LARGEST}
+use Rattle.language.specs.Sizes.{TOKENS, TABLE, ALLOWANCE}
 use Rattle.language.specs.Tokens.{Token, spell}
-use Rattle.language.specs.Trees.{Ty, int, Program}
-use Rattle.language.specs.Numbers as Numbers
+use Rattle.language.specs.Trees.{int, Program}
 use Rattle.language.specs.Meaning.{run}
-use Rattle.language.specs.Answers as Answers
-use Rattle.language.specs.Answers.{Passes, Refused, by-origin, by-tokens, Lent, Enough, ending, after-run, run-ended}
+use Rattle.language.specs.Answers.{Passes, Lent, Enough, run-ended}
 use Rattle.language.specs.Edition.{text-in, pair-in}
-use Rattle.language.specs.Pairs.{Place, place-of, joined}
+use Rattle.language.specs.Pairs.{joined}
 use Rattle.language.specs.Shift.{Job, call-of, decimal-with}
 use Rattle.language.proofs.Answers.Origins.{Fate, passes, passes-is, not-both}
-use Rattle.language.proofs.Answers.Editions.{pair-in-lawful, text-in-lawful}
+use Rattle.language.proofs.Answers.Editions.{text-in-lawful}
 use Rattle.numbers.specs.declared.Refusal.{Refusal}
 use Rattle.layout.specs.Table.{zeros}
 use Rattle.layout.specs.Decode.{Holds}
@@ -28,7 +25,7 @@ use Rattle.resolver.specs.Resolves.{Resolvable, Resolves}
 use Rattle.runner.specs.Contract.{Loaded}
 use Rattle.sheets.specs.Sheets.{OfSource, Passing, Examined}
 use Rattle.sheets.specs.declared.Seen.{Seen}
-use Rattle.grumpy.specs.Outcomes.{ending-meant, Told, Executed}
+use Rattle.grumpy.specs.Outcomes.{Told, Executed}
 use Rattle.grumpy.specs.Calls.{Admissible, laid, HoldsCall, Prepared, Prepares, Callable, CallRan, Called}
 use Rattle.grumpy.specs.declared.answers.Ending.{Ending}
 use Rattle.grumpy.proofs.Resolving.{resolved-rest}

@@ -2,17 +2,16 @@
 -- one being worth that; it is spelled as before, since a table does not hold how a number is spelled.
 use mathlib.Core.Bool.{cond}
 use mathlib.Core.List.{List, [], _∷_, _++_}
-use mathlib.Core.Path.{_≡_, refl, sym, ap, subst, _∙_}
+use mathlib.Core.Path.{_≡_, refl, sym, ap, _∙_}
 use Prim.Native.Nat.{ℕ, zero, suc, _+_, _*_, _/_, _%_, _≤_, _<_}
 use native.Mathlib.Decide.{ℕ-discrete}
 use native.Mathlib.Omega.{arith}
-use borrow.Author.Tests.{eq-eqb}
-use lib.Dec.{ltb, eqb}
+use lib.Dec.{ltb}
 use lib.ListN.{length, getD, set, length-set}
 use lib.Seq.{getD-set-same, getD-set-other}
 use Rattle.language.specs.Sizes.{TOKENS, TABLE, LARGEST}
 use Rattle.language.specs.Tokens.{Spelling, Token, past, NAME, NUMBER, At, kind-at, value-at, spelling-at, place-at}
-use Rattle.layout.specs.Table.{ROWS-AT, SPANS, token-value, row-word, kind-of}
+use Rattle.layout.specs.Table.{ROWS-AT, SPANS, token-value, kind-of}
 use Rattle.layout.specs.Names.{first-from, name-number, value-word, high-word, Stand}
 use Rattle.grumpy.proofs.Revalued.{Rows}
 

@@ -1,29 +1,21 @@
 -- A book that was read with the call of two noughts under it: whatever numbers are laid in its table then, it holds the book
 -- with their call.
 use mathlib.Core.List.{List, [], _∷_, _++_}
-use mathlib.Core.Path.{_≡_, refl, sym, ap, ap₂, subst, _∙_}
+use mathlib.Core.Path.{_≡_, refl, sym, ap, subst, _∙_}
 use Prim.Native.Nat.{ℕ, zero, suc, _+_, _-_, _*_, _≤_, _<_}
-use native.Mathlib.Decide.{decLt}
 use native.Mathlib.Omega.{arith}
-use lib.ListN.{length, getD, set, length-append, length-set}
-use lib.Seq.{getD-append-add, getD-set-other, set-set, set-comm}
-use Rattle.language.specs.Sizes.{TOKENS, NODES, TABLE, LARGEST}
-use Rattle.language.specs.Tokens.{Token, past, At, kind-at, value-at, NUMBER}
-use Rattle.language.specs.Trees.{Ty, int, Program}
-use Rattle.language.specs.Answers.{Passes}
-use Rattle.language.specs.Edition.{text-in, pair-in}
-use Rattle.language.specs.Pairs.{joined}
-use Rattle.language.specs.Shift.{Job, decimal-with, call-of}
-use Rattle.language.proofs.Answers.Origins.{Fate, passes, passes-is, not-both}
-use Rattle.language.proofs.Answers.Editions.{pair-in-lawful}
+use lib.ListN.{length, getD, set, length-append}
+use lib.Seq.{getD-append-add}
+use Rattle.language.specs.Sizes.{NODES, LARGEST}
+use Rattle.language.specs.Tokens.{Token, past, At, kind-at, value-at}
+use Rattle.language.specs.Trees.{Program}
+use Rattle.language.specs.Shift.{Job}
 use Rattle.language.proofs.Shift.BookText.{led}
 use Rattle.language.proofs.Shift.CallText.{call-tokens}
-use Rattle.layout.specs.Table.{zeros}
 use Rattle.layout.specs.Rows.{below}
 use Rattle.layout.specs.Decode.{Holds}
 use Rattle.layout.specs.Resolved.{Resolved}
 use Rattle.layout.specs.declared.Held.{Held}
-use Rattle.layout.proofs.Clearing.{zeros-same}
 use Rattle.layout.proofs.Owned.{reading-owned}
 use Rattle.grumpy.specs.Calls.{laid, HoldsCall, Prepared}
 use Rattle.grumpy.proofs.Revalued.{anew, worth-anew}

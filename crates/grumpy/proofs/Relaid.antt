@@ -1,18 +1,15 @@
 -- A table whose numbers were laid anew holds the same program with other numbers, and what it notes of names and calls is
 -- still so.
-use mathlib.Core.Bool.{cond}
 use mathlib.Core.List.{List, [], _∷_}
-use mathlib.Core.Option.{some}
 use mathlib.Core.Path.{_≡_, refl, sym, ap, subst, _∙_}
-use Prim.Native.Nat.{ℕ, zero, suc, _+_, _*_, _≤_, _<_}
+use Prim.Native.Nat.{ℕ, zero, suc, _+_, _≤_, _<_}
 use native.Mathlib.Decide.{decLt}
 use native.Mathlib.Omega.{arith}
-use lib.Dec.{eqb}
-use lib.ListN.{length, getD}
-use Rattle.language.specs.Sizes.{NODES, TABLE}
+use lib.ListN.{length}
+use Rattle.language.specs.Sizes.{NODES}
 use Rattle.language.specs.Tokens.{Token, NAME, At, value-at}
 use Rattle.language.specs.Trees.{Exp, Exps, Param, Def, Program}
-use Rattle.layout.specs.Table.{OWN, BODY, ROWS-AT, FUNCTIONS-AT, token-value, row-word, function-row}
+use Rattle.layout.specs.Table.{OWN, BODY, FUNCTIONS-AT, token-value, row-word, function-row}
 use Rattle.layout.specs.Rows.{below}
 use Rattle.layout.specs.Functions.{function-name, find-function}
 use Rattle.layout.specs.Slots.{HELD}
@@ -22,7 +19,7 @@ use Rattle.layout.specs.Resolved.{slot-of, callee-row, row-or-nobody, parameter
 use Rattle.layout.specs.declared.Held.{Held}
 use Rattle.layout.proofs.Owned.{Owned, owned-name, owned-literal}
 use Rattle.layout.proofs.Owned.{owned-unary, owned-binary, owned-follow, owned-group, owned-block, owned-call, owned-bind, owned-branch}
-use Rattle.layout.proofs.Owned.{owned-loop, owned-counted, OwnedAll, owned-last, owned-more, OwnedDef, OwnedDefs, owned-end, owned-def}
+use Rattle.layout.proofs.Owned.{owned-loop, owned-counted, OwnedAll, owned-last, owned-more, OwnedDefs, owned-def}
 use Rattle.layout.proofs.Owned.{OwnedProgram}
 use Rattle.grumpy.proofs.Revalued.{anew, all-anew, anew-same, tree-anew, right-anew}
 use Rattle.grumpy.proofs.Laying.{Laid, laid-rows}

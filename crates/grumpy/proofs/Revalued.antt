@@ -4,10 +4,10 @@
 use mathlib.Core.Bool.{Bool, true, false, cond}
 use mathlib.Core.List.{List}
 use mathlib.Core.Option.{Option, none, some}
-use mathlib.Core.Path.{_≡_, refl, sym, ap, ap₂, _∙_}
+use mathlib.Core.Path.{_≡_, refl, sym, ap, _∙_}
 use Prim.Native.Nat.{ℕ, zero, suc, _+_}
 use lib.Dec.{T, eqb}
-use Rattle.language.specs.Tokens.{Token, At, kind-at, value-at, spelling-at}
+use Rattle.language.specs.Tokens.{Token, kind-at, value-at, spelling-at}
 use Rattle.language.specs.Decimals.{float-of}
 use Rattle.language.specs.Trees.{Literal, whole, truth, trivial, decimal, Exp, name, literal, unary, binary, follow, group}
 use Rattle.language.specs.Trees.{block, call, bind, branch, loop, counted, Exps, last, more}

@@ -1,5 +1,5 @@
--- A rule book that is read once and called for many jobs (R14.5): the contracts of `calls`. Vocabulary for `shift`, and for
--- nobody above it.
+-- A rule book that is read once and called for many jobs (R14.5): the contracts of `calls`. Vocabulary for `shift`,
+-- and for nobody above it.
 use mathlib.Core.List.{List, _++_}
 use mathlib.Core.Path.{_≡_}
 use Prim.Native.Nat.{ℕ, _+_, _-_, _*_, _≤_}
@@ -35,9 +35,9 @@ pub record Admissible (edition : ℕ) (book : List ℕ) : Type 0 where
 abbrev pub laid : Held → Job → List ℕ → List ℕ
 laid P j w = set (set w (4 * (P .count - 4) + 3) (j .picks)) (4 * (P .count - 2) + 3) (j .rate)
 
--- The table holds the book with the call of a job under it. The tokens that its words stand for are those of the call that
--- was read with the book, and only worth what the job's are: where a number is longer, what stands behind it begins at
--- another byte. So no byte of the call is told from this table.
+-- The table holds the book with the call of a job under it. The tokens that its words stand for are those of the call
+-- that was read with the book, and only worth what the job's are: where a number is longer, what stands behind it
+-- begins at another byte. So no byte of the call is told from this table.
 pub record HoldsCall (edition : ℕ) (book : List ℕ) (P : Held) (j : Job) (w : List ℕ) : Type 0 where
   pub tokens : List Token
   pub program : Program

@@ -1,5 +1,4 @@
 -- What one byte more, and bytes one after the other, promise: one law for each way through the code.
-use lib.Dec.{eqb}
 use lib.ListN.{length, take, getD}
 use lib.Seq.{take-suc, take-length}
 use mathlib.Core.Bool.{true, false, not}
@@ -27,7 +26,7 @@ use Rattle.tally.specs.declared.sums.Outcome.{Outcome}
 use Rattle.shift.specs.declared.State.{State}
 use Rattle.shift.specs.Meanings.{lent}
 use Rattle.shift.specs.Feeding.{Lends, Ready, CameForAny, GoesOn, GoesForAny, Goes}
-use Rattle.shift.specs.Taking.{EndedLine, printed-over, with-byte, overfull, Going, EndsNone, past, full, inside, Takes, takes-none}
+use Rattle.shift.specs.Taking.{printed-over, with-byte, overfull, Going, EndsNone, past, full, inside, Takes, takes-none}
 use Rattle.shift.specs.Taking.{takes-byte, takes-line}
 use Rattle.shift.proofs.Taken.{over-joined, takes-joined, takes-allowance}
 
