@@ -167,21 +167,21 @@ extern "C" {
  * search has found, not proved. How much it is at other levels, and for a sheet of few tokens, is in
  * docs/EMBEDDING.md. */
 #if defined(__x86_64__)
-#define GRUMPY_STACK 622592 /* x86_64-linux-gnu */
+#define GRUMPY_STACK 393216 /* x86_64-linux-gnu */
 #elif defined(__aarch64__)
-#define GRUMPY_STACK 622592 /* aarch64-linux-gnu */
+#define GRUMPY_STACK 360448 /* aarch64-linux-gnu */
 #elif defined(__riscv) && __riscv_xlen == 64
-#define GRUMPY_STACK 688128 /* riscv64-linux-gnu */
+#define GRUMPY_STACK 425984 /* riscv64-linux-gnu */
 #elif defined(__riscv)
-#define GRUMPY_STACK 557056 /* riscv32-unknown-elf */
+#define GRUMPY_STACK 327680 /* riscv32-unknown-elf */
 #elif defined(__s390x__)
-#define GRUMPY_STACK 1048576 /* s390x-linux-gnu */
+#define GRUMPY_STACK 819200 /* s390x-linux-gnu */
 #elif defined(__ARM_ARCH_PROFILE) && __ARM_ARCH_PROFILE == 'M'
-#define GRUMPY_STACK 655360 /* thumbv7em-none-eabihf and thumbv7em-none-eabi */
+#define GRUMPY_STACK 393216 /* thumbv7em-none-eabihf and thumbv7em-none-eabi */
 #elif defined(__arm__)
-#define GRUMPY_STACK 753664 /* armv7-linux-gnueabihf */
+#define GRUMPY_STACK 393216 /* armv7-linux-gnueabihf */
 #elif defined(__wasm__)
-#define GRUMPY_STACK 360448 /* wasm32-unknown-unknown */
+#define GRUMPY_STACK 163840 /* wasm32-unknown-unknown */
 #endif
 
 /* the largest source in bytes, the longest stored form of one, the largest allowance in units, and the largest count
