@@ -1,7 +1,8 @@
 // Reading what the words name.
+ghost use mathlib.Core.Bool.{false};
 ghost use mathlib.Core.Path.{_≡_};
 ghost use Rattle.io.specs.Counts.{Counts};
-ghost use Rattle.language.specs.Sizes.{ALLOWANCE};
+ghost use Rattle.language.specs.Sizes.{ALLOWANCE, LARGEST};
 ghost use Rattle.desk.specs.Numbers.{UpTo};
 ghost use Rattle.desk.specs.Sheets.{Loaded};
 use crate::output;
@@ -111,7 +112,9 @@ pub fn allowance(word: usize) -> Number
 }
 
 // The edition that the words name; where the word for it is no number, that was told.
-pub fn edition(asked: Asked) -> Number {
+pub fn edition(asked: Asked) -> Number
+    ensures { λ r. ⌜ UpTo LARGEST r ⌝ }
+{
     let mut name = io::buffer();
     let length = os::arg(asked.edition, &mut name);
     let found = tasks::edition(asked, &name[..length]);
@@ -140,8 +143,10 @@ pub fn no_report(word: usize) {
     output::tell(&text[..n]);
 }
 
-// Are these two words, and the same?
-pub fn same(first: usize, second: usize) -> bool {
+// Are these two words, and the same? Where there is no second one they are not.
+pub fn same(first: usize, second: usize) -> bool
+    ensures { λ r. ⌜ (second ≡ 0 → r ≡ false) ⌝ }
+{
     if second == 0 {
         return false;
     }
