@@ -197,8 +197,8 @@ pub fn serve(asked: Asked) -> u32
         Wanted::Unclear => unclear(
             asked,
             b"use: slip RATE-SHEET PICKS RATE, slip check [--whole] SHEET, slip profile [--whole] SHEET,
-     slip run SHEET [ALLOWANCE], slip write SHEET, slip store SHEET, slip check_stored FILE,
-     slip run_stored FILE [ALLOWANCE], slip shift BOOK LINES [ALLOWANCE], slip shift --combine REPORT ..
+     slip run SHEET [ALLOWANCE], slip write SHEET, slip store SHEET, slip check-stored FILE,
+     slip run-stored FILE [ALLOWANCE], slip shift BOOK LINES [ALLOWANCE], slip shift --combine REPORT ..
 ",
         ),
     }

@@ -25,8 +25,8 @@ slip profile --whole SHEET         the same of a whole sheet as it stands
 slip run SHEET [ALLOWANCE]         runs a whole sheet as it stands, by default with 1000000 units
 slip write SHEET                   writes a whole sheet out again, its tokens with one space between them
 slip store SHEET                   writes the stored form of a whole sheet, lines of hexadecimal
-slip check_stored FILE             checks a stored sheet
-slip run_stored FILE [ALLOWANCE]   runs a stored sheet
+slip check-stored FILE             checks a stored sheet
+slip run-stored FILE [ALLOWANCE]   runs a stored sheet
 slip shift BOOK LINES [ALLOWANCE]  pays each line of a shift by the book, and tells what they come to
 slip shift --combine REPORT ..     tells what the reports of a shift's parts come to together
 slip --help                        this text
@@ -90,8 +90,8 @@ pub fn usage(out: &mut [u8], at: usize) -> usize
         out,
         at,
         b"use: slip RATE-SHEET PICKS RATE, slip check [--whole] SHEET, slip profile [--whole] SHEET,
-     slip run SHEET [ALLOWANCE], slip write SHEET, slip store SHEET, slip check_stored FILE,
-     slip run_stored FILE [ALLOWANCE], slip shift BOOK LINES [ALLOWANCE], slip shift --combine REPORT ..
+     slip run SHEET [ALLOWANCE], slip write SHEET, slip store SHEET, slip check-stored FILE,
+     slip run-stored FILE [ALLOWANCE], slip shift BOOK LINES [ALLOWANCE], slip shift --combine REPORT ..
 ",
     )
 }
