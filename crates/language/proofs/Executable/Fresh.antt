@@ -23,9 +23,9 @@ pub data Stand (us : List Token) : ℕ → List ℕ → ℕ → Type 0 where
   stand_next : {i j k : ℕ} {ks : List ℕ} → At us i k → Stand us (i + 1) ks j → Stand us i (k ∷ ks) j
 
 -- the first ones, and the others
-pub split : {us : List Token} {i j : ℕ} (ks ls : List ℕ) → Stand us i (ks ++ ls) j → (m : ℕ) × Stand us i ks m × Stand us m ls j
+pub split : {us : List Token} {j : ℕ} {i : ℕ} (ks ls : List ℕ) → Stand us i (ks ++ ls) j → (m : ℕ) × Stand us i ks m × Stand us m ls j
 split {i = i} [] ls s = (i, stand_end, s)
-split (k ∷ ks) ls (stand_next a s) = let r = split ks ls s in (r.0, stand_next a r.1, r.2)
+split {i = i} (k ∷ ks) ls (stand_next a s) = let r = split {i = i + 1} ks ls s in (r.0, stand_next a r.1, r.2)
 
 module _ {us : List Token} where
   pub stand_from : {i m j : ℕ} {ks : List ℕ} → i ≡ m → Stand us i ks j → Stand us m ks j

@@ -4,6 +4,7 @@
 use mathlib.Core.Bool.{Bool}
 use mathlib.Core.List.{List, []}
 use mathlib.Core.Logic.{◌↔◌}
+use mathlib.Core.Path.{◌≡◌, refl, subst}
 use Prim.Native.Nat.{ℕ, ◌+◌}
 use lib.ListN.{length}
 use Rattle.language.specs.Tokens.{Token, At, Means, value_at, spelling_at, NAME, NUMBER, FLOAT_NUMBER, DEF, LET, IN, WHILE}
@@ -145,9 +146,12 @@ Was ts actuals = OldReads ts actuals
 Was ts args = OldReads ts args
 
 module _ {ts : List Token} (none : NoElseLet ts) where
+  no_tail_at : {m : ℕ} {j : ℕ} {x : Exp} → Reads ts tail m j x → (k : ℕ) → m ≡ k + 1 → At ts k ELSE → ⊥
+  no_tail_at (Now.tail_let (Now.let_in a b c p d q)) k e h = none k h (subst (λ (n : ℕ). At ts n LET) e a)
+  no_tail_at (Now.tail_if {k = n} a p b q c r) k e h = no_tail_at r n refl c
+
   no_tail : (k : ℕ) {j : ℕ} {x : Exp} → At ts k ELSE → Reads ts tail (k + 1) j x → ⊥
-  no_tail k h (Now.tail_let (Now.let_in a b c p d q)) = none k h a
-  no_tail k h (Now.tail_if {k = n} a p b q c r) = no_tail n c r
+  no_tail k h r = no_tail_at r k refl h
 
   was : {s : Sym} {i j : ℕ} {x : Of s} → Reads ts s i j x → Was ts s i j x
   was (Now.program_seq p) = program_seq (was p)

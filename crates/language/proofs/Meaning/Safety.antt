@@ -67,12 +67,12 @@ module _ {R : Asked} (wide : Wide R) where
         → Good R Σ unit (turns fs go n x through to by z e env s)
     unfolding turns
     turns_good zero through to by z env s b k h p r = good_choose wide _ _ _ (λ _. good_stop) λ _. good_value stays p fits_unit
-    turns_good (suc n) through to by z env s b k h p r =
+    turns_good {Σ} (suc n) through to by z env s b k h p r =
         good_choose wide _ _ _
         (λ _.
         good_then wide _ (safe (push _ _ env) s b k (env_push (fits_int r) h) p) λ Σ₁ v s₁ g₁ p₁ q₁.
         good_unit wide _ q₁
-        (good_choose wide _ _ _ (λ e. turns_good n through to by _ env s₁ b k (env_grows g₁ h) p₁ (wide.ints _ e)) λ _. good_value stays p₁ fits_unit))
+        (good_choose wide _ _ _ (λ e. turns_good {Σ = Σ₁} n through to by _ env s₁ b k (env_grows g₁ h) p₁ (wide.ints _ e)) λ _. good_value stays p₁ fits_unit))
         λ _. good_value stays p fits_unit
 
     pub step_good : {Σ : List Ty} {Γ : Scope Ty} {e : Exp} {t : Ty} (env : Env) (s : State)

@@ -60,8 +60,11 @@ many_typed (t_more a b) = many_typed b
 
 bounds_typed : {σ : Sizes} {Δ : Scope Sig} {Γ : Scope Ty} {es : Exps} {ts : List Ty} → TypedAllUnder σ Δ Γ es ts → Bounds ts → ts ≡ bound_types es
 unfolding bound_types
+bounds_typed t_last x = elim x [ ]
+bounds_typed (t_more a t_last) x = elim x [ ]
 bounds_typed (t_more a (t_more b t_last)) two = refl
 bounds_typed (t_more a (t_more b (t_more c t_last))) three = refl
+bounds_typed (t_more a (t_more b (t_more c (t_more d _)))) x = elim x [ ]
 
 takes_typed : {σ : Sizes} {Δ : Scope Sig} {g : Fun} {s : Sig} → FunFits σ Any Δ g s → s.takes ≡ takes_of g
 unfolding takes_of

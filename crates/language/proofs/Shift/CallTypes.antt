@@ -41,6 +41,7 @@ module _ (pay : Def) (named : pay.called ≡ PAY) (pays : sig pay ≡ PAYS) wher
 
   pub call_typed : {Δ : Scope Sig} {ds : List Def} {e : Exp} {t : Ty} (i m n x y : ℕ) → TypedFrom Δ ds e t → Among pay ds ⊎ Seen Δ
       → TypedFrom Δ ds (pay_call i m n x y) int
+  call_typed i m n x y (typed_main a) (inl h) = elim h [ ]
   call_typed i m n x y (typed_main a) (inr h) = typed_main (t_call (t_more t_whole (t_more t_whole t_last)) h)
   call_typed {Δ} i m n x y (typed_def (fine room new takes few body) r) (inl here) =
       typed_def (fine room new takes few body) (call_typed i m n x y r (inr (seen_here Δ)))

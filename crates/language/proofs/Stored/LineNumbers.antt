@@ -47,7 +47,7 @@ module _ {input : List ℕ} where
   lines_behind {x} (t ∷ ts) rest a e =
       let z : length ts + (x + 1) ≡ suc (length ts) + x = omega arith in
       let b = line_behind t.spelling (token_lines ts ++ rest) a (e ∙ append_assoc (line t.spelling) (token_lines ts) rest) in
-      subst (λ (n : ℕ). LineAt input n rest) z (lines_behind ts rest b refl)
+      subst (λ (n : ℕ). LineAt input n rest) z (lines_behind {x = x + 1} ts rest b refl)
 
   second : (n : ℕ) (rest : List ℕ) → input ≡ count_line n ++ rest → LineAt input 2 rest
   unfolding count_line

@@ -189,7 +189,7 @@ module _ (t : List ℕ) (p base : ℕ) (h : Tells laws_1 t p base) where
 -- ---- the whole text
 
 -- what is reached later has the tokens of before
-later_keeps : {voc : Vocabulary} {t : List ℕ} {p q : ℕ} {ts us : List Token} → Later voc t q us p ts
+later_keeps : {voc : Vocabulary} {t : List ℕ} {q : ℕ} {us : List Token} {p : ℕ} {ts : List Token} → Later voc t q us p ts
     → (i : ℕ) → i < length ts → get_or us i past ≡ get_or ts i past
 later_keeps here i h = refl
 later_keeps (step (over a x) l) i h = later_keeps l i (rw x h) ∙ ap (λ s. get_or s i past) x

@@ -233,7 +233,7 @@ module _ {t : List ℕ} (no_for : (m : ℕ) → Stands t m (spell "for") → ⊥
   nothing_in_bytes no-points = record { words = bytes_words; marks = λ x m h z. no-points m (z.0, (z.1, tt)) }
 
 -- of one that splits by edition 1 into tokens without the new words
-later_front : {voc : Vocabulary} {t : List ℕ} {p q : ℕ} {ts us : List Token} → Later voc t q us p ts → (vs : List Token) × (us ≡ ts ++ vs)
+later_front : {voc : Vocabulary} {t : List ℕ} {q : ℕ} {us : List Token} {p : ℕ} {ts : List Token} → Later voc t q us p ts → (vs : List Token) × (us ≡ ts ++ vs)
 later_front {us = us} here = ([], sym (append-nil us))
 later_front (step (over a x) l) = let z = later_front l in (z.0, z.1 ∙ ap (λ (ts : List Token). ts ++ z.0) x)
 later_front (step {ts = ts} (put a h x) l) =

@@ -83,19 +83,19 @@ pub data Later (voc : Vocabulary) (t : List ℕ) (q : ℕ) (us : List Token) : �
   step : {p e : ℕ} {ts vs : List Token} → Step voc t p ts e vs → Later voc t q us e vs → Later voc t q us p ts
 
 module _ {voc : Vocabulary} {t : List ℕ} where
-  later_place : {p q : ℕ} {ts us : List Token} → Later voc t q us p ts → p ≤ q
+  later_place : {q : ℕ} {us : List Token} {p : ℕ} {ts : List Token} → Later voc t q us p ts → p ≤ q
   later_place here = omega arith
   later_place (step {p = p} s l) = omega (arith, forward t p s, later_place l)
 
-  pub later_more : {p q : ℕ} {ts us : List Token} → Later voc t q us p ts → length ts ≤ length us
+  pub later_more : {q : ℕ} {us : List Token} {p : ℕ} {ts : List Token} → Later voc t q us p ts → length ts ≤ length us
   later_more here = omega arith
   later_more (step {p = p} s l) = omega (arith, more t p s, later_more l)
 
-  later_same : {p q : ℕ} {ts us : List Token} → Later voc t q us p ts → q ≤ p → us ≡ ts
+  later_same : {q : ℕ} {us : List Token} {p : ℕ} {ts : List Token} → Later voc t q us p ts → q ≤ p → us ≡ ts
   later_same here h = refl
   later_same (step {p = p} s l) h = absurd (omega (arith, forward t p s, later_place l))
 
-  pub from_start : {p q : ℕ} {ts us : List Token} → Reaches voc t p ts → Later voc t q us p ts → Later voc t q us 0 []
+  pub from_start : {q : ℕ} {us : List Token} {p : ℕ} {ts : List Token} → Reaches voc t p ts → Later voc t q us p ts → Later voc t q us 0 []
   from_start start l = l
   from_start (skip a x) l = from_start a (step (over x refl) l)
   from_start (next a x h e) l = from_start a (step (put x h e) l)

@@ -57,7 +57,7 @@ module _ {voc : Vocabulary} (laws : Laws voc) (bare : Pointless voc) (t : List �
   goes_on (step (over a x) l) h b = no_form (laws_without laws) t bare b a.form
   goes_on (step (put a k x) l) h b = no_form (laws_without laws) t bare b a.form
 
-  onward : {p : ℕ} {ts us : List Token} → Later (without voc) t (length t) us p ts → Reaches voc t p ts → Reaches voc t (length t) us
+  onward : {us : List Token} {p : ℕ} {ts : List Token} → Later (without voc) t (length t) us p ts → Reaches voc t p ts → Reaches voc t (length t) us
   onward here r = r
   onward (step (over a x) l) r = onward l (subst (Reaches voc t _) (sym x) (skip r (lift_piece (goes_on l) a)))
   onward (step (put a h x) l) r = onward l (next r (lift_piece (goes_on l) a) h x)
