@@ -1,5 +1,7 @@
 // The paper's cases, run by the box: for each a line with the number, place, type, value, units and the
 // bytes printed. What it should write is what the second interpreter says.
+#![tactic(auto)]
+
 use grumpy::answers::Ran;
 use language::{ALLOWANCE, TABLE, WORK};
 use layout::floats;

@@ -8,6 +8,7 @@
 // Work memory: a slot has three words (a key and a tag in one, and two for the value, of which a float alone needs the
 // high one), a frame four (a node's row, its phase, the first slot that it sees, and how many with a mark in one word);
 // cells are slots, too.
+#![tactic(auto)]
 
 pub mod floats;
 pub mod frames;

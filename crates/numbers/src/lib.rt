@@ -1,6 +1,8 @@
 // The table of numbers, for the code: why a text does not split, why a reading has no type, why nothing
 // is run and why a run stops, and the number of each. `specs/Meanings.antt` says which case of the written
 // language each case here stands for.
+#![tactic(auto)]
+
 ghost use Rattle.std.specs.Prelude.{◌≡◌};
 ghost use Rattle.language.specs.Numbers.{flaw_number, reason_number, refusal_number, stop_number};
 ghost use Rattle.numbers.specs.Meanings.{flaw_meant, reason_meant, refusal_meant, stop_meant};

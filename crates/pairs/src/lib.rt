@@ -1,5 +1,7 @@
 // Two sheets that are read as one: which of them holds a place of the joined text, and the line around it, as
 // a part of that very sheet. Nothing is copied.
+#![tactic(auto)]
+
 ghost use Rattle.std.specs.Prelude.{◌≡◌, ◌≤◌, length};
 ghost use Rattle.language.specs.Pairs.{line_begin, line_end, in_sheet, place_of};
 ghost use Rattle.language.specs.Pairs as Pairs;

@@ -1,4 +1,6 @@
 // The two reports, written: of a sheet, of a shift and of its parts. Each answers the status.
+#![tactic(auto)]
+
 ghost use Rattle.std.specs.Prelude.{◌≡◌};
 ghost use Rattle.wording.specs.Ends.{status_of, told_status};
 ghost use Rattle.desk.specs.Statuses.{Status, Due};

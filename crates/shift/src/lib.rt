@@ -4,6 +4,8 @@
 // between is plain data that the caller keeps; whatever he makes of it, nothing here wraps or goes past an
 // end, and nothing is run of a book that is not admitted, since every piece asks that anew. Reports of two parts of
 // an input add up to that of the whole: `combine`.
+#![tactic(auto)]
+
 ghost use Rattle.std.specs.Prelude.{◌≡◌};
 ghost use Rattle.shift.specs.Meanings.{new_state, closed_sums};
 ghost use Rattle.shift.specs.Promises.{Begin, Feed, Finish};

@@ -6,6 +6,8 @@
 // on descriptor 3: 0 paid, or passed; 1 refused or stopped; 2 where the words do not serve, or something
 // cannot be read or written. A program cannot end with a status of its own; the script `slip` at the top of
 // the repository listens on that descriptor and ends with it.
+#![tactic(auto)]
+
 mod books;
 mod combining;
 mod profiling;
