@@ -17,15 +17,15 @@ not_nan_if nan h = subst T (sym nan_differs ∙ h) tt
 not_nan_if (inf s) h = tt
 not_nan_if (fin s m e) h = tt
 
-is_nan : (x : Float) → is_nan x ≡ true → x ≡ nan
+nan_is : (x : Float) → is_nan x ≡ true → x ≡ nan
 unfolding is_nan
-is_nan nan h = refl
-is_nan (inf s) h = absurd (subst T (sym h) tt)
-is_nan (fin s m e) h = absurd (subst T (sym h) tt)
+nan_is nan h = refl
+nan_is (inf s) h = absurd (subst T (sym h) tt)
+nan_is (fin s m e) h = absurd (subst T (sym h) tt)
 
 module _ (n : ℕ) where
   pub nan_above : ones binary64 * hid binary64 < n % top binary64 → of_bits binary64 n ≡ nan
-  nan_above h = is_nan (of_bits binary64 n) (sym (nan_bits_is binary64 n) ∙ (nan_bits_above binary64 n ∙ lt-ltb _ _ h))
+  nan_above h = nan_is (of_bits binary64 n) (sym (nan_bits_is binary64 n) ∙ (nan_bits_above binary64 n ∙ lt-ltb _ _ h))
 
   pub number_below : n % top binary64 ≤ ones binary64 * hid binary64 → T (not (nan_bits binary64 n))
   number_below h = subst (λ (b : Bool). T (not b)) (sym (nan_bits_above binary64 n ∙ le-ltb _ _ h)) tt
