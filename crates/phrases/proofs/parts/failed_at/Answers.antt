@@ -1,0 +1,7 @@
+-- The word of a failure.
+use Rattle.phrases.proofs.Words.{none_word}
+use Rattle.phrases.proofs.parts.failed_at.Goals as goal
+
+pub returns : goal.returns
+returns c =
+    none_word c.args.at c.requires
