@@ -42,7 +42,7 @@ pub enum Why {
 }
 
 // What is told of a book before any line.
-#[derive(Drop)]
+#[derive(Clone, Copy)]
 pub enum Admission {
     Granted,
     Refused(Why, Spot),
