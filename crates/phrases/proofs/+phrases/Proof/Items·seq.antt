@@ -4,7 +4,7 @@ use Prim.Native.Nat.{ℕ}
 use native.Mathlib.Omega.{arith}
 use borrow.Author.Rules.{rules}
 use Rattle.phrases.proofs.items.seq.Reads as items::seq
-use Rattle.phrases.proofs.+clause_if_else_let_in_seq_until_while_block_ends_for_in_arguments_named_assign_atom_rest_tier_un as readers
+use Rattle.phrases.proofs.+phrases as readers
 use readers.Lts-items-seq as lts
 use readers.Proof.Setup.{items::seq-at}
 use readers.Proof.Claims.{items::seq-claims}

@@ -2,7 +2,7 @@
 use Prim.Native.Nat.{ℕ}
 use Rattle.layout.proofs.rows.put.Reads as put_reads
 use Rattle.layout.proofs.token.kind.Reads as kind-reads
-use Rattle.phrases.proofs.+clause_if_else_let_in_seq_until_while_block_ends_for_in_arguments_named_assign_atom_rest_tier_un as readers
+use Rattle.phrases.proofs.+phrases as readers
 use Rattle.phrases.proofs.items.clause.Reads as items::clause
 use Rattle.phrases.proofs.items.if_else.Reads as items::if_else
 use Rattle.phrases.proofs.items.let_in.Reads as items::let_in

@@ -3,7 +3,7 @@ use mathlib.Core.Path.{refl, sym, ◌∙◌}
 use Prim.Native.Nat.{ℕ}
 use native.Mathlib.Omega.{arith}
 use Rattle.phrases.proofs.names.named.Reads as names::named
-use Rattle.phrases.proofs.+clause_if_else_let_in_seq_until_while_block_ends_for_in_arguments_named_assign_atom_rest_tier_un as readers
+use Rattle.phrases.proofs.+phrases as readers
 use readers.Lts-names-named as lts
 use readers.Proof.Setup.{names::named_at}
 use readers.Proof.Claims.{names::named-claims}

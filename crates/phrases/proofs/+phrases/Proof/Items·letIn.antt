@@ -4,7 +4,7 @@ use Prim.Native.Nat.{ℕ}
 use native.Mathlib.Omega.{arith}
 use borrow.Author.Rules.{rules}
 use Rattle.phrases.proofs.items.let_in.Reads as items::let_in
-use Rattle.phrases.proofs.+clause_if_else_let_in_seq_until_while_block_ends_for_in_arguments_named_assign_atom_rest_tier_un as readers
+use Rattle.phrases.proofs.+phrases as readers
 use readers.Lts-items-let_in as lts
 use readers.Proof.Setup.{items::let-in-at}
 use readers.Proof.Claims.{items::let-in-claims}

@@ -6,7 +6,7 @@ use borrow.Author.Rules.{rules}
 use borrow.Author.Tests.{not-true, not-false}
 use Rattle.language.specs.Grammar.{ranges}
 use Rattle.phrases.proofs.loops.for_in.Reads as loops::for_in
-use Rattle.phrases.proofs.+clause_if_else_let_in_seq_until_while_block_ends_for_in_arguments_named_assign_atom_rest_tier_un as readers
+use Rattle.phrases.proofs.+phrases as readers
 use readers.Lts-loops-for_in as lts
 use readers.Proof.Setup.{loops::for-in-at}
 use readers.Proof.Claims.{loops::for-in-claims}
