@@ -10,23 +10,23 @@ mod OverOne
 mod OverTwo
 mod TypeAt
 use Rattle.phrase_types.proofs.expressions.arguments.Reads as arguments
-use Rattle.phrase_types.proofs.expressions.+arguments_bind_branch_call_counted_over_one_over_two_type_at.Lts-arguments as arguments-lts
+use Rattle.phrase_types.proofs.expressions.+typing.Lts-arguments as arguments-lts
 use Rattle.phrase_types.proofs.expressions.bind.Reads as bind
-use Rattle.phrase_types.proofs.expressions.+arguments_bind_branch_call_counted_over_one_over_two_type_at.Lts-bind as bind-lts
+use Rattle.phrase_types.proofs.expressions.+typing.Lts-bind as bind-lts
 use Rattle.phrase_types.proofs.expressions.branch.Reads as branch
-use Rattle.phrase_types.proofs.expressions.+arguments_bind_branch_call_counted_over_one_over_two_type_at.Lts-branch as branch-lts
+use Rattle.phrase_types.proofs.expressions.+typing.Lts-branch as branch-lts
 use Rattle.phrase_types.proofs.expressions.call.Reads as call
-use Rattle.phrase_types.proofs.expressions.+arguments_bind_branch_call_counted_over_one_over_two_type_at.Lts-call as call-lts
+use Rattle.phrase_types.proofs.expressions.+typing.Lts-call as call-lts
 use Rattle.phrase_types.proofs.expressions.counted.Reads as counted
-use Rattle.phrase_types.proofs.expressions.+arguments_bind_branch_call_counted_over_one_over_two_type_at.Lts-counted as counted-lts
+use Rattle.phrase_types.proofs.expressions.+typing.Lts-counted as counted-lts
 use Rattle.phrase_types.proofs.expressions.over_one.Reads as over_one
-use Rattle.phrase_types.proofs.expressions.+arguments_bind_branch_call_counted_over_one_over_two_type_at.Lts-over_one as over-one-lts
+use Rattle.phrase_types.proofs.expressions.+typing.Lts-over_one as over-one-lts
 use Rattle.phrase_types.proofs.expressions.over_two.Reads as over_two
-use Rattle.phrase_types.proofs.expressions.+arguments_bind_branch_call_counted_over_one_over_two_type_at.Lts-over_two as over-two-lts
+use Rattle.phrase_types.proofs.expressions.+typing.Lts-over_two as over-two-lts
 use Rattle.phrase_types.proofs.expressions.type_at.Reads as type_at
-use Rattle.phrase_types.proofs.expressions.+arguments_bind_branch_call_counted_over_one_over_two_type_at.Lts-type_at as type-at-lts
-use Rattle.phrase_types.proofs.expressions.+arguments_bind_branch_call_counted_over_one_over_two_type_at.{statement}
-use Rattle.phrase_types.proofs.expressions.+arguments_bind_branch_call_counted_over_one_over_two_type_at.Tie.{close}
+use Rattle.phrase_types.proofs.expressions.+typing.Lts-type_at as type-at-lts
+use Rattle.phrase_types.proofs.expressions.+typing.{statement}
+use Rattle.phrase_types.proofs.expressions.+typing.Tie.{close}
 use Setup.{μ-arguments, arguments-at, arguments-claims, μ-bind, bind-at, bind-claims, μ-branch, branch-at, branch-claims, μ-call, call_at}
 use Setup.{call-claims, μ-counted, counted-at, counted-claims, μ-over_one, over-one-at, over-one-claims, μ-over_two, over-two-at}
 use Setup.{over-two-claims, μ-type-at, type-at-at, type-at-claims}

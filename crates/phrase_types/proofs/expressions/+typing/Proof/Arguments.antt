@@ -7,8 +7,8 @@ use Prim.Native.Nat.{ℕ}
 use borrow.Author.Rules.{rules}
 use native.Mathlib.Omega.{arith}
 use Rattle.phrase_types.proofs.expressions.arguments.Reads as arguments
-use Rattle.phrase_types.proofs.expressions.+arguments_bind_branch_call_counted_over_one_over_two_type_at.Lts-arguments as lts
-use Rattle.phrase_types.proofs.expressions.+arguments_bind_branch_call_counted_over_one_over_two_type_at.Proof.Setup.{arguments-claims, arguments-at}
+use Rattle.phrase_types.proofs.expressions.+typing.Lts-arguments as lts
+use Rattle.phrase_types.proofs.expressions.+typing.Proof.Setup.{arguments-claims, arguments-at}
 
 pub returns : (t : ℕ) → lts.Need-returns (arguments-claims t) (arguments-at t) arguments.Post
 returns t c = end_inferred c.if1.true

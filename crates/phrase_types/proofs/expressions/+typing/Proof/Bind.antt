@@ -9,8 +9,8 @@ use Prim.Native.Nat.{ℕ}
 use borrow.Author.Rules.{rules}
 use native.Mathlib.Omega.{arith}
 use Rattle.phrase_types.proofs.expressions.bind.Reads as bind
-use Rattle.phrase_types.proofs.expressions.+arguments_bind_branch_call_counted_over_one_over_two_type_at.Lts-bind as lts
-use Rattle.phrase_types.proofs.expressions.+arguments_bind_branch_call_counted_over_one_over_two_type_at.Proof.Setup.{bind-claims, bind-at}
+use Rattle.phrase_types.proofs.expressions.+typing.Lts-bind as lts
+use Rattle.phrase_types.proofs.expressions.+typing.Proof.Setup.{bind-claims, bind-at}
 
 pub link-requires : (t : ℕ) → lts.Need-link-requires (bind-claims t) (bind-at t) bind.Post
 link-requires t c κs = (c.before.before.requires.1.0.long, ready_inside c.before.before.requires.1.0, omega arith)

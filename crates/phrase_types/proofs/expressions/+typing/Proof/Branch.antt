@@ -8,8 +8,8 @@ use Prim.Native.Nat.{ℕ}
 use borrow.Author.Rules.{rules}
 use native.Mathlib.Omega.{arith}
 use Rattle.phrase_types.proofs.expressions.branch.Reads as branch
-use Rattle.phrase_types.proofs.expressions.+arguments_bind_branch_call_counted_over_one_over_two_type_at.Lts-branch as lts
-use Rattle.phrase_types.proofs.expressions.+arguments_bind_branch_call_counted_over_one_over_two_type_at.Proof.Setup.{branch-claims, branch-at}
+use Rattle.phrase_types.proofs.expressions.+typing.Lts-branch as lts
+use Rattle.phrase_types.proofs.expressions.+typing.Proof.Setup.{branch-claims, branch-at}
 
 pub word-requires : (t : ℕ) → lts.Need-word-requires (branch-claims t) (branch-at t) branch.Post
 word-requires t c κs = (c.before.before.requires.1.0.long, ready_inside c.before.before.requires.1.0, omega arith)

@@ -6,8 +6,8 @@ use Prim.Native.Nat.{ℕ}
 use borrow.Author.Rules.{rules}
 use native.Mathlib.Omega.{arith}
 use Rattle.phrase_types.proofs.expressions.call.Reads as call
-use Rattle.phrase_types.proofs.expressions.+arguments_bind_branch_call_counted_over_one_over_two_type_at.Lts-call as lts
-use Rattle.phrase_types.proofs.expressions.+arguments_bind_branch_call_counted_over_one_over_two_type_at.Proof.Setup.{call-claims, call_at}
+use Rattle.phrase_types.proofs.expressions.+typing.Lts-call as lts
+use Rattle.phrase_types.proofs.expressions.+typing.Proof.Setup.{call-claims, call_at}
 
 pub word-requires : (t : ℕ) → lts.Need-word-requires (call-claims t) (call_at t) call.Post
 word-requires t c κs = (c.before.before.requires.1.0.long, ready_inside c.before.before.requires.1.0, omega arith)

@@ -8,8 +8,8 @@ use Prim.Native.Nat.{ℕ}
 use borrow.Author.Rules.{rules}
 use native.Mathlib.Omega.{arith}
 use Rattle.phrase_types.proofs.expressions.counted.Reads as counted
-use Rattle.phrase_types.proofs.expressions.+arguments_bind_branch_call_counted_over_one_over_two_type_at.Lts-counted as lts
-use Rattle.phrase_types.proofs.expressions.+arguments_bind_branch_call_counted_over_one_over_two_type_at.Proof.Setup.{counted-claims, counted-at}
+use Rattle.phrase_types.proofs.expressions.+typing.Lts-counted as lts
+use Rattle.phrase_types.proofs.expressions.+typing.Proof.Setup.{counted-claims, counted-at}
 
 pub word-requires : (t : ℕ) → lts.Need-word-requires (counted-claims t) (counted-at t) counted.Post
 word-requires t c κs =

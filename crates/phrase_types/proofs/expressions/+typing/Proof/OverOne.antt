@@ -7,8 +7,8 @@ use Prim.Native.Nat.{ℕ}
 use borrow.Author.Rules.{rules}
 use native.Mathlib.Omega.{arith}
 use Rattle.phrase_types.proofs.expressions.over_one.Reads as over_one
-use Rattle.phrase_types.proofs.expressions.+arguments_bind_branch_call_counted_over_one_over_two_type_at.Lts-over_one as lts
-use Rattle.phrase_types.proofs.expressions.+arguments_bind_branch_call_counted_over_one_over_two_type_at.Proof.Setup.{over-one-claims, over-one-at}
+use Rattle.phrase_types.proofs.expressions.+typing.Lts-over_one as lts
+use Rattle.phrase_types.proofs.expressions.+typing.Proof.Setup.{over-one-claims, over-one-at}
 
 pub word-requires :
     (t : ℕ) → lts.Need-word-requires (over-one-claims t) (over-one-at t) over_one.Post

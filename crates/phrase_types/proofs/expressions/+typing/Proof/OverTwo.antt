@@ -8,8 +8,8 @@ use Prim.Native.Nat.{ℕ}
 use borrow.Author.Rules.{rules}
 use native.Mathlib.Omega.{arith}
 use Rattle.phrase_types.proofs.expressions.over_two.Reads as over_two
-use Rattle.phrase_types.proofs.expressions.+arguments_bind_branch_call_counted_over_one_over_two_type_at.Lts-over_two as lts
-use Rattle.phrase_types.proofs.expressions.+arguments_bind_branch_call_counted_over_one_over_two_type_at.Proof.Setup.{over-two-claims, over-two-at}
+use Rattle.phrase_types.proofs.expressions.+typing.Lts-over_two as lts
+use Rattle.phrase_types.proofs.expressions.+typing.Proof.Setup.{over-two-claims, over-two-at}
 
 pub word-requires :
     (t : ℕ) → lts.Need-word-requires (over-two-claims t) (over-two-at t) over_two.Post

@@ -9,8 +9,8 @@ use Rattle.phrase_types.proofs.CoveredLaws.{falls_to_node}
 use Prim.Native.Nat.{ℕ}
 use native.Mathlib.Omega.{arith}
 use Rattle.phrase_types.proofs.expressions.type_at.Reads as type_at
-use Rattle.phrase_types.proofs.expressions.+arguments_bind_branch_call_counted_over_one_over_two_type_at.Lts-type_at as lts
-use Rattle.phrase_types.proofs.expressions.+arguments_bind_branch_call_counted_over_one_over_two_type_at.Proof.Setup.{type-at-claims, type-at-at}
+use Rattle.phrase_types.proofs.expressions.+typing.Lts-type_at as lts
+use Rattle.phrase_types.proofs.expressions.+typing.Proof.Setup.{type-at-claims, type-at-at}
 
 pub word-requires : (t : ℕ) → lts.Need-word-requires (type-at-claims t) (type-at-at t) type_at.Post
 word-requires t c κs = (c.before.before.requires.1.long, ready_inside c.before.before.requires.1, omega arith)
