@@ -6,15 +6,15 @@ mod Call
 mod Counted
 mod Place
 use Rattle.resolver.proofs.trees.arguments.Reads as arguments
-use Rattle.resolver.proofs.trees.+arguments_call_counted_place.Lts-arguments as arguments-lts
+use Rattle.resolver.proofs.trees.+resolving.Lts-arguments as arguments-lts
 use Rattle.resolver.proofs.trees.call.Reads as call
-use Rattle.resolver.proofs.trees.+arguments_call_counted_place.Lts-call as call-lts
+use Rattle.resolver.proofs.trees.+resolving.Lts-call as call-lts
 use Rattle.resolver.proofs.trees.counted.Reads as counted
-use Rattle.resolver.proofs.trees.+arguments_call_counted_place.Lts-counted as counted-lts
+use Rattle.resolver.proofs.trees.+resolving.Lts-counted as counted-lts
 use Rattle.resolver.proofs.trees.place.Reads as place
-use Rattle.resolver.proofs.trees.+arguments_call_counted_place.Lts-place as place-lts
-use Rattle.resolver.proofs.trees.+arguments_call_counted_place.{statement}
-use Rattle.resolver.proofs.trees.+arguments_call_counted_place.Tie.{close}
+use Rattle.resolver.proofs.trees.+resolving.Lts-place as place-lts
+use Rattle.resolver.proofs.trees.+resolving.{statement}
+use Rattle.resolver.proofs.trees.+resolving.Tie.{close}
 use Setup.{μ-arguments, arguments-at, arguments-claims, μ-call, call_at, call-claims, μ-counted, counted-at, counted-claims, μ-place, place_at, place-claims}
 
 pub +arguments-call-counted-place-spec : {M : Type 1} → statement M

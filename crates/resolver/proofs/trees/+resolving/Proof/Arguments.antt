@@ -4,11 +4,11 @@ use Rattle.resolver.proofs.Lists.{none_done, list_inside, list_room, part_ready,
 use Prim.Native.Nat.{ℕ}
 use native.Mathlib.Omega.{arith}
 use Rattle.resolver.proofs.trees.arguments.Reads as arguments
-use Rattle.resolver.proofs.trees.+arguments_call_counted_place.Lts-arguments as lts
+use Rattle.resolver.proofs.trees.+resolving.Lts-arguments as lts
 use Rattle.resolver.proofs.trees.place.Reads as place
 use Rattle.layout.proofs.notes.put_name.Reads as put-name-reads
 use Rattle.layout.proofs.rows.link.Reads as link-reads
-use Rattle.resolver.proofs.trees.+arguments_call_counted_place.Proof.Setup.{arguments-claims, arguments-at}
+use Rattle.resolver.proofs.trees.+resolving.Proof.Setup.{arguments-claims, arguments-at}
 
 pub returns : (t : ℕ) → lts.Need-returns (arguments-claims t) (arguments-at t) arguments.Post
 returns t c = none_done c.if1.true

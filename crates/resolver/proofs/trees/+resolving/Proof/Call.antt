@@ -5,13 +5,13 @@ use Rattle.resolver.proofs.Calls.{heads_ready, call_ready, call_args, call_done}
 use Prim.Native.Nat.{ℕ}
 use native.Mathlib.Omega.{arith}
 use Rattle.resolver.proofs.trees.call.Reads as call
-use Rattle.resolver.proofs.trees.+arguments_call_counted_place.Lts-call as lts
+use Rattle.resolver.proofs.trees.+resolving.Lts-call as lts
 use Rattle.resolver.proofs.trees.arguments.Reads as arguments
 use Rattle.layout.proofs.notes.put.Reads as put_reads
 use Rattle.layout.proofs.rows.link.Reads as link-reads
 use Rattle.layout.proofs.token.value.Reads as value-reads
 use Rattle.resolver.proofs.trees.callee.Reads as callee-reads
-use Rattle.resolver.proofs.trees.+arguments_call_counted_place.Proof.Setup.{call-claims, call_at}
+use Rattle.resolver.proofs.trees.+resolving.Proof.Setup.{call-claims, call_at}
 
 pub link-requires : (t : ℕ) → lts.Need-link-requires (call-claims t) (call_at t) call.Post
 link-requires t c κs =

@@ -5,12 +5,12 @@ use Rattle.resolver.proofs.Passes.{bounds_ready, enter_ready, body_ready, for_do
 use Prim.Native.Nat.{ℕ}
 use native.Mathlib.Omega.{arith}
 use Rattle.resolver.proofs.trees.counted.Reads as counted
-use Rattle.resolver.proofs.trees.+arguments_call_counted_place.Lts-counted as lts
+use Rattle.resolver.proofs.trees.+resolving.Lts-counted as lts
 use Rattle.resolver.proofs.trees.arguments.Reads as arguments
 use Rattle.resolver.proofs.trees.place.Reads as place
 use Rattle.layout.proofs.rows.link.Reads as link-reads
 use Rattle.resolver.proofs.trees.enter.Reads as enter-reads
-use Rattle.resolver.proofs.trees.+arguments_call_counted_place.Proof.Setup.{counted-claims, counted-at}
+use Rattle.resolver.proofs.trees.+resolving.Proof.Setup.{counted-claims, counted-at}
 
 pub link-requires : (t : ℕ) → lts.Need-link-requires (counted-claims t) (counted-at t) counted.Post
 link-requires t c κs =

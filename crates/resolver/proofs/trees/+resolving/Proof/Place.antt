@@ -9,7 +9,7 @@ use Rattle.resolver.proofs.Calls.{name_ready, name_done}
 use Prim.Native.Nat.{ℕ}
 use native.Mathlib.Omega.{arith}
 use Rattle.resolver.proofs.trees.place.Reads as place
-use Rattle.resolver.proofs.trees.+arguments_call_counted_place.Lts-place as lts
+use Rattle.resolver.proofs.trees.+resolving.Lts-place as lts
 use Rattle.resolver.proofs.trees.call.Reads as call
 use Rattle.resolver.proofs.trees.counted.Reads as counted
 use Rattle.layout.proofs.rows.link.Reads as link-reads
@@ -18,7 +18,7 @@ use Rattle.resolver.proofs.trees.between.Reads as between-reads
 use Rattle.resolver.proofs.trees.name.Reads as name-reads
 use Rattle.rules.proofs.operators.children.Reads as children-reads
 use Rattle.rules.proofs.operators.counts.Reads as counts-reads
-use Rattle.resolver.proofs.trees.+arguments_call_counted_place.Proof.Setup.{place-claims, place_at}
+use Rattle.resolver.proofs.trees.+resolving.Proof.Setup.{place-claims, place_at}
 
 pub word-requires : (t : ℕ) → lts.Need-word-requires (place-claims t) (place_at t) place.Post
 word-requires t c κs =

@@ -5,16 +5,16 @@ use borrow.Fn.Kinds.{In}
 use borrow.Fn.PlainCycle.{Measures, is, falls, and}
 use Rattle.resolver.proofs.trees.arguments.Reads as arguments
 use Rattle.resolver.proofs.trees.arguments.Kinds as arguments-kinds
-use Rattle.resolver.proofs.trees.+arguments_call_counted_place.Lts-arguments as arguments-lts
+use Rattle.resolver.proofs.trees.+resolving.Lts-arguments as arguments-lts
 use Rattle.resolver.proofs.trees.call.Reads as call
 use Rattle.resolver.proofs.trees.call.Kinds as call-kinds
-use Rattle.resolver.proofs.trees.+arguments_call_counted_place.Lts-call as call-lts
+use Rattle.resolver.proofs.trees.+resolving.Lts-call as call-lts
 use Rattle.resolver.proofs.trees.counted.Reads as counted
 use Rattle.resolver.proofs.trees.counted.Kinds as counted-kinds
-use Rattle.resolver.proofs.trees.+arguments_call_counted_place.Lts-counted as counted-lts
+use Rattle.resolver.proofs.trees.+resolving.Lts-counted as counted-lts
 use Rattle.resolver.proofs.trees.place.Reads as place
 use Rattle.resolver.proofs.trees.place.Kinds as place-kinds
-use Rattle.resolver.proofs.trees.+arguments_call_counted_place.Lts-place as place-lts
+use Rattle.resolver.proofs.trees.+resolving.Lts-place as place-lts
 use Rattle.layout.proofs.notes.put.Reads as put_reads
 use Rattle.layout.proofs.notes.put_name.Reads as put-name-reads
 use Rattle.layout.proofs.rows.link.Reads as link-reads
