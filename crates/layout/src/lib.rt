@@ -26,7 +26,7 @@ use language::{ACTIVE, NODES, PARAMETERS, TOKENS};
 
 // A program as a table holds it: how many tokens and how many functions it has, and the row of its last
 // expression.
-#[derive(Drop)]
+#[derive(Clone, Copy)]
 pub struct Held {
     pub count: usize,
     pub functions: usize,

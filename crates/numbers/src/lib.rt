@@ -8,7 +8,7 @@ ghost use Rattle.language.specs.Numbers.{flaw_number, reason_number, refusal_num
 ghost use Rattle.numbers.specs.Meanings.{flaw_meant, reason_meant, refusal_meant, stop_meant};
 
 // What stops the split of a text.
-#[derive(Drop)]
+#[derive(Clone, Copy)]
 pub enum Flaw {
     StrangeByte,
     OpenComment,
@@ -18,7 +18,7 @@ pub enum Flaw {
 }
 
 // Why a reading has no type.
-#[derive(Drop)]
+#[derive(Clone, Copy)]
 pub enum Reason {
     NoBinding,
     NoFunction,
@@ -39,7 +39,7 @@ pub enum Reason {
 }
 
 // Why nothing is run or written, in the order in which it is looked for.
-#[derive(Drop)]
+#[derive(Clone, Copy)]
 pub enum Refusal {
     ShortMemory,
     LargeAllowance,
@@ -60,7 +60,7 @@ pub enum Refusal {
 }
 
 // Why a run stops before it has a value.
-#[derive(Drop)]
+#[derive(Clone, Copy)]
 pub enum Stop {
     NoUnit,
     TooDeep,

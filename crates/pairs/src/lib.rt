@@ -8,7 +8,7 @@ ghost use Rattle.language.specs.Pairs as Pairs;
 ghost use Rattle.pairs.specs.Spots.{meant, Cut, Shows};
 
 // A sheet, 1 or 2, a byte of it, and the part that is shown: from its first byte up to its end.
-#[derive(Drop)]
+#[derive(Clone, Copy)]
 pub struct Spot {
     pub sheet: u32,
     pub at: usize,

@@ -40,7 +40,7 @@ pub enum Seen {
 }
 
 // What a source is: the text that a view shows of two sheets, or the first of them as a stored sheet.
-#[derive(Drop)]
+#[derive(Clone, Copy)]
 pub enum Form {
     Text(View),
     Lines,

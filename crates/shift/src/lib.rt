@@ -25,7 +25,7 @@ use tally::{combining, lines, sums};
 
 // What is carried: the units that each line may use, the line that has begun, what the lines before it add
 // up to, and whether there was a line too many.
-#[derive(Drop)]
+#[derive(Clone, Copy)]
 pub struct State {
     pub allowance: u64,
     pub part: Part,
@@ -34,7 +34,7 @@ pub struct State {
 }
 
 // Why a shift is refused: as a sheet is, or because the book is none, or for its lines.
-#[derive(Drop)]
+#[derive(Clone, Copy)]
 pub enum Why {
     Sheet(Refusal),
     NoBook,
@@ -42,7 +42,7 @@ pub enum Why {
 }
 
 // What is told of a book before any line.
-#[derive(Drop)]
+#[derive(Clone, Copy)]
 pub enum Admission {
     Granted,
     Refused(Why, Spot),

@@ -21,7 +21,7 @@ const PIECES: u64 = 0xffff_ffff_ffff_ffff;
 
 // What became of a read: a piece was fed, and there may be more; the input has ended, or no byte more of it matters;
 // it cannot be read. That a book which was admitted is refused later does not come.
-#[derive(Drop)]
+#[derive(Clone, Copy)]
 enum Reading {
     More,
     End,
