@@ -1,0 +1,25 @@
+-- `doubled` reads the second byte where the first begins a mark of two.
+use mathlib.Core.List.{[], ◌∷◌}
+use mathlib.Core.Logic.{inl, inr}
+use mathlib.Core.Path.{refl, sym, ap}
+use native.Mathlib.Omega.{arith}
+use Rattle.language.proofs.Text.Tables.{every}
+use Rattle.language.specs.Tokens.{spell, marks}
+use Rattle.tokens.proofs.FirstBytes.{begins_so, other_first}
+use Rattle.tokens.proofs.Views.{shown_long}
+use Rattle.tokens.specs.Found.{or_past, mark_kind}
+use Rattle.tokens.proofs.marks.doubled.Goals as goal
+
+pub overflow_add-at : goal.overflow_add-at
+overflow_add-at c =
+    let a = c.args in
+    omega (arith, c.requires, shown_long a.first.now a.second.now a.view, c.well_formed)
+
+pub returns-in_default : goal.returns-in_default
+unfolding mark_kind every begins_so
+returns-in_default c =
+    let r = c.in_default.not-61 in
+    ap or_past
+    (sym
+    (other_first marks (spell "|&:=") _ (_ ∷ []) refl
+    ((((tt, λ e. r (inr (inr (inl e)))), λ e. r (inr (inl e))), λ e. r (inl e)), λ e. r (inr (inr (inr e))))))

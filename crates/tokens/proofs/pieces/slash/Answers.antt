@@ -1,0 +1,82 @@
+-- `slash` asks the byte behind for a comment.
+use lib.Dec.{lit<}
+use lib.ListN.{length}
+use mathlib.Core.List.{List}
+use mathlib.Core.Path.{sym, ◌∙◌, subst}
+use native.Mathlib.Omega.{arith}
+use Prim.Native.Nat.{ℕ, ◌<◌}
+use Rattle.language.proofs.Text.Pieces.{line_piece, comment_piece, open_piece}
+use Rattle.language.proofs.Text.Spellings.{byte_inside, two_inside}
+use Rattle.language.specs.Text.{Stands, Opens}
+use Rattle.language.specs.Text.WrongUnder.{opened}
+use Rattle.language.specs.Tokens.{spell}
+use Rattle.tokens.proofs.Editions.{laws_of}
+use Rattle.tokens.proofs.FoundTokens.{plain_token}
+use Rattle.tokens.proofs.PointMarks.{slash_plain, slash_mark}
+use Rattle.tokens.proofs.Views.{shown_long}
+use Rattle.tokens.specs.Found.{IsClose}
+use Rattle.tokens.specs.Shown.{shown}
+use Rattle.tokens.proofs.pieces.slash.Goals as goal
+use Rattle.tokens.proofs.pieces.slash.Goals.{Start, Then-behind-eq42, Then-behind-eq47}
+
+-- the text and the place, which lies in it
+abbrev text : Start → List ℕ
+text s =
+    shown s.args.first.now s.args.second.now s.args.view
+
+abbrev place : Start → ℕ
+place s =
+    s.args.at
+
+inside : (s : Start) → place s < length (text s)
+inside s =
+    byte_inside (text s) (place s) 47 s.requires (lit< tt)
+
+-- `//` stands there
+line : (c : Then-behind-eq47) → Stands (text (c.at).Start) (place (c.at).Start) (spell "//")
+line c =
+    (c.requires, (sym c.byte-behind.ensures ∙ c.if-behind-eq47.true, tt))
+
+-- `/*` stands there
+opens : (c : Then-behind-eq42) → Opens (text (c.at).Start) (place (c.at).Start)
+opens c =
+    (c.requires, (sym c.byte-behind.ensures ∙ c.if-behind-eq42.true, tt))
+
+pub overflow_add-at : goal.overflow_add-at
+overflow_add-at c =
+    let a = c.args in
+    omega (arith, inside (goal.at.overflow_add-at c).Start, shown_long a.first.now a.second.now a.view, c.well_formed)
+
+pub overflow_add-at-then-behind-eq47 : goal.overflow_add-at-then-behind-eq47
+overflow_add-at-then-behind-eq47 c =
+    let a = c.args in
+    omega (arith, two_inside (text (goal.at.overflow_add-at-then-behind-eq47 c).Start) (place (goal.at.overflow_add-at-then-behind-eq47 c).Start) 47 47 (line (goal.at.overflow_add-at-then-behind-eq47 c).Then-behind-eq47) (omega arith), shown_long a.first.now a.second.now a.view, c.well_formed)
+
+pub returns-then-behind-eq47 : goal.returns-then-behind-eq47
+returns-then-behind-eq47 c =
+    λ e. line_piece (laws_of e) (text (goal.at.returns-then-behind-eq47 c).Start) (place (goal.at.returns-then-behind-eq47 c).Start) c.line_end.result (line (goal.at.returns-then-behind-eq47 c).Then-behind-eq47) c.line_end.ensures
+
+pub returns-in-At : goal.returns-in-At
+returns-in-At c =
+    let t = text (goal.at.returns-in-At c).Start in
+    let p = place (goal.at.returns-in-At c).Start in
+    let closed = subst (IsClose t p) c.in-At.is c.comment_end.ensures in
+    λ e. comment_piece (laws_of e) t p _ closed
+
+pub returns-in-Never : goal.returns-in-Never
+returns-in-Never c =
+    let t = text (goal.at.returns-in-Never c).Start in
+    let p = place (goal.at.returns-in-Never c).Start in
+    let never = subst (IsClose t p) c.in-Never.is c.comment_end.ensures in
+    λ e ts. opened (open_piece (laws_of e) t p (opens (goal.at.returns-in-Never c).Then-behind-eq42) never)
+
+pub overflow_add-next : goal.overflow_add-next
+overflow_add-next c =
+    let a = c.args in
+    omega (arith, inside (goal.at.overflow_add-next c).Start, shown_long a.first.now a.second.now a.view, c.well_formed)
+
+pub returns : goal.returns
+returns c =
+    let behind = c.byte-behind.ensures in
+    let plain = slash_plain (text (goal.at.returns c).Start) (place (goal.at.returns c).Start) c.requires (λ x. c.if-behind-eq47.false (behind ∙ x)) (λ x. c.if-behind-eq42.false (behind ∙ x)) in
+    λ e. plain_token e plain.0.digit (slash_mark (inside (goal.at.returns c).Start) plain c.requires e)
