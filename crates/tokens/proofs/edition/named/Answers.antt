@@ -12,4 +12,4 @@ returns-in-2 c =
 
 pub returns-in_default : goal.returns-in_default
 returns-in_default c =
-    none_named _ c.in_default.not-1 c.in_default.not-2
+    none_named _ c.in_default.in_default-own.rest.0.1 c.in_default.in_default-own.rest.1

@@ -35,4 +35,4 @@ returns-in-124 c =
 pub returns-in_default : goal.returns-in_default
 unfolding mark_kind every begins_so
 returns-in_default c =
-    ap or_past (sym (other_first marks (spell "|&:=") _ (_ ∷ []) refl c.in_default.rest))
+    ap or_past (sym (other_first marks (spell "|&:=") _ (_ ∷ []) refl c.in_default.in_default-own.rest))

@@ -18,7 +18,7 @@ overflow_add-at c =
 pub returns-in_default : goal.returns-in_default
 unfolding mark_kind every begins_so
 returns-in_default c =
-    let r = c.in_default.not-61 in
+    let r = c.in_default.in_default-own.rest.1 in
     ap or_past
     (sym
     (other_first marks (spell "|&:=") _ (_ ∷ []) refl

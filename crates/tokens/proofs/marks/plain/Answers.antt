@@ -1,47 +1,33 @@
 -- `plain` looks for a mark of two bytes, and where there is none for one of one.
-use mathlib.Core.List.{List, [], ◌∷◌}
+use mathlib.Core.List.{[], ◌∷◌}
 use mathlib.Core.Path.{◌≡◌, ◌∙◌, ap}
-use Prim.Native.Nat.{ℕ, ◌+◌}
+use Prim.Native.Nat.{◌+◌}
 use Rattle.language.specs.Text.{byte}
 use Rattle.tokens.proofs.MarkBytes.{ahead, two_most, marked, unmarked, markless}
 use Rattle.tokens.specs.Found.{mark_kind}
 use Rattle.tokens.specs.Shown.{shown}
 use Rattle.tokens.proofs.marks.plain.Goals as goal
-use Rattle.tokens.proofs.marks.plain.Goals.{After-doubled-two, After-single-one, Start}
+use Rattle.tokens.proofs.marks.plain.Goals.{After-doubled-two, After-single-one}
 
--- the text
-abbrev text : Start → List ℕ
-text s =
-    shown s.args.first.now s.args.second.now s.args.view
-
--- where it began
-abbrev start : After-doubled-two → Start
-start c =
-    (c.at).Start
-
-two : (c : After-doubled-two) → c.doubled-two.result ≡ mark_kind (ahead (text (start c)) (start c).args.at 2)
+two : (c : After-doubled-two) → c.doubled-two.result ≡ mark_kind (ahead ((shown c.args.first.now c.args.second.now c.args.view)) c.args.at 2)
 two c =
-    let s = start c in
-    c.doubled-two.ensures ∙ ap (λ a. mark_kind (a ∷ byte (text s) (s.args.at + 1) ∷ [])) s.pre.2
+    c.doubled-two.ensures ∙ ap (λ a. mark_kind (a ∷ byte ((shown c.args.first.now c.args.second.now c.args.view)) (c.args.at + 1) ∷ [])) c.pre.2
 
 one : (c : After-single-one)
-    → c.single-one.result ≡ mark_kind (ahead (text (start (c.at).After-doubled-two)) (start (c.at).After-doubled-two).args.at 1)
+    → c.single-one.result ≡ mark_kind (ahead ((shown c.args.first.now c.args.second.now c.args.view)) c.args.at 1)
 one c =
-    c.single-one.ensures ∙ ap (λ a. mark_kind (a ∷ [])) (start (c.at).After-doubled-two).requires.2
+    c.single-one.ensures ∙ ap (λ a. mark_kind (a ∷ [])) c.requires.2
 
 pub returns-then-two-ne-PAST : goal.returns-then-two-ne-PAST
 returns-then-two-ne-PAST c =
-    let s = start (goal.at.returns-then-two-ne-PAST c).After-doubled-two in
-    marked s.pre.0 s.pre.1 2 (two_most _ _) (two (goal.at.returns-then-two-ne-PAST c).After-doubled-two) c.if-two-ne-PAST.true
+    marked c.pre.0 c.pre.1 2 (two_most _ _) (two (goal.at.returns-then-two-ne-PAST c).After-doubled-two) c.if-two-ne-PAST.true
 
 pub returns-then-one-ne-PAST : goal.returns-then-one-ne-PAST
 returns-then-one-ne-PAST c =
-    let s = start (goal.at.returns-then-one-ne-PAST c).After-doubled-two in
-    let shorter = unmarked s.pre.0 s.pre.1 1 (two_most _ _) (two (goal.at.returns-then-one-ne-PAST c).After-doubled-two) c.if-two-ne-PAST.false in
-    marked s.pre.0 s.pre.1 1 shorter (one (goal.at.returns-then-one-ne-PAST c).After-single-one) c.if-one-ne-PAST.true
+    let shorter = unmarked c.pre.0 c.pre.1 1 (two_most _ _) (two (goal.at.returns-then-one-ne-PAST c).After-doubled-two) c.if-two-ne-PAST.false in
+    marked c.pre.0 c.pre.1 1 shorter (one (goal.at.returns-then-one-ne-PAST c).After-single-one) c.if-one-ne-PAST.true
 
 pub returns : goal.returns
 returns c =
-    let s = start (goal.at.returns c).After-doubled-two in
-    let shorter = unmarked s.pre.0 s.pre.1 1 (two_most _ _) (two (goal.at.returns c).After-doubled-two) c.if-two-ne-PAST.false in
-    markless s.pre.1 (unmarked s.pre.0 s.pre.1 0 shorter (one (goal.at.returns c).After-single-one) c.if-one-ne-PAST.false)
+    let shorter = unmarked c.pre.0 c.pre.1 1 (two_most _ _) (two (goal.at.returns c).After-doubled-two) c.if-two-ne-PAST.false in
+    markless c.pre.1 (unmarked c.pre.0 c.pre.1 0 shorter (one (goal.at.returns c).After-single-one) c.if-one-ne-PAST.false)

@@ -80,4 +80,4 @@ returns-in-125 c =
 pub returns-in_default : goal.returns-in_default
 unfolding mark_kind every begins_so
 returns-in_default c =
-    ap or_past (sym (other_first marks (spell "}{)(:,;!=</*-+") _ [] refl c.in_default.rest))
+    ap or_past (sym (other_first marks (spell "}{)(:,;!=</*-+") _ [] refl c.in_default.in_default-own.rest))

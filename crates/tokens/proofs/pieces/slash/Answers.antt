@@ -1,10 +1,9 @@
 -- `slash` asks the byte behind for a comment.
 use lib.Dec.{lit<}
 use lib.ListN.{length}
-use mathlib.Core.List.{List}
 use mathlib.Core.Path.{sym, ◌∙◌, subst}
 use native.Mathlib.Omega.{arith}
-use Prim.Native.Nat.{ℕ, ◌<◌}
+use Prim.Native.Nat.{◌<◌}
 use Rattle.language.proofs.Text.Pieces.{line_piece, comment_piece, open_piece}
 use Rattle.language.proofs.Text.Spellings.{byte_inside, two_inside}
 use Rattle.language.specs.Text.{Stands, Opens}
@@ -19,26 +18,17 @@ use Rattle.tokens.specs.Shown.{shown}
 use Rattle.tokens.proofs.pieces.slash.Goals as goal
 use Rattle.tokens.proofs.pieces.slash.Goals.{Start, Then-behind-eq42, Then-behind-eq47}
 
--- the text and the place, which lies in it
-abbrev text : Start → List ℕ
-text s =
-    shown s.args.first.now s.args.second.now s.args.view
-
-abbrev place : Start → ℕ
-place s =
-    s.args.at
-
-inside : (s : Start) → place s < length (text s)
+inside : (s : Start) → (s.args.at) < length ((shown s.args.first.now s.args.second.now s.args.view))
 inside s =
-    byte_inside (text s) (place s) 47 s.requires (lit< tt)
+    byte_inside ((shown s.args.first.now s.args.second.now s.args.view)) ((s.args.at)) 47 s.requires (lit< tt)
 
 -- `//` stands there
-line : (c : Then-behind-eq47) → Stands (text (c.at).Start) (place (c.at).Start) (spell "//")
+line : (c : Then-behind-eq47) → Stands ((shown c.args.first.now c.args.second.now c.args.view)) ((c.args.at)) (spell "//")
 line c =
     (c.requires, (sym c.byte-behind.ensures ∙ c.if-behind-eq47.true, tt))
 
 -- `/*` stands there
-opens : (c : Then-behind-eq42) → Opens (text (c.at).Start) (place (c.at).Start)
+opens : (c : Then-behind-eq42) → Opens ((shown c.args.first.now c.args.second.now c.args.view)) ((c.args.at))
 opens c =
     (c.requires, (sym c.byte-behind.ensures ∙ c.if-behind-eq42.true, tt))
 
@@ -50,23 +40,23 @@ overflow_add-at c =
 pub overflow_add-at-then-behind-eq47 : goal.overflow_add-at-then-behind-eq47
 overflow_add-at-then-behind-eq47 c =
     let a = c.args in
-    omega (arith, two_inside (text (goal.at.overflow_add-at-then-behind-eq47 c).Start) (place (goal.at.overflow_add-at-then-behind-eq47 c).Start) 47 47 (line (goal.at.overflow_add-at-then-behind-eq47 c).Then-behind-eq47) (omega arith), shown_long a.first.now a.second.now a.view, c.well_formed)
+    omega (arith, two_inside ((shown c.args.first.now c.args.second.now c.args.view)) ((c.args.at)) 47 47 (line (goal.at.overflow_add-at-then-behind-eq47 c).Then-behind-eq47) (omega arith), shown_long a.first.now a.second.now a.view, c.well_formed)
 
 pub returns-then-behind-eq47 : goal.returns-then-behind-eq47
 returns-then-behind-eq47 c =
-    λ e. line_piece (laws_of e) (text (goal.at.returns-then-behind-eq47 c).Start) (place (goal.at.returns-then-behind-eq47 c).Start) c.line_end.result (line (goal.at.returns-then-behind-eq47 c).Then-behind-eq47) c.line_end.ensures
+    λ e. line_piece (laws_of e) ((shown c.args.first.now c.args.second.now c.args.view)) ((c.args.at)) c.line_end.result (line (goal.at.returns-then-behind-eq47 c).Then-behind-eq47) c.line_end.ensures
 
 pub returns-in-At : goal.returns-in-At
 returns-in-At c =
-    let t = text (goal.at.returns-in-At c).Start in
-    let p = place (goal.at.returns-in-At c).Start in
+    let t = (shown c.args.first.now c.args.second.now c.args.view) in
+    let p = (c.args.at) in
     let closed = subst (IsClose t p) c.in-At.is c.comment_end.ensures in
     λ e. comment_piece (laws_of e) t p _ closed
 
 pub returns-in-Never : goal.returns-in-Never
 returns-in-Never c =
-    let t = text (goal.at.returns-in-Never c).Start in
-    let p = place (goal.at.returns-in-Never c).Start in
+    let t = (shown c.args.first.now c.args.second.now c.args.view) in
+    let p = (c.args.at) in
     let never = subst (IsClose t p) c.in-Never.is c.comment_end.ensures in
     λ e ts. opened (open_piece (laws_of e) t p (opens (goal.at.returns-in-Never c).Then-behind-eq42) never)
 
@@ -78,5 +68,5 @@ overflow_add-next c =
 pub returns : goal.returns
 returns c =
     let behind = c.byte-behind.ensures in
-    let plain = slash_plain (text (goal.at.returns c).Start) (place (goal.at.returns c).Start) c.requires (λ x. c.if-behind-eq47.false (behind ∙ x)) (λ x. c.if-behind-eq42.false (behind ∙ x)) in
+    let plain = slash_plain ((shown c.args.first.now c.args.second.now c.args.view)) ((c.args.at)) c.requires (λ x. c.if-behind-eq47.false (behind ∙ x)) (λ x. c.if-behind-eq42.false (behind ∙ x)) in
     λ e. plain_token e plain.0.digit (slash_mark (inside (goal.at.returns c).Start) plain c.requires e)

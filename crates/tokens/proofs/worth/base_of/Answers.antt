@@ -16,4 +16,4 @@ returns-in-98 c =
 
 pub returns-in_default : goal.returns-in_default
 returns-in_default c =
-    base_other _ _ c.if-a-ne48.false c.in_default.not-120 c.in_default.not-98
+    base_other _ _ c.if-a-ne48.false c.in_default.in_default-own.rest.0.1 c.in_default.in_default-own.rest.1

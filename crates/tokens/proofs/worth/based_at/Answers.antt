@@ -1,8 +1,8 @@
 -- `based_at` asks two bytes for a base, and the byte behind them for a digit of it.
-use mathlib.Core.List.{List, [], ◌∷◌}
+use mathlib.Core.List.{[], ◌∷◌}
 use mathlib.Core.Path.{◌≡◌, refl, sym, ◌∙◌, ap, ap₂}
 use native.Mathlib.Omega.{arith}
-use Prim.Native.Nat.{ℕ, ◌+◌}
+use Prim.Native.Nat.{◌+◌}
 use Rattle.language.proofs.Text.Bases.{base_told, Digits, told_digits, untold_digits}
 use Rattle.language.specs.Text.{byte, is_digit_of}
 use Rattle.tokens.proofs.Editions.{laws_of, shared_bases}
@@ -10,42 +10,28 @@ use Rattle.tokens.specs.Editions.{meant}
 use Rattle.tokens.proofs.Views.{shown_long}
 use Rattle.tokens.specs.Shown.{shown}
 use Rattle.tokens.proofs.worth.based_at.Goals as goal
-use Rattle.tokens.proofs.worth.based_at.Goals.{After-base_of-base, After-is_digit_of, Start, Then-is_digit_of}
-
--- the text, and the place
-abbrev text : Start → List ℕ
-text s =
-    shown s.args.first.now s.args.second.now s.args.view
-
-abbrev place : Start → ℕ
-place s =
-    s.args.at
-
--- where it began
-abbrev start : After-base_of-base → Start
-start c =
-    (c.at).Start
+use Rattle.tokens.proofs.worth.based_at.Goals.{After-base_of-base, After-is_digit_of, Then-is_digit_of}
 
 -- the base that the two bytes tell
 base : (c : After-base_of-base)
-    → c.base_of-base.result ≡ base_told (byte (text (start c)) (place (start c)) ∷ byte (text (start c)) (place (start c) + 1) ∷ [])
+    → c.base_of-base.result ≡ base_told (byte ((shown c.args.first.now c.args.second.now c.args.view)) ((c.args.at)) ∷ byte ((shown c.args.first.now c.args.second.now c.args.view)) ((c.args.at) + 1) ∷ [])
 base c =
     c.base_of-base.ensures ∙ ap₂ (λ a b. base_told (a ∷ b ∷ [])) c.byte.ensures c.ahead.ensures
 
 -- whether a digit of it stands behind them
 digit : (c : After-is_digit_of)
     → c.is_digit_of.result
-    ≡ is_digit_of c.base_of-base.result (byte (text (start (c.at).After-base_of-base)) (place (start (c.at).After-base_of-base) + 2))
+    ≡ is_digit_of c.base_of-base.result (byte ((shown c.args.first.now c.args.second.now c.args.view)) ((c.args.at) + 2))
 digit c =
     c.is_digit_of.ensures ∙ ap (is_digit_of c.base_of-base.result) c.ahead-2.ensures
 
 -- a base is told
 found : (c : Then-is_digit_of)
-    → Digits (meant (start (c.at).After-base_of-base).args.edition) (text (start (c.at).After-base_of-base)) (place (start (c.at).After-base_of-base))
-    (place (start (c.at).After-base_of-base) + 2) c.base_of-base.result
+    → Digits (meant c.args.edition) ((shown c.args.first.now c.args.second.now c.args.view)) ((c.args.at))
+    ((c.args.at) + 2) c.base_of-base.result
 found c =
-    let e = (start (c.at).After-base_of-base).args.edition in
-    told_digits (laws_of e) (shared_bases e) (text (start (c.at).After-base_of-base)) (place (start (c.at).After-base_of-base)) c.base_of-base.result (base (c.at).After-base_of-base) (sym (digit (c.at).After-is_digit_of) ∙ c.if-is_digit_of.true)
+    let e = c.args.edition in
+    told_digits (laws_of e) (shared_bases e) ((shown c.args.first.now c.args.second.now c.args.view)) ((c.args.at)) c.base_of-base.result (base (c.at).After-base_of-base) (sym (digit (c.at).After-is_digit_of) ∙ c.if-is_digit_of.true)
 
 pub overflow_add-result : goal.overflow_add-result
 overflow_add-result c =
@@ -59,7 +45,6 @@ returns-then-is_digit_of c =
 
 pub returns : goal.returns
 returns c =
-    let s = start (goal.at.returns c).After-base_of-base in
     let none = sym (digit (goal.at.returns c).After-is_digit_of) ∙ c.if-is_digit_of.false in
-    let e = s.args.edition in
-    (untold_digits (laws_of e) (shared_bases e) (text s) (place s) c.base_of-base.result (base (goal.at.returns c).After-base_of-base) s.pre.0 s.pre.1 none, λ e. refl)
+    let e = c.args.edition in
+    (untold_digits (laws_of e) (shared_bases e) ((shown c.args.first.now c.args.second.now c.args.view)) ((c.args.at)) c.base_of-base.result (base (goal.at.returns c).After-base_of-base) c.pre.0 c.pre.1 none, λ e. refl)

@@ -1,0 +1,18 @@
+-- What the borrow checker leaves of `run`.
+use Rattle.runner.proofs.Whole.{first_any, last_few, last_whole}
+use Rattle.runner.proofs.run.Goals as goal
+
+pub go-last-requires : goal.go-last-requires
+go-last-requires c =
+    first_any c.args.table.now c.args.work.now c.args.out.now c.args.program c.args.allowance c.requires
+    c.put.ensures c.begins-first.ensures
+
+pub report-requires : goal.report-requires
+report-requires c =
+    last_few c.args.table.now c.args.work.now c.args.out.now c.args.program c.args.allowance c.requires
+    c.put.ensures c.begins-first.ensures c.go-last.ensures
+
+pub returns : goal.returns
+returns c =
+    last_whole c.args.table.now c.args.work.now c.args.out.now c.args.program c.args.allowance c.requires
+    c.put.ensures c.begins-first.ensures c.go-last.ensures _ c.clear.ensures _ c.report.ensures
