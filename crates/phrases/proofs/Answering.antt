@@ -150,8 +150,8 @@ over_one {f = f} {g = g} kind own behind build q t a x o =
 pub over_two : {T U W : Told Exp} {count n f lo hi n₁ l₁ h₁ n₂ l₂ h₂ r m k : ℕ} {w w₁ w₂ w₃ : List ℕ} {g h : Part} (kind own : ℕ)
     (build : List Token → Exp → Exp → Exp)
     → ((ts : List Token) → Stand w₁ count ts → (x y : Exp) → (below (build ts x y) ≡ below x + 1 + below y + 1)
-    × (lay w f (build ts x y) ≡ put_row (lay (lay w f x) (f + below x + 1) y) (f + below x + 1 + below y + 1) kind own (f + below x) (f + below x + 1 + below y)
-    0))
+    × (lay w f (build ts x y) ≡ put_row (lay (lay w f x) (f + below x + 1) y) (f + below x + 1 + below y + 1) kind own (f + below x)
+    (f + below x + 1 + below y) 0))
     → ((ts : List Token) → Stand w count ts → Stand w₁ count ts → (x : Exp) → U ts (got x m)
     → ((y : Exp) (l : ℕ) → W ts (got y l) → T ts (got (build ts x y) l)) × ((e : ℕ) → W ts (failed e) → T ts (failed e)))
     → Answer U count w n₁ f l₁ h₁ (Part.Tree r m k) w₁ → Answer W count w₁ n₂ k l₂ h₂ g w₂

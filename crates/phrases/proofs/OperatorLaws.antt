@@ -10,7 +10,6 @@ use borrow.Author.Tests.{eqb-true}
 use Rattle.language.specs.Sizes.{NODES}
 use Rattle.language.specs.Tokens.{Token, entry, kind_at}
 use Rattle.language.specs.Trees.{Binary, Exp, binary}
-use Rattle.language.specs.Grammar.{tier}
 use Rattle.language.proofs.Executable.Parses.{Result, failed, got}
 use Rattle.language.proofs.Executable.Climbing.{tightness, after as following, Joins, joins, joins_range, More}
 use Rattle.language.proofs.Executable.Climbing.{climb_failed, climb_first, climb_stop, climb_short, climb_on}

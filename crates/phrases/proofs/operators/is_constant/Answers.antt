@@ -1,6 +1,7 @@
 -- Whether a token is a constant: by cases on its kind.
 use mathlib.Core.Path.{refl, ap, sym}
 use borrow.Author.Tests.{ne_eqb}
+use Rattle.std.proofs.Common.{arith}
 use Rattle.language.specs.Tokens.{entry, TRUE, FALSE, TT}
 use Rattle.language.specs.Grammar.{constants}
 use Rattle.phrases.specs.Parts.{in_table}
@@ -24,4 +25,4 @@ returns-in-19 c =
 pub returns-in_default : goal.returns-in_default
 unfolding entry
 returns-in_default c =
-    rw (ne_eqb _ TRUE c.in_default.rest.0.0.1, ne_eqb _ FALSE c.in_default.rest.0.1, ne_eqb _ TT c.in_default.rest.1) refl
+    rw (ne_eqb c.args.k TRUE (omega arith), ne_eqb c.args.k FALSE (omega arith), ne_eqb c.args.k TT (omega arith)) refl

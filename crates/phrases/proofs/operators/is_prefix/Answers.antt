@@ -1,6 +1,7 @@
 -- Whether a token stands before its operand: by cases on its kind.
 use mathlib.Core.Path.{refl, ap, sym}
 use borrow.Author.Tests.{ne_eqb}
+use Rattle.std.proofs.Common.{arith}
 use Rattle.language.specs.Tokens.{entry, MINUS, NOT, BANG, REF}
 use Rattle.language.specs.Grammar.{prefixes}
 use Rattle.phrases.specs.Parts.{in_table}
@@ -30,9 +31,9 @@ pub returns-in_default : goal.returns-in_default
 unfolding entry
 returns-in_default c =
     rw (
-      ne_eqb _ MINUS c.in_default.rest.0.0.0.1,
-      ne_eqb _ NOT c.in_default.rest.0.0.1,
-      ne_eqb _ BANG c.in_default.rest.0.1,
-      ne_eqb _
-          REF c.in_default.rest.1,
+      ne_eqb c.args.k MINUS (omega arith),
+      ne_eqb c.args.k NOT (omega arith),
+      ne_eqb c.args.k BANG (omega arith),
+      ne_eqb c.args.k
+          REF (omega arith),
     ) refl

@@ -1,6 +1,7 @@
 -- Whether a token is a mark between bounds: by cases on its kind.
 use mathlib.Core.Path.{refl, ap, sym}
 use borrow.Author.Tests.{ne_eqb}
+use Rattle.std.proofs.Common.{arith}
 use Rattle.language.specs.Tokens.{entry, UPTO, THROUGH}
 use Rattle.language.specs.Grammar.{ranges}
 use Rattle.phrases.specs.Parts.{in_table}
@@ -19,4 +20,4 @@ returns-in-46 c =
 pub returns-in_default : goal.returns-in_default
 unfolding entry
 returns-in_default c =
-    rw (ne_eqb _ UPTO c.in_default.rest.0.1, ne_eqb _ THROUGH c.in_default.rest.1) refl
+    rw (ne_eqb c.args.k UPTO (omega arith), ne_eqb c.args.k THROUGH (omega arith)) refl

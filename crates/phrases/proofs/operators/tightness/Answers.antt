@@ -1,6 +1,7 @@
 -- How tightly a token binds: by cases on its kind.
 use mathlib.Core.Path.{refl, ap, sym}
 use borrow.Author.Tests.{ne_eqb}
+use Rattle.std.proofs.Common.{arith}
 use Rattle.language.specs.Tokens.{entry, OR, AND, LESS, EQUAL, PLUS, MINUS, STAR, SLASH}
 use Rattle.language.proofs.Executable.Climbing.{tightness}
 use Rattle.phrases.proofs.operators.tightness.Goals as goal
@@ -49,13 +50,13 @@ pub returns-in_default : goal.returns-in_default
 unfolding tightness entry
 returns-in_default c =
     rw (
-      ne_eqb _ OR c.in_default.rest.0.0.0.0.0.0.0.1,
-      ne_eqb _ AND c.in_default.rest.0.0.0.0.0.0.1,
-      ne_eqb _ LESS
-          c.in_default.rest.0.0.0.0.0.1,
-      ne_eqb _ EQUAL c.in_default.rest.0.0.0.0.1,
-      ne_eqb _ PLUS c.in_default.rest.0.0.0.1,
-      ne_eqb _ MINUS c.in_default.rest.0.0.1,
-      ne_eqb _ STAR c.in_default.rest.0.1,
-      ne_eqb _ SLASH c.in_default.rest.1,
+      ne_eqb c.args.k OR (omega arith),
+      ne_eqb c.args.k AND (omega arith),
+      ne_eqb c.args.k LESS
+          (omega arith),
+      ne_eqb c.args.k EQUAL (omega arith),
+      ne_eqb c.args.k PLUS (omega arith),
+      ne_eqb c.args.k MINUS (omega arith),
+      ne_eqb c.args.k STAR (omega arith),
+      ne_eqb c.args.k SLASH (omega arith),
     ) refl

@@ -1,0 +1,186 @@
+-- What the borrow checker leaves of the readers of Assign, the levels of operators, Un and Atom.
+use mathlib.Core.Path.{refl, sym, ◌∙◌}
+use native.Mathlib.Omega.{arith}
+use Rattle.phrases.proofs.Moving.{top_fits, later, later_with, node_fits}
+use Rattle.phrases.proofs.Standing.{within}
+use Rattle.phrases.proofs.Answering.{back, known}
+use Rattle.phrases.proofs.RowKinds.{constant_within, prefix_within, prefix_small}
+use Rattle.phrases.proofs.OperandLaws.{assign_none, assign_one, assign_to, atom_constant, atom_number, atom_float, atom_group, atom_block}
+use Rattle.phrases.proofs.OperandLaws.{atom_other, un_prefix, un_atom}
+use Rattle.phrases.proofs.OperatorLaws.{back_end, back_more, binding, rest_end, rest_none, rest_more, tier_none, tier_first}
+use Rattle.phrases.proofs.+phrases.Goals as goal
+
+pub assign-tier-value-requires : goal.tiers::assign-tier-value-requires
+assign-tier-value-requires t c =
+    let p = c.requires in
+    let seen = c.unpack-target.ensures ∙ c.in-Tree.is in
+    let o = (known c.tier-target_word.ensures seen).ahead in
+    let i = within _ _ _ _ (sym c.kind.ensures ∙ c.if-kind-eq-BECOMES.true) (omega arith) in
+    later_with p 5 4 c.decreases c.tier-target_word.auto.table (omega arith) (omega arith) (omega arith) (omega arith)
+    (omega arith, omega arith, λ e. omega arith)
+
+pub assign-pair-requires : goal.tiers::assign-pair-requires
+assign-pair-requires t c =
+    let p = c.requires in
+    let seen = c.unpack-target.ensures ∙ c.in-Tree.is in
+    let o = (known c.tier-target_word.ensures seen).ahead in
+    let i = within _ _ _ _ (sym c.kind.ensures ∙ c.if-kind-eq-BECOMES.true) (omega arith) in
+    top_fits p _ c.tier-value.ensures (omega arith) (omega arith) (c.tier-value.auto.table ∙ c.tier-target_word.auto.table) i
+
+pub assign-returns-then-kind-eq-BECOMES : goal.tiers::assign-returns-then-kind-eq-BECOMES
+assign-returns-then-kind-eq-BECOMES t c =
+    let seen = c.unpack-target.ensures ∙ c.in-Tree.is in
+    assign_to (known c.tier-target_word.ensures seen) (sym c.kind.ensures ∙ c.if-kind-eq-BECOMES.true) c.tier-value.ensures c.pair.ensures
+
+pub assign-returns-else-kind-eq-BECOMES : goal.tiers::assign-returns-else-kind-eq-BECOMES
+assign-returns-else-kind-eq-BECOMES t c =
+    let seen = c.unpack-target.ensures ∙ c.in-Tree.is in
+    back (assign_one (known c.tier-target_word.ensures seen) (λ e. c.if-kind-eq-BECOMES.false (c.kind.ensures ∙ e))) seen
+
+pub assign-returns-in-None : goal.tiers::assign-returns-in-None
+assign-returns-in-None t c =
+    let seen = c.unpack-target.ensures ∙ c.in-None.is in
+    back (assign_none (known c.tier-target_word.ensures seen)) seen
+
+pub atom-node-requires : goal.tiers::atom-node-requires
+atom-node-requires t c =
+    let p = c.requires in
+    let i = constant_within _ _ _ _ c.kind-k.ensures (sym c.is_constant.ensures ∙ c.if-is_constant.true) in
+    node_fits p refl i (omega arith) (omega arith)
+
+pub atom-returns-then-is_constant : goal.tiers::atom-returns-then-is_constant
+atom-returns-then-is_constant t c =
+    let i = constant_within _ _ _ _ c.kind-k.ensures (sym c.is_constant.ensures ∙ c.if-is_constant.true) in
+    atom_constant c.kind-k.ensures (sym c.is_constant.ensures ∙ c.if-is_constant.true) i c.node.ensures
+
+pub atom-node-requires-in-2 : goal.tiers::atom-node-requires-in-2
+atom-node-requires-in-2 t c =
+    let p = c.requires in
+    let i = within _ _ _ _ (sym c.kind-k.ensures ∙ c.in-2.is) (omega arith) in
+    node_fits p refl i (omega arith) (omega arith)
+
+pub atom-node-requires-in-39 : goal.tiers::atom-node-requires-in-39
+atom-node-requires-in-39 t c =
+    let p = c.requires in
+    let i = within _ _ _ _ (sym c.kind-k.ensures ∙ c.in-39.is) (omega arith) in
+    node_fits p refl i (omega arith) (omega arith)
+
+pub atom-until-inside-requires : goal.tiers::atom-until-inside-requires
+atom-until-inside-requires t c =
+    let p = c.requires in
+    let i = within _ _ _ _ (sym c.kind-k.ensures ∙ c.in-35.is) (omega arith) in
+    later_with p 2 9 c.decreases refl (omega arith) (omega arith) (omega arith) (omega arith) (omega arith)
+
+pub atom-around-requires : goal.tiers::atom-around-requires
+atom-around-requires t c =
+    let p = c.requires in
+    let i = within _ _ _ _ (sym c.kind-k.ensures ∙ c.in-35.is) (omega arith) in
+    top_fits p _ c.until-inside.ensures (omega arith) (omega arith) c.until-inside.auto.table i
+
+pub atom-until-inside-requires-in-37 : goal.tiers::atom-until-inside-requires-in-37
+atom-until-inside-requires-in-37 t c =
+    let p = c.requires in
+    let i = within _ _ _ _ (sym c.kind-k.ensures ∙ c.in-37.is) (omega arith) in
+    later_with p 2 9 c.decreases refl (omega arith) (omega arith) (omega arith) (omega arith) (omega arith)
+
+pub atom-around-requires-in-37 : goal.tiers::atom-around-requires-in-37
+atom-around-requires-in-37 t c =
+    let p = c.requires in
+    let i = within _ _ _ _ (sym c.kind-k.ensures ∙ c.in-37.is) (omega arith) in
+    top_fits p _ c.until-inside-in-37.ensures (omega arith) (omega arith) c.until-inside-in-37.auto.table i
+
+pub atom-returns-in-2 : goal.tiers::atom-returns-in-2
+atom-returns-in-2 t c =
+    let i = within _ _ _ _ (sym c.kind-k.ensures ∙ c.in-2.is) (omega arith) in
+    atom_number c.kind-k.ensures c.in-2.is i c.node-in-2.ensures
+
+pub atom-returns-in-39 : goal.tiers::atom-returns-in-39
+atom-returns-in-39 t c =
+    let i = within _ _ _ _ (sym c.kind-k.ensures ∙ c.in-39.is) (omega arith) in
+    atom_float c.kind-k.ensures c.in-39.is i c.node-in-39.ensures
+
+pub atom-returns-in-35 : goal.tiers::atom-returns-in-35
+atom-returns-in-35 t c =
+    atom_group c.kind-k.ensures c.in-35.is c.until-inside.ensures c.around.ensures
+
+pub atom-returns-in-37 : goal.tiers::atom-returns-in-37
+atom-returns-in-37 t c =
+    atom_block c.kind-k.ensures c.in-37.is c.until-inside-in-37.ensures c.around-in-37.ensures
+
+pub atom-returns-in_default : goal.tiers::atom-returns-in_default
+atom-returns-in_default t c =
+    back (atom_other c.kind-k.ensures (sym c.is_constant.ensures ∙ c.if-is_constant.false) (omega arith) (omega arith) (omega arith) (omega arith)
+    (omega arith)) c.failed_at.ensures
+
+pub rest-returns-then-p-least : goal.tiers::rest-returns-then-p-least
+rest-returns-then-p-least t c =
+    back_end (rest_end _ _ _ _ _ _ _ _ _ c.requires.le_least.0 c.kind-k.ensures c.tightness-p.ensures c.requires.room c.requires.free_value
+    c.requires.le_least.1 c.requires.le_least.3 (let y = c.if-p-least.true in λ s t. omega arith)) c.tree_of.ensures c.requires.free_value
+
+pub rest-returns-then-p-most : goal.tiers::rest-returns-then-p-most
+rest-returns-then-p-most t c =
+    back_end (rest_end _ _ _ _ _ _ _ _ _ c.requires.le_least.0 c.kind-k.ensures c.tightness-p.ensures c.requires.room c.requires.free_value
+    c.requires.le_least.1 c.requires.le_least.3 (let y = c.if-p-most.true in λ s t. omega arith)) c.tree_of-then-p-most.ensures
+    c.requires.free_value
+
+pub rest-tier-right_word-requires : goal.tiers::rest-tier-right_word-requires
+rest-tier-right_word-requires t c =
+    let p = c.requires.room in
+    let b = c.requires.le_least in
+    let y = c.if-p-least.false in
+    let z = c.if-p-most.false in
+    let x = binding _ _ _ _ _ c.kind-k.ensures c.tightness-p.ensures (omega arith) in
+    later_with p 0 4 c.decreases refl (omega arith) (omega arith) (omega arith) (omega arith) (omega arith, omega arith, λ e. x.2 (omega arith))
+
+pub rest-returns-in-Tree : goal.tiers::rest-returns-in-Tree
+rest-returns-in-Tree t c =
+    let p = c.requires.room in
+    let seen = c.unpack-right.ensures ∙ c.in-Tree.is in
+    let o = (known c.tier-right_word.ensures seen).ahead in
+    let y = c.if-p-least.false in
+    let z = c.if-p-most.false in
+    rest_more _ _ _ _ _ _ _ _ _ c.requires.le_least.0 c.kind-k.ensures c.tightness-p.ensures y z c.requires.free_value (omega arith)
+    (known c.tier-right_word.ensures seen) c.put.ensures _ c.after-tightest.ensures c.rest.ensures
+
+pub rest-returns-in-None : goal.tiers::rest-returns-in-None
+rest-returns-in-None t c =
+    let y = c.if-p-least.false in
+    let z = c.if-p-most.false in
+    let seen = c.unpack-right.ensures ∙ c.in-None.is in
+    back_more (rest_none _ _ _ _ _ _ _ _ _ c.requires.le_least.0 c.kind-k.ensures c.tightness-p.ensures y z
+    (known c.tier-right_word.ensures seen)) seen
+
+pub tier-returns-in-Tree : goal.tiers::tier-returns-in-Tree
+tier-returns-in-Tree t c =
+    let seen = c.unpack-first.ensures ∙ c.in-Tree.is in
+    tier_first _ (known c.un-first_word.ensures seen) c.rest.ensures
+
+pub tier-returns-in-None : goal.tiers::tier-returns-in-None
+tier-returns-in-None t c =
+    let seen = c.unpack-first.ensures ∙ c.in-None.is in
+    back (tier_none c.requires.le_least.1 (known c.un-first_word.ensures seen)) seen
+
+pub un-un-operand-requires : goal.tiers::un-un-operand-requires
+un-un-operand-requires t c =
+    let p = c.requires in
+    let i = prefix_within _ _ _ _ c.kind-k.ensures (sym c.is_prefix.ensures ∙ c.if-is_prefix.true) in
+    later p 3 3 c.decreases refl (omega arith) (omega arith) (omega arith) (omega arith)
+
+pub un-overflow_add-k : goal.tiers::un-overflow_add-k
+un-overflow_add-k t c =
+    let s = prefix_small _ (sym c.is_prefix.ensures ∙ c.if-is_prefix.true) in
+    omega arith
+
+pub un-over-requires : goal.tiers::un-over-requires
+un-over-requires t c =
+    let p = c.requires in
+    let i = prefix_within _ _ _ _ c.kind-k.ensures (sym c.is_prefix.ensures ∙ c.if-is_prefix.true) in
+    top_fits p _ c.un-operand.ensures (omega arith) (omega arith) c.un-operand.auto.table i
+
+pub un-returns-then-is_prefix : goal.tiers::un-returns-then-is_prefix
+un-returns-then-is_prefix t c =
+    un_prefix c.kind-k.ensures (sym c.is_prefix.ensures ∙ c.if-is_prefix.true) c.un-operand.ensures c.over.ensures
+
+pub un-returns-else-is_prefix : goal.tiers::un-returns-else-is_prefix
+un-returns-else-is_prefix t c =
+    un_atom c.kind-k.ensures (sym c.is_prefix.ensures ∙ c.if-is_prefix.false) c.atom.ensures
