@@ -64,7 +64,9 @@ but_token i k a b h l x =
 pub but_tokens : {v w : List ℕ} (ts : List Token) (n : ℕ) (us : List Token) → ButRows v w → ButRows (lay_tokens ts v n us) (lay_tokens ts w n us)
 unfolding lay_tokens
 but_tokens ts n [] x = x
-but_tokens ts n (u ∷ us) x = but_tokens ts (n + 1) us (but_token n _ _ _ _ _ x)
+but_tokens {v = v} {w = w} ts n (u ∷ us) x =
+    let put : List ℕ → List ℕ = λ t. put_token t n u.kind u.place (u.place + length u.spelling) (high_word u) (value_word ts u) in
+    but_tokens {v = put v} {w = put w} ts (n + 1) us (but_token n _ _ _ _ _ x)
 
 -- a token's words lie before those of rows
 pub put_above : (w : List ℕ) (n k a b h l i : ℕ) → 4 * n + 3 < i → get_or (put_token w n k a b h l) i 0 ≡ get_or w i 0
