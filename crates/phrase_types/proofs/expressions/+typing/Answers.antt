@@ -1,11 +1,17 @@
+-- What the search leaves of the functions that call one another: each answer is named after its function, t is the measure.
 use mathlib.Core.Path.{◌∙◌, refl, sym}
 use Rattle.phrase_types.proofs.ReadyArguments.{args_readable, args_first, args_next}
-use Rattle.phrase_types.proofs.InferredLaws.{end_inferred, stop_inferred, more_inferred, first_inferred, first_told, let_inferred, then_inferred, else_inferred, if_inferred, arguments_inferred, callee_ready, call_inferred, one_inferred, second_inferred, two_inferred, name_inferred, constant_inferred}
+use Rattle.phrase_types.proofs.InferredLaws.{end_inferred, stop_inferred, more_inferred, first_inferred, first_told}
+use Rattle.phrase_types.proofs.InferredLaws.{let_inferred, then_inferred, else_inferred, if_inferred, arguments_inferred}
+use Rattle.phrase_types.proofs.InferredLaws.{callee_ready, call_inferred, one_inferred, second_inferred, two_inferred}
+use Rattle.phrase_types.proofs.InferredLaws.{name_inferred, constant_inferred}
 use Rattle.phrase_types.proofs.CoveredLaws.{falls_along, falls_inside}
 use native.Mathlib.Omega.{arith}
 use Rattle.phrase_types.proofs.KeptLaws.{kept_self, kept_then}
 use Rattle.phrase_types.proofs.BindLaws.{let_children}
-use Rattle.phrase_types.proofs.ReadyLaws.{bound_number, ready_inside, ready_binds, ready_bound, ready_first, ready_body, ready_second, ready_third, called_number, ready_called, ready_headed, ready_args, ready_looped, ready_name}
+use Rattle.phrase_types.proofs.ReadyLaws.{bound_number, ready_inside, ready_binds, ready_bound, ready_first, ready_body}
+use Rattle.phrase_types.proofs.ReadyLaws.{ready_second, ready_third, called_number, ready_called, ready_headed, ready_args}
+use Rattle.phrase_types.proofs.ReadyLaws.{ready_looped, ready_name}
 use Rattle.language.specs.Meaning.{type_number}
 use Rattle.phrase_types.proofs.CountedLaws.{ready_bounds, ready_pass, bounds_inferred, pass_inferred, counted_inferred}
 use mathlib.Core.Bool.{false≢true}

@@ -1,3 +1,4 @@
+-- What the search leaves of the functions that call one another: each answer is named after its function, t is the measure.
 use mathlib.Core.Path.{◌∙◌, refl, sym, ap}
 use Rattle.resolver.proofs.Lists.{none_done, list_inside, list_room, part_ready, next_ready, more_done}
 use native.Mathlib.Omega.{arith}
@@ -151,8 +152,7 @@ place-between-inner-requires t c =
 pub place-place-requires-2 : goal.place-place-requires-2
 place-place-requires-2 t c =
     let many = (children_as c.word-kind.ensures refl c.children-count.ensures) in
-    let q =
-    second_ready many c.link-first.ensures c.place.ensures c.word-kind.ensures c.between-inner.ensures c.requires
+    let q = second_ready many c.link-first.ensures c.place.ensures c.word-kind.ensures c.between-inner.ensures c.requires
     (omega (arith, c.if-count-eq0.false, c.if-count-eq1.false)) c.link-second.ensures in
     (omega (arith, q.0, c.decreases), q.1)
 
@@ -165,8 +165,7 @@ place-returns-then-count-eq2 t c =
 pub place-place-requires-3 : goal.place-place-requires-3
 place-place-requires-3 t c =
     let many = (children_as c.word-kind.ensures refl c.children-count.ensures) in
-    let q =
-    third_ready many c.link-first.ensures c.place.ensures c.word-kind.ensures c.between-inner.ensures
+    let q = third_ready many c.link-first.ensures c.place.ensures c.word-kind.ensures c.between-inner.ensures
     c.link-second.ensures c.place-2.ensures c.requires
     (omega (arith, c.if-count-eq0.false, c.if-count-eq1.false, c.if-count-eq2.false)) c.link-third.ensures in
     (omega (arith, q.0, c.decreases), q.1)
