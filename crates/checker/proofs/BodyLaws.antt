@@ -28,9 +28,7 @@ use Rattle.checker.specs.Ruled.{Rules, check_head, check_body, Headings, Taken, 
 use Rattle.numbers.specs.declared.Reason.{Reason}
 use Rattle.numbers.specs.declared.Reason.TheVariants.{TooManyRefs, WrongBody}
 use Rattle.rules.specs.declared.Typing.{Typing}
-use Rattle.rules.specs.declared.Typing.TheVariants as Typing
 use Rattle.checker.specs.declared.programs.Verdict.{Verdict}
-use Rattle.checker.specs.declared.programs.Verdict.TheVariants as Verdict
 use Rattle.rules.proofs.TellLaws.{type_told, fault_told, tells_as}
 use Rattle.rules.proofs.OperatorLaws.{is_type, isnt_type}
 use Rattle.phrase_types.proofs.KeptLaws.{kept_self, kept_then, kept_fewer, kept_row}

@@ -20,9 +20,7 @@ use Rattle.rules.specs.Sight.{Functions, functions_given, functions_more, InSigh
 use Rattle.checker.specs.Ruled.{check_head, Next, Headlines, Fresh}
 use Rattle.numbers.specs.declared.Reason.TheVariants.{TooManyFunctions, FunctionTwice}
 use Rattle.rules.specs.declared.sight.Callee.{Callee}
-use Rattle.rules.specs.declared.sight.Callee.TheVariants as Callee
 use Rattle.checker.specs.declared.programs.Verdict.{Verdict}
-use Rattle.checker.specs.declared.programs.Verdict.TheVariants as Verdict
 use Rattle.phrase_types.proofs.ScopeLaws.{sight_headed, callee_means}
 use Rattle.rules.proofs.PlainLaws.{name_plain, callee_plain}
 use Rattle.checker.proofs.ParameterLaws.{unbound_none, unbound_some}

@@ -10,7 +10,6 @@ use Rattle.numbers.proofs.Apart.{same_reason}
 use Rattle.layout.specs.declared.Held.{Held}
 use Rattle.checker.specs.Checked.{Checkable, Answers, Checked}
 use Rattle.rules.specs.declared.Typing.{Typing}
-use Rattle.rules.specs.declared.Typing.TheVariants as Typing
 
 one_answer : (p : Program) (r q : Typing) → Answers r p → Answers q p → r ≡ q
 one_answer p (Typing.«Type» m) (Typing.«Type» n) (t, a, e) (u, b, d) =

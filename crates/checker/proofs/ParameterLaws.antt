@@ -25,11 +25,8 @@ use Rattle.rules.specs.Sight.{Variables, variables_none, variables_more, find_va
 use Rattle.phrase_types.specs.Inferred.{looked}
 use Rattle.checker.specs.Ruled.{ParameterAt, Bound}
 use Rattle.numbers.specs.declared.Reason.TheVariants.{TooManyParameters, ParameterTwice, TooManyRefs}
-use Rattle.numbers.specs.declared.Reason.{Reason}
 use Rattle.rules.specs.declared.sight.Found.{Found}
-use Rattle.rules.specs.declared.sight.Found.TheVariants as Found
 use Rattle.checker.specs.declared.programs.Verdict.{Verdict}
-use Rattle.checker.specs.declared.programs.Verdict.TheVariants as Verdict
 use Rattle.rules.proofs.TellLaws.{type_told, fault_told, tells_as}
 use Rattle.phrase_types.proofs.KeptLaws.{kept_self, kept_put, variables_put}
 use Rattle.phrase_types.proofs.ScopeLaws.{look_tells, stand_few}

@@ -27,9 +27,7 @@ use Rattle.phrase_types.specs.Inferred.{Kept, Ready, Inferred}
 use Rattle.checker.specs.Ruled.{Rules, Next, Listed, Ruled, Concluded}
 use Rattle.numbers.specs.declared.Reason.{Reason}
 use Rattle.rules.specs.declared.Typing.{Typing}
-use Rattle.rules.specs.declared.Typing.TheVariants as Typing
 use Rattle.checker.specs.declared.programs.Verdict.{Verdict}
-use Rattle.checker.specs.declared.programs.Verdict.TheVariants as Verdict
 use Rattle.rules.proofs.TellLaws.{fault_is, tells_from}
 use Rattle.phrase_types.proofs.KeptLaws.{kept_self, kept_then}
 

@@ -17,7 +17,6 @@ use Rattle.phrase_types.specs.Inferred.{Kept}
 use Rattle.checker.specs.Ruled.{ParameterAt, BoundIs, Bound, Headings, Taken}
 use Rattle.numbers.specs.declared.Reason.{Reason}
 use Rattle.checker.specs.declared.programs.Verdict.{Verdict}
-use Rattle.checker.specs.declared.programs.Verdict.TheVariants as Verdict
 use Rattle.phrase_types.proofs.KeptLaws.{kept_self, kept_then, kept_fewer, kept_row}
 
 -- k of d's parameters are the variables, and the rest are still to be taken

@@ -10,7 +10,6 @@ use Rattle.layout.specs.Decode.{Holds}
 use Rattle.layout.specs.declared.Held.{Held}
 use Rattle.numbers.specs.Meanings.{reason_meant}
 use Rattle.rules.specs.declared.Typing.{Typing}
-use Rattle.rules.specs.declared.Typing.TheVariants as Typing
 
 -- the table holds some program
 pub record Checkable (w : List ℕ) (P : Held) : Type 0 where

@@ -20,7 +20,6 @@ use Rattle.rules.specs.Asked.{Tells}
 use Rattle.phrase_types.specs.Inferred.{Kept, Ready}
 use Rattle.rules.specs.declared.Typing.{Typing}
 use Rattle.checker.specs.declared.programs.Verdict.{Verdict}
-use Rattle.checker.specs.declared.programs.Verdict.TheVariants as Verdict
 
 -- the verdict on something: P where it is fine, and else why it is not
 abbrev pub Rules : {A : Type 0} → Verdict → Res A → (A → Type 0) → Type 0

@@ -29,12 +29,9 @@ use Rattle.rules.specs.Asked.{Tells, Children, AsksCall, suits}
 use Rattle.phrase_types.specs.Inferred.{Kept, Told, ToldAll, TellsAll, tells_types, tells_wrong}
 use Rattle.numbers.specs.declared.Reason.{Reason}
 use Rattle.rules.specs.declared.Typing.{Typing}
-use Rattle.rules.specs.declared.Typing.TheVariants as Typing
 use Rattle.rules.specs.declared.sight.Callee.{Callee}
 use Rattle.rules.specs.declared.sight.Taker.{Taker}
-use Rattle.rules.specs.declared.sight.Taker.TheVariants as Taker
 use Rattle.phrase_types.specs.declared.expressions.Passed.{Passed}
-use Rattle.phrase_types.specs.declared.expressions.Passed.TheVariants as Passed
 use Rattle.rules.proofs.TellLaws.{fault_is, type_told, fault_told, tells_from}
 use Rattle.phrase_types.proofs.KeptLaws.{variables_kept, variables_put}
 use Rattle.phrase_types.proofs.ScopeLaws.{callee_means}

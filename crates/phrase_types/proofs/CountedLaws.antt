@@ -21,10 +21,8 @@ use Rattle.rules.specs.Asked.{Tells, AsksFor}
 use Rattle.phrase_types.specs.Inferred.{Kept, Stands, Ready, Told, Inferred, ReadyAll, ToldAll, InferredAll}
 use Rattle.numbers.specs.declared.Reason.{Reason}
 use Rattle.rules.specs.declared.Typing.{Typing}
-use Rattle.rules.specs.declared.Typing.TheVariants as Typing
 use Rattle.rules.specs.declared.sight.Taker.TheVariants as Taker
 use Rattle.phrase_types.specs.declared.expressions.Passed.{Passed}
-use Rattle.phrase_types.specs.declared.expressions.Passed.TheVariants as Passed
 use Rattle.rules.proofs.TellLaws.{fault_is, type_told, fault_told}
 use Rattle.rules.proofs.ShapeLaws.{for_shape}
 use Rattle.phrase_types.proofs.KeptLaws.{kept_then, kept_fewer, kept_put}

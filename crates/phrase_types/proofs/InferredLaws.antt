@@ -17,12 +17,9 @@ use Rattle.rules.specs.Asked.{Children, Constant, AsksOne, AsksTwo, AsksIf, Asks
 use Rattle.phrase_types.specs.Inferred.{looked, Ready, Told, Inferred, ReadyAll, ToldAll, InferredAll}
 use Rattle.numbers.specs.declared.Reason.{Reason}
 use Rattle.rules.specs.declared.Typing.{Typing}
-use Rattle.rules.specs.declared.Typing.TheVariants as Typing
 use Rattle.rules.specs.declared.sight.Callee.{Callee}
 use Rattle.rules.specs.declared.sight.Taker.{Taker}
-use Rattle.rules.specs.declared.sight.Taker.TheVariants as Taker
 use Rattle.phrase_types.specs.declared.expressions.Passed.{Passed}
-use Rattle.phrase_types.specs.declared.expressions.Passed.TheVariants as Passed
 use Rattle.phrase_types.proofs.KeptLaws.{kept_self, kept_then, kept_fewer, kept_put, told_before, told_all_before}
 use Rattle.phrase_types.proofs.ScopeLaws.{sight_headed}
 use Rattle.rules.proofs.PlainLaws.{callee_plain, rowed_plain, expected_plain, asks_plain}

@@ -8,7 +8,6 @@ use Rattle.phrase_types.specs.Inferred.{looked}
 use Rattle.numbers.specs.declared.Reason.TheVariants.{NoBinding}
 use Rattle.rules.specs.declared.Typing.TheVariants as Typing
 use Rattle.rules.specs.declared.sight.Found.{Found}
-use Rattle.rules.specs.declared.sight.Found.TheVariants as Found
 
 module _ (w : List ℕ) (node binds : ℕ) {token number : ℕ} (q : Found) (e : token ≡ row_word w node OWN) (d : number ≡ token_value w token)
     (h : found q ≡ find_variable w number binds) where

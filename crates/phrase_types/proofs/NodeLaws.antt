@@ -24,7 +24,6 @@ use Rattle.rules.specs.Asked.{Tells, Children, Constant, AsksOne, AsksTwo, AsksI
 use Rattle.phrase_types.specs.Inferred.{Stands, looked, Told}
 use Rattle.numbers.specs.declared.Reason.{Reason}
 use Rattle.rules.specs.declared.Typing.{Typing}
-use Rattle.rules.specs.declared.Typing.TheVariants as Typing
 use Rattle.rules.proofs.TellLaws.{type_is, fault_is, type_told, fault_told}
 use Rattle.phrase_types.proofs.ScopeLaws.{look_tells, sight_few}
 

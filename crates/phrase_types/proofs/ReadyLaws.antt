@@ -24,7 +24,6 @@ use Rattle.phrase_types.specs.Inferred.{Kept, Ready, Told, ReadyAll}
 use Rattle.rules.specs.declared.Typing.TheVariants as Typing
 use Rattle.rules.specs.declared.sight.Callee.{Callee}
 use Rattle.rules.specs.declared.sight.Taker.{Taker}
-use Rattle.rules.specs.declared.sight.Taker.TheVariants as Taker
 use Rattle.rules.proofs.TellLaws.{type_told}
 use Rattle.phrase_types.proofs.KeptLaws.{stands_kept, variables_kept, variables_put}
 use Rattle.phrase_types.proofs.ScopeLaws.{sight_headed, callee_rowed}

@@ -25,7 +25,6 @@ use Rattle.rules.specs.Sight.{functions_given, functions_more, InSight, callee_b
 use Rattle.rules.specs.Asked.{Tells, tells_type, tells_fault}
 use Rattle.phrase_types.specs.Inferred.{looked}
 use Rattle.rules.specs.declared.sight.Callee.{Callee}
-use Rattle.rules.specs.declared.sight.Callee.TheVariants as Callee
 
 -- ---- variables
 

@@ -18,10 +18,8 @@ use Rattle.rules.specs.Asked.{Tells, suits}
 use Rattle.numbers.specs.declared.Reason.{Reason}
 use Rattle.numbers.specs.declared.Reason.TheVariants.{NoBinding}
 use Rattle.rules.specs.declared.Typing.{Typing}
-use Rattle.rules.specs.declared.Typing.TheVariants as Typing
 use Rattle.rules.specs.declared.sight.Taker.{Taker}
 use Rattle.phrase_types.specs.declared.expressions.Passed.{Passed}
-use Rattle.phrase_types.specs.declared.expressions.Passed.TheVariants as Passed
 
 -- what a step leaves: all but the variables, and the first `binds` of these
 pub record Kept (w w' : List ℕ) (binds : ℕ) : Type 0 where

@@ -29,7 +29,7 @@ kept_put {w} {v} i s l h = record {
   long = length-set v (VARIABLES_AT + i) s ∙ h.long;
 }
 
-pub passed_kept : {x n i : ℕ} {w v : List ℕ} → Passed x n w i v → i ≤ NODES → Kept w v
+pub passed_kept : {x n : ℕ} {w : List ℕ} {i : ℕ} {v : List ℕ} → Passed x n w i v → i ≤ NODES → Kept w v
 passed_kept {w = w} pass_none l = kept_self w
 passed_kept (pass_more {i} {s} p q) l = kept_put i s (omega arith) (passed_kept p (omega arith))
 

@@ -84,7 +84,7 @@ beyond_put {v = v} i s l h = record {
   long = length-set v (VARIABLES_AT + i) s ∙ h.long;
 }
 
-passed_beyond : {x n i : ℕ} {u w v : List ℕ} → Beyond u w → Passed x n w i v → i ≤ NODES → Beyond u v
+passed_beyond : {x n : ℕ} {u w : List ℕ} {i : ℕ} {v : List ℕ} → Beyond u w → Passed x n w i v → i ≤ NODES → Beyond u v
 passed_beyond b pass_none l = b
 passed_beyond b (pass_more {i} {s} p q) l = beyond_put i s (omega arith) (passed_beyond b p (omega arith))
 

@@ -121,8 +121,8 @@ module _ (self : Name → Bool) (costs : Scope ℕ) where
 
         module _ (f : ℕ) (r : Node (λ j. Right f ts w j) (λ j. RightArgs f ts w j) ts w i) where
           tree_is : (s : Shape) → shape_of (row_word w i KIND) ≡ some s → tree_at (suc f) ts w i
-              ≡ build ts s (row_word w i OWN) (tree_at f ts w (row_word w i FIRST)) (tree_at f ts w (row_word w i SECOND)) (tree_at f ts w (row_word w i THIRD))
-              (args_at f ts w (row_word w i FIRST))
+              ≡ build ts s (row_word w i OWN) (tree_at f ts w (row_word w i FIRST)) (tree_at f ts w (row_word w i SECOND))
+              (tree_at f ts w (row_word w i THIRD)) (args_at f ts w (row_word w i FIRST))
           unfolding tree_at build_if
           tree_is s e = rw e refl
 

@@ -13,7 +13,7 @@ use Rattle.layout.specs.Functions.{Headed}
 use Rattle.layout.specs.Notes.{noted, put_note, names_in}
 use Rattle.layout.specs.Resolved.{slot_of, callee_row, Placed, PlacedAll}
 use Rattle.resolver.specs.Spans.{Spans, SpansAll}
-use Rattle.resolver.specs.Resolves.{Wrote, Job, Done, JobAll, DoneAll, Placing, PlacingAll, Places, PlacesAll}
+use Rattle.resolver.specs.Resolves.{Wrote, Job, JobAll, DoneAll, Placing, PlacingAll, Places, PlacesAll}
 use Rattle.resolver.proofs.Spanning.{ordered}
 use Rattle.resolver.proofs.Writing.{wrote_then, wrote_note, note_put, names_same, token_alike, headed_alike}
 use Rattle.resolver.proofs.Writing.{callee_alike, scene_after}

@@ -1,0 +1,19 @@
+use mathlib.Core.Path.{sym, ◌∙◌}
+use Rattle.profiles.proofs.RowLaws.{body_here, body_past, body_none}
+use native.Mathlib.Omega.{arith}
+use Rattle.profiles.proofs.passes.find.Goals as goal
+
+pub returns-then-name : goal.returns-then-name
+returns-then-name c =
+    c.get.ensures
+    ∙ sym (c.loop-i.invariant.1 ∙ body_here _ _ (omega (arith, c.loop-i-test.true))
+    (sym c.name.ensures ∙ c.if-name.true))
+
+pub loop-i-preserved : goal.loop-i-preserved
+loop-i-preserved c = (
+  omega (arith, c.loop-i.invariant.0),
+  c.loop-i.invariant.1 ∙ body_past _ _ (omega (arith, c.loop-i-test.true)) (λ e. c.if-name.false (c.name.ensures ∙ e)),
+)
+
+pub returns : goal.returns
+returns c = sym (c.loop-i.invariant.1 ∙ body_none _ _ (omega (arith, c.loop-i-test.false)))
