@@ -13,7 +13,7 @@ use Rattle.language.proofs.Text.Choices.{either, outcome}
 use Rattle.language.specs.Sizes.{TOKENS, TABLE}
 use Rattle.language.specs.Tokens.{Token}
 use Rattle.layout.proofs.Clearing.{zeros_same}
-use Rattle.layout.specs.Names.{lay_tokens}
+use Rattle.layout.specs.Names.{lay_tokens, high_word, value_word}
 use Rattle.layout.specs.Table.{ROWS_AT, VARIABLES_AT, SPANS, put_token, zeros}
 use Rattle.tokens.specs.Forks.{ButRows, STARTS_AT, FORKS_AT, SameForks}
 

@@ -20,7 +20,7 @@ pub pass-requires : goal.pass-requires
 pass-requires c =
     let x = framed c.requires in (
       x.long,
-      omega (arith, x.work, c.put.auto.0),
+      omega (arith, x.work, c.put.auto.work),
       x.frame,
       x.inside,
       next_row c.mark-mark.ensures c.link-next.ensures c.if-next-eq0.false c.requires,

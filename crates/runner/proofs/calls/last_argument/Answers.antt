@@ -35,7 +35,7 @@ enter-requires c =
     let who = sym (ap found c.in-At.is) ∙ c.callee-who.ensures in
     let x = framed c.requires.0 in (
       last_callable c.word-kind.ensures c.counts.ensures c.if-counts.false c.requires.1 who c.requires.0,
-      omega (arith, x.work, c.put.auto.0),
+      omega (arith, x.work, c.put.auto.work),
       x.frame,
       x.inside,
       last_fits c.word-kind.ensures c.counts.ensures c.if-counts.false c.requires.1 who c.requires.0,

@@ -1,5 +1,4 @@
 -- `all_digits` reads the bytes of a float number one by one, and passes over the point.
-use mathlib.Core.Logic.{⊎_elim}
 use mathlib.Core.Path.{sym, subst}
 use native.Mathlib.Omega.{arith}
 use Prim.Native.Nat.{◌+◌, ◌-◌, ◌^◌, ◌≤◌, ◌<◌}
@@ -7,7 +6,7 @@ use Rattle.language.specs.Sizes.{DIGITS}
 use Rattle.tokens.proofs.Decimals.{Read, read_none, read_small, read_digit, read_past, read_more, read_all}
 use Rattle.tokens.specs.Shown.{shown}
 use Rattle.tokens.proofs.floats.all_digits.Goals as goal
-use Rattle.tokens.proofs.floats.all_digits.Goals.{After-byte, In-loop-i}
+use Rattle.tokens.proofs.floats.all_digits.Goals.{After-byte, In-loop-i, then-i-point, else-i-point}
 
 -- what is read so far, in a turn
 small : (c : In-loop-i) → c.loop-i.value < 10 ^ DIGITS
@@ -41,10 +40,12 @@ loop-i-preserved c =
     let l = c.loop-i in
     let test = c.loop-i-test.true in
     let t = shown a.first.now a.second.now a.view in
-    ⊎_elim
-    (λ w. subst (λ v. Read t a.at a.point a.end (l.i + 1) v) (sym w.2) (read_more c.requires l.invariant test w.1.ensures w.0.taken))
-    (λ w. subst (λ v. Read t a.at a.point a.end (l.i + 1) v) (sym w.1) (read_past c.requires l.invariant test w.0.left))
-    c.if-i-point.branch
+    elim c.if-i-point.branch [
+      | then-i-point w ↦
+          subst (λ v. Read t a.at a.point a.end (l.i + 1) v) (sym w.value-is) (read_more c.requires l.invariant test w.byte.ensures w.if-i-point.true)
+      | else-i-point w ↦
+          subst (λ v. Read t a.at a.point a.end (l.i + 1) v) (sym w.value-is) (read_past c.requires l.invariant test w.if-i-point.false)
+    ]
 
 pub returns : goal.returns
 returns c =

@@ -11,7 +11,7 @@ use Rattle.tokens.proofs.marks.plain.Goals.{After-doubled-two, After-single-one}
 
 two : (c : After-doubled-two) → c.doubled-two.result ≡ mark_kind (ahead ((shown c.args.first.now c.args.second.now c.args.view)) c.args.at 2)
 two c =
-    c.doubled-two.ensures ∙ ap (λ a. mark_kind (a ∷ byte ((shown c.args.first.now c.args.second.now c.args.view)) (c.args.at + 1) ∷ [])) c.pre.2
+    c.doubled-two.ensures ∙ ap (λ a. mark_kind (a ∷ byte ((shown c.args.first.now c.args.second.now c.args.view)) (c.args.at + 1) ∷ [])) c.requires.2
 
 one : (c : After-single-one)
     → c.single-one.result ≡ mark_kind (ahead ((shown c.args.first.now c.args.second.now c.args.view)) c.args.at 1)
@@ -20,14 +20,14 @@ one c =
 
 pub returns-then-two-ne-PAST : goal.returns-then-two-ne-PAST
 returns-then-two-ne-PAST c =
-    marked c.pre.0 c.pre.1 2 (two_most _ _) (two (goal.at.returns-then-two-ne-PAST c).After-doubled-two) c.if-two-ne-PAST.true
+    marked c.requires.0 c.requires.1 2 (two_most _ _) (two (goal.at.returns-then-two-ne-PAST c).After-doubled-two) c.if-two-ne-PAST.true
 
 pub returns-then-one-ne-PAST : goal.returns-then-one-ne-PAST
 returns-then-one-ne-PAST c =
-    let shorter = unmarked c.pre.0 c.pre.1 1 (two_most _ _) (two (goal.at.returns-then-one-ne-PAST c).After-doubled-two) c.if-two-ne-PAST.false in
-    marked c.pre.0 c.pre.1 1 shorter (one (goal.at.returns-then-one-ne-PAST c).After-single-one) c.if-one-ne-PAST.true
+    let shorter = unmarked c.requires.0 c.requires.1 1 (two_most _ _) (two (goal.at.returns-then-one-ne-PAST c).After-doubled-two) c.if-two-ne-PAST.false in
+    marked c.requires.0 c.requires.1 1 shorter (one (goal.at.returns-then-one-ne-PAST c).After-single-one) c.if-one-ne-PAST.true
 
 pub returns : goal.returns
 returns c =
-    let shorter = unmarked c.pre.0 c.pre.1 1 (two_most _ _) (two (goal.at.returns c).After-doubled-two) c.if-two-ne-PAST.false in
-    markless c.pre.1 (unmarked c.pre.0 c.pre.1 0 shorter (one (goal.at.returns c).After-single-one) c.if-one-ne-PAST.false)
+    let shorter = unmarked c.requires.0 c.requires.1 1 (two_most _ _) (two (goal.at.returns c).After-doubled-two) c.if-two-ne-PAST.false in
+    markless c.requires.1 (unmarked c.requires.0 c.requires.1 0 shorter (one (goal.at.returns c).After-single-one) c.if-one-ne-PAST.false)

@@ -16,44 +16,40 @@ use Rattle.tokens.specs.Found.{IsMark}
 use Rattle.tokens.proofs.Views.{shown_long}
 use Rattle.tokens.specs.Shown.{shown}
 use Rattle.tokens.proofs.pieces.piece_of.Goals as goal
-use Rattle.tokens.proofs.pieces.piece_of.Goals.{Else-is_digit, Start}
+use Rattle.tokens.proofs.pieces.piece_of.Goals.{Start}
 
 -- a test of the byte there, said of the byte of the text
-known : (s : Start) (f : ℕ → Bool) {r x : Bool} → r ≡ f s.args.here → r ≡ x → f (byte ((shown s.args.first.now s.args.second.now s.args.view)) ((s.args.at))) ≡ x
+known : (s : Start) (f : ℕ → Bool) {r x : Bool} → r ≡ f s.args.here → r ≡ x → f (byte (shown s.args.first.now s.args.second.now s.args.view) s.args.at) ≡ x
 known s f g h =
     sym (g ∙ ap f s.requires.1) ∙ h
 
-no_digit : (c : Else-is_digit) → is_digit (byte ((shown start1.args.first.now start1.args.second.now start1.args.view) (c.at).Else-is_letter) ((start1.args.at) (c.at).Else-is_letter)) ≡ false
-no_digit c =
-    known (c.at).Start is_digit c.is_digit.ensures c.if-is_digit.false
-
 pub returns-then-is_letter : goal.returns-then-is_letter
 returns-then-is_letter c =
-    let t = (shown c.args.first.now c.args.second.now c.args.view) in
-    let p = (c.args.at) in
+    let t = shown c.args.first.now c.args.second.now c.args.view in
+    let p = c.args.at in
     let q = c.name_end-end.result in
     let letter = known (goal.at.returns-then-is_letter c).Start is_letter c.is_letter.ensures c.if-is_letter.true in
     let piece = name_piece (laws_of c.args.edition) t p q c.requires.0 letter c.name_end-end.ensures in
-    plain_token c.args.edition (letter_not_digit _ letter) (subst (λ k. Piece ((meant c.args.edition)) t p q (token k 0)) (sym c.word.ensures) piece)
+    plain_token c.args.edition (letter_not_digit _ letter) (subst (λ k. Piece (meant c.args.edition) t p q (token k 0)) (sym c.word.ensures) piece)
 
 pub returns-then-here-eq47 : goal.returns-then-here-eq47
 returns-then-here-eq47 c =
-    c.slash.ensures start1 c.args.edition
+    c.slash.ensures c.args.edition
 
 pub overflow_add-next : goal.overflow_add-next
 overflow_add-next c =
-    let t = (shown c.args.first.now c.args.second.now c.args.view) in
-    let p = (c.args.at) in
-    let m = subst (IsMark ((meant c.args.edition)) t p) c.in-Is.is c.mark_at.ensures in
+    let t = shown c.args.first.now c.args.second.now c.args.view in
+    let p = c.args.at in
+    let m = subst (IsMark (meant c.args.edition) t p) c.in-Is.is c.mark_at.ensures in
     let a = c.args in
-    omega (arith, form_bounds t p _ _ m.form, shown_long a.first.now a.second.now a.view, c.good)
+    omega (arith, form_bounds t p _ _ m.form, shown_long a.first.now a.second.now a.view, c.well_formed)
 
 pub returns-in-Is : goal.returns-in-Is
 returns-in-Is c =
-    let piece = subst (IsMark ((meant c.args.edition)) ((shown c.args.first.now c.args.second.now c.args.view)) ((c.args.at))) c.in-Is.is c.mark_at.ensures in
-    plain_token c.args.edition (no_digit (goal.at.returns-in-Is c).Else-is_digit) piece
+    let piece = subst (IsMark (meant c.args.edition) (shown c.args.first.now c.args.second.now c.args.view) c.args.at) c.in-Is.is c.mark_at.ensures in
+    plain_token c.args.edition (known (goal.at.returns-in-Is c).Start is_digit c.is_digit.ensures c.if-is_digit.false) piece
 
 pub returns-in-None : goal.returns-in-None
 returns-in-None c =
-    let formless = subst (IsMark ((meant c.args.edition)) ((shown c.args.first.now c.args.second.now c.args.view)) ((c.args.at))) c.in-None.is c.mark_at.ensures in
-    λ ts. strange c.pre.0 formless
+    let formless = subst (IsMark (meant c.args.edition) (shown c.args.first.now c.args.second.now c.args.view) c.args.at) c.in-None.is c.mark_at.ensures in
+    λ ts. strange c.requires.0 formless

@@ -1,37 +1,26 @@
 -- `based_at` asks two bytes for a base, and the byte behind them for a digit of it.
 use mathlib.Core.List.{[], ◌∷◌}
-use mathlib.Core.Path.{◌≡◌, refl, sym, ◌∙◌, ap, ap₂}
+use mathlib.Core.Path.{refl, sym, ◌∙◌, ap, ap₂}
 use native.Mathlib.Omega.{arith}
-use Prim.Native.Nat.{◌+◌}
 use Rattle.language.proofs.Text.Bases.{base_told, Digits, told_digits, untold_digits}
-use Rattle.language.specs.Text.{byte, is_digit_of}
+use Rattle.language.specs.Text.{is_digit_of}
+use Prim.Native.Nat.{◌+◌}
 use Rattle.tokens.proofs.Editions.{laws_of, shared_bases}
 use Rattle.tokens.specs.Editions.{meant}
 use Rattle.tokens.proofs.Views.{shown_long}
 use Rattle.tokens.specs.Shown.{shown}
 use Rattle.tokens.proofs.worth.based_at.Goals as goal
-use Rattle.tokens.proofs.worth.based_at.Goals.{After-base_of-base, After-is_digit_of, Then-is_digit_of}
+use Rattle.tokens.proofs.worth.based_at.Goals.{Then-is_digit_of}
 
--- the base that the two bytes tell
-base : (c : After-base_of-base)
-    → c.base_of-base.result ≡ base_told (byte ((shown c.args.first.now c.args.second.now c.args.view)) ((c.args.at)) ∷ byte ((shown c.args.first.now c.args.second.now c.args.view)) ((c.args.at) + 1) ∷ [])
-base c =
-    c.base_of-base.ensures ∙ ap₂ (λ a b. base_told (a ∷ b ∷ [])) c.byte.ensures c.ahead.ensures
-
--- whether a digit of it stands behind them
-digit : (c : After-is_digit_of)
-    → c.is_digit_of.result
-    ≡ is_digit_of c.base_of-base.result (byte ((shown c.args.first.now c.args.second.now c.args.view)) ((c.args.at) + 2))
-digit c =
-    c.is_digit_of.ensures ∙ ap (is_digit_of c.base_of-base.result) c.ahead-2.ensures
-
--- a base is told
+-- a base is told by the two bytes, and a digit of it stands behind them
 found : (c : Then-is_digit_of)
-    → Digits (meant c.args.edition) ((shown c.args.first.now c.args.second.now c.args.view)) ((c.args.at))
-    ((c.args.at) + 2) c.base_of-base.result
+    → Digits (meant c.args.edition) (shown c.args.first.now c.args.second.now c.args.view) c.args.at (c.args.at + 2) c.base_of-base.result
 found c =
-    let e = c.args.edition in
-    told_digits (laws_of e) (shared_bases e) ((shown c.args.first.now c.args.second.now c.args.view)) ((c.args.at)) c.base_of-base.result (base (c.at).After-base_of-base) (sym (digit (c.at).After-is_digit_of) ∙ c.if-is_digit_of.true)
+    let a = c.args in
+    let base = c.base_of-base.ensures ∙ ap₂ (λ a b. base_told (a ∷ b ∷ [])) c.byte.ensures c.ahead.ensures in
+    let digit = c.is_digit_of.ensures ∙ ap (is_digit_of c.base_of-base.result) c.ahead-2.ensures in
+    told_digits (laws_of a.edition) (shared_bases a.edition) (shown a.first.now a.second.now a.view) a.at c.base_of-base.result base
+    (sym digit ∙ c.if-is_digit_of.true)
 
 pub overflow_add-result : goal.overflow_add-result
 overflow_add-result c =
@@ -40,11 +29,15 @@ overflow_add-result c =
     omega (arith, (found (goal.at.overflow_add-result c).Then-is_digit_of).within, long, c.well_formed)
 
 pub returns-then-is_digit_of : goal.returns-then-is_digit_of
-returns-then-is_digit_of c =
-    (found (goal.at.returns-then-is_digit_of c).Then-is_digit_of, λ e. absurd (omega arith))
+returns-then-is_digit_of c = (found (goal.at.returns-then-is_digit_of c).Then-is_digit_of, λ e. absurd (omega arith))
 
 pub returns : goal.returns
 returns c =
-    let none = sym (digit (goal.at.returns c).After-is_digit_of) ∙ c.if-is_digit_of.false in
-    let e = c.args.edition in
-    (untold_digits (laws_of e) (shared_bases e) ((shown c.args.first.now c.args.second.now c.args.view)) ((c.args.at)) c.base_of-base.result (base (goal.at.returns c).After-base_of-base) c.pre.0 c.pre.1 none, λ e. refl)
+    let a = c.args in
+    let base = c.base_of-base.ensures ∙ ap₂ (λ a b. base_told (a ∷ b ∷ [])) c.byte.ensures c.ahead.ensures in
+    let digit = c.is_digit_of.ensures ∙ ap (is_digit_of c.base_of-base.result) c.ahead-2.ensures in
+    let none = sym digit ∙ c.if-is_digit_of.false in
+    let text = shown a.first.now a.second.now a.view in (
+      untold_digits (laws_of a.edition) (shared_bases a.edition) text a.at c.base_of-base.result base c.requires.0 c.requires.1 none,
+      λ e. refl,
+    )
