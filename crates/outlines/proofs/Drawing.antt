@@ -162,7 +162,7 @@ alone_told (suc f) ts w i r =
 
 -- ---- a sheet that passes
 
-nth : {f k : ℕ} {ts : List Token} {w : List ℕ} {ds : List Def} → FunctionsAt f ts w k ds → (n : ℕ) → k ≤ n → n < k + length ds
+nth : {f : ℕ} {ts : List Token} {w : List ℕ} {k : ℕ} {ds : List Def} → FunctionsAt f ts w k ds → (n : ℕ) → k ≤ n → n < k + length ds
     → (d : Def) × FunctionAt f ts w (function_row w n) d
 nth functions_none n a b = absurd (omega arith)
 nth {f} {k} {ts} {w} (functions_more {d = d} x xs) n a b = by_place (dec_le n k) (λ h. nth xs n h (omega arith))
