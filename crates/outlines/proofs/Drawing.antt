@@ -165,7 +165,7 @@ alone_told (suc f) ts w i r =
 nth : {f : ℕ} {ts : List Token} {w : List ℕ} {k : ℕ} {ds : List Def} → FunctionsAt f ts w k ds → (n : ℕ) → k ≤ n → n < k + length ds
     → (d : Def) × FunctionAt f ts w (function_row w n) d
 nth functions_none n a b = absurd (omega arith)
-nth {f} {k} {ts} {w} (functions_more {d = d} x xs) n a b = by_place (dec_le n k) (λ h. nth xs n h (omega arith))
+nth {f} {ts} {w} {k} (functions_more {d = d} x xs) n a b = by_place (dec_le n k) (λ h. nth xs n h (omega arith))
   where
     by_place : Dec (n ≤ k) → (k + 1 ≤ n → (d : Def) × FunctionAt f ts w (function_row w n) d) → (d : Def) × FunctionAt f ts w (function_row w n) d
     by_place (yes h) later = let e : k ≡ n = omega arith in (d, subst (λ (i : ℕ). FunctionAt f ts w (function_row w i) d) e x)
