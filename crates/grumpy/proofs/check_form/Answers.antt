@@ -1,0 +1,19 @@
+use Rattle.grumpy.proofs.Services.{check_is_short, check_is_passed, check_is_refused}
+use Rattle.grumpy.proofs.check_form.Goals as goal
+
+pub returns-then-table-lt-TABLE : goal.returns-then-table-lt-TABLE
+returns-then-table-lt-TABLE c =
+    let a = c.args in
+    check_is_short a.first.now a.second.now a.form a.edition _ c.if-table-lt-TABLE.true
+
+pub returns-in-Passes : goal.returns-in-Passes
+returns-in-Passes c =
+    let a = c.args in
+    check_is_passed a.first.now a.second.now a.form a.edition _ _ _ _ c.examine_form-seen.ensures
+    c.if-table-lt-TABLE.false c.clear.ensures _ _ c.in-Passes.is
+
+pub returns-in-Refused : goal.returns-in-Refused
+returns-in-Refused c =
+    let a = c.args in
+    check_is_refused a.first.now a.second.now a.form a.edition _ _ _ _ c.examine_form-seen.ensures
+    c.if-table-lt-TABLE.false c.clear.ensures _ _ c.in-Refused.is
