@@ -6,7 +6,7 @@ use native.Mathlib.Omega.{arith}
 use lib.ListN.{length, get_or}
 use Rattle.language.specs.Sizes.{TOKENS, NODES, TABLE}
 use Rattle.language.specs.Tokens.{Token, DEF, LBRACE}
-use Rattle.language.specs.Trees.{Exp, block, Param, Def, Program}
+use Rattle.language.specs.Trees.{Exp, Param, Def, Program}
 use Rattle.language.specs.Grammar.{Reading}
 use Rattle.language.specs.Meaning.{type_number}
 use Rattle.layout.specs.Table.{ROWS_AT, FUNCTIONS_AT, row_word, function_row, put_row, put_function}
@@ -85,7 +85,8 @@ module _ (ts : List Token) (ls : List ℕ) where
 
   functions_back : (ds : List Def) (w : List ℕ) (f k m : ℕ) → defs_rows ds ≤ m → f + defs_rows ds ≤ NODES → k + length ds ≤ TOKENS → TABLE ≤ length w
       → OwnedDefs ts ds → Agree ls (lay_defs w f k ds) f (f + defs_rows ds)
-      → ((j : ℕ) → k ≤ j → j < k + length ds → get_or ls (FUNCTIONS_AT + j) 0 ≡ get_or (lay_defs w f k ds) (FUNCTIONS_AT + j) 0) → FunctionsAt (suc m) ts ls k ds
+      → ((j : ℕ) → k ≤ j → j < k + length ds → get_or ls (FUNCTIONS_AT + j) 0 ≡ get_or (lay_defs w f k ds) (FUNCTIONS_AT + j) 0)
+      → FunctionsAt (suc m) ts ls k ds
   unfolding lay_defs defs_rows
   functions_back [] w f k m n h t l o g q = functions_none
   functions_back (d ∷ ds) w f k m n h t l (owned_def x o) g q =

@@ -6,7 +6,7 @@ use mathlib.Core.Path.{◌≡◌, refl, sym, subst}
 use Prim.Native.Nat.{ℕ, ◌≤◌}
 use native.Mathlib.Omega.{arith}
 use lib.Dec.{T, eqb, leb, leb→le}
-use Rattle.language.specs.Tokens.{entry, NAME, NUMBER, FLOAT_NUMBER, LET, WHILE, IF, PLUS, BECOMES, SEMI, LPAR, LBRACE}
+use Rattle.language.specs.Tokens.{NAME, NUMBER, FLOAT_NUMBER, LET, WHILE, IF, PLUS, BECOMES, SEMI, LPAR, LBRACE}
 use Rattle.language.specs.Trees.{Literal, Unary, minus, not, fetch, new, Binary, add, sub, mul, div, less, equal, and, or, assign}
 use Rattle.language.proofs.Grammar.Entries.{every, entry_passes, by_entries}
 use Rattle.layout.specs.Rows.{PREFIX, CALL, literal_kind, unary_kind, binary_kind, range_kind}

@@ -62,7 +62,9 @@ lay_like : (ts us : List Token) (w : List ℕ) (n : ℕ) (vs : List Token)
     → lay_tokens ts w n vs ≡ lay_tokens us w n vs
 unfolding lay_tokens
 lay_like ts us w n [] f = refl
-lay_like ts us w n (v ∷ vs) f = rw (f 0 (omega arith)) (lay_like ts us (put_token w n v.kind v.place (v.place + length v.spelling) (high_word v) (value_word us v)) (n + 1) vs (λ i h. f (suc i) (omega arith)))
+lay_like ts us w n (v ∷ vs) f =
+    let one = put_token w n v.kind v.place (v.place + length v.spelling) (high_word v) (value_word us v) in
+    rw (f 0 (omega arith)) (lay_like ts us one (n + 1) vs (λ i h. f (suc i) (omega arith)))
 
 lay_append : (ts : List Token) (w : List ℕ) (n : ℕ) (us vs : List Token)
     → lay_tokens ts w n (us ++ vs) ≡ lay_tokens ts (lay_tokens ts w n us) (n + length us) vs
@@ -139,12 +141,16 @@ module _ (ts : List Token) where
   pub lay_length : (w : List ℕ) (n : ℕ) (us : List Token) → length (lay_tokens ts w n us) ≡ length w
   unfolding lay_tokens
   lay_length w n [] = refl
-  lay_length w n (u ∷ us) = lay_length (put_token w n u.kind u.place (u.place + length u.spelling) (high_word u) (value_word ts u)) (n + 1) us ∙ put_length w n _ _ _ _ _
+  lay_length w n (u ∷ us) =
+      let one = put_token w n u.kind u.place (u.place + length u.spelling) (high_word u) (value_word ts u) in
+      lay_length one (n + 1) us ∙ put_length w n _ _ _ _ _
 
   lay_other : (w : List ℕ) (n : ℕ) (us : List Token) (j : ℕ) → j < 4 * n → get_or (lay_tokens ts w n us) j 0 ≡ get_or w j 0
   unfolding lay_tokens
   lay_other w n [] j h = refl
-  lay_other w n (u ∷ us) j h = lay_other (put_token w n u.kind u.place (u.place + length u.spelling) (high_word u) (value_word ts u)) (n + 1) us j (omega arith) ∙ put_other w n _ _ _ _ _ j h
+  lay_other w n (u ∷ us) j h =
+      let one = put_token w n u.kind u.place (u.place + length u.spelling) (high_word u) (value_word ts u) in
+      lay_other one (n + 1) us j (omega arith) ∙ put_other w n _ _ _ _ _ j h
 
   -- the four words of the token u, one of ts
   abbrev pub TokenIn : List ℕ → ℕ → Token → Type 0

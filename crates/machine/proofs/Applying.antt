@@ -14,7 +14,6 @@ use Rattle.language.specs.State.{cell, as_int, as_bool, as_cell, has, when_some}
 use Rattle.language.specs.Meaning.{apply_unary, settles}
 use Rattle.language.proofs.Meaning.CellTypes.{cond_all}
 use Rattle.layout.specs.Rows.{PREFIX}
-use Rattle.layout.specs.declared.values.Value.{Value}
 use Rattle.layout.specs.declared.values.Value.TheVariants.{Flag}
 use Rattle.machine.specs.Rows.{unary_of, binary_of}
 use Rattle.machine.specs.Outcomes.{tells, memory, Fitted, Answered}

@@ -1,5 +1,4 @@
 -- Lines sought byte for byte, and the spot of a place.
-use lib.Dec.{eqb}
 use lib.ListN.{length}
 use mathlib.Core.Bool.{true, false}
 use mathlib.Core.List.{List}

@@ -19,9 +19,7 @@ use Rattle.layout.specs.Decode.{ParamsAt, params_none, params_more}
 use Rattle.rules.specs.Asked.{suits, Matches, AsksCall}
 use Rattle.numbers.specs.declared.Reason.TheVariants.{NoFunction}
 use Rattle.rules.specs.declared.Typing.{Typing}
-use Rattle.rules.specs.declared.Typing.TheVariants as Typing
 use Rattle.rules.specs.declared.sight.Callee.{Callee}
-use Rattle.rules.specs.declared.sight.Callee.TheVariants as Callee
 use Rattle.rules.specs.declared.sight.Taker.TheVariants as Taker
 use Rattle.rules.proofs.TellLaws.{fault_is, tells_from}
 

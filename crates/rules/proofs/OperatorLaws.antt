@@ -18,7 +18,6 @@ use Rattle.layout.specs.Rows.{unary_kind, binary_kind}
 use Rattle.rules.specs.Asked.{Tells, Prefixed, Between, as_arithmetic, operand, result, Operand, Result}
 use Rattle.numbers.specs.declared.Reason.TheVariants.{WrongOperands}
 use Rattle.rules.specs.declared.Typing.{Typing}
-use Rattle.rules.specs.declared.Typing.TheVariants as Typing
 use Rattle.rules.proofs.TellLaws.{type_is, fault_is}
 
 -- ---- types by their numbers

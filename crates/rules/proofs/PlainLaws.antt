@@ -20,9 +20,7 @@ use Rattle.rules.specs.Sight.{callee_by, callee_in, Means, Rowed, wanted_in, Rea
 use Rattle.rules.specs.Asked.{suits, AsksCall}
 use Rattle.rules.specs.declared.Typing.{Typing}
 use Rattle.rules.specs.declared.sight.Callee.{Callee}
-use Rattle.rules.specs.declared.sight.Callee.TheVariants as Callee
 use Rattle.rules.specs.declared.sight.Taker.{Taker}
-use Rattle.rules.specs.declared.sight.Taker.TheVariants as Taker
 
 module _ (w : List ℕ) where
   abbrev p : List ℕ

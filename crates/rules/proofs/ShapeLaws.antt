@@ -21,7 +21,6 @@ use Rattle.layout.proofs.Shapes.{is_binary, is_follow, is_let, is_while, parted}
 use Rattle.rules.specs.Asked.{Tells, Children, Constant, AsksOne, AsksTwo, Prefixed, Between, Follows, Repeats}
 use Rattle.rules.specs.Asked.{as_arithmetic, Operand, Result}
 use Rattle.rules.specs.declared.Typing.{Typing}
-use Rattle.rules.specs.declared.Typing.TheVariants as Typing
 use Rattle.rules.proofs.TellLaws.{type_is, tells_from}
 
 -- ---- how many children

@@ -10,12 +10,9 @@ use Rattle.language.specs.Meaning.{type_number}
 use Rattle.layout.specs.Table.{TYPE, ARITY, row_word, variable_name, variable_type}
 use Rattle.layout.specs.Functions.{find_function, found}
 use Rattle.layout.specs.declared.functions.Found.{Found}
-use Rattle.layout.specs.declared.functions.Found.TheVariants as Found
 use Rattle.rules.specs.Sight.{find_variable, callee_by, callee_in, Rowed, wanted_in, Readable, expected_in}
 use Rattle.rules.specs.declared.sight.Callee.{Callee}
-use Rattle.rules.specs.declared.sight.Callee.TheVariants as Callee
 use Rattle.rules.specs.declared.sight.Taker.{Taker}
-use Rattle.rules.specs.declared.sight.Taker.TheVariants as Taker
 
 module _ (w : List ℕ) (x : ℕ) {i k : ℕ} (last : i ≡ suc k) where
   -- the last variable is the one, or it is one of those before

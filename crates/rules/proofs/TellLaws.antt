@@ -8,7 +8,6 @@ use Rattle.numbers.specs.Meanings.{reason_meant}
 use Rattle.rules.specs.Asked.{Tells, tells_type, tells_fault}
 use Rattle.numbers.specs.declared.Reason.{Reason}
 use Rattle.rules.specs.declared.Typing.{Typing}
-use Rattle.rules.specs.declared.Typing.TheVariants as Typing
 
 -- a type is answered
 pub type_is : {n : ℕ} {x : Res Ty} (t : Ty) → x ≡ ok t → n ≡ type_number t → Tells (Typing.«Type» n) x

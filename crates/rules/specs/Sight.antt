@@ -13,9 +13,7 @@ use Rattle.layout.specs.Decode.{FunctionAt}
 use Rattle.rules.specs.declared.sight.Found.{Found}
 use Rattle.rules.specs.declared.sight.Found.TheVariants.{Is, Nowhere}
 use Rattle.rules.specs.declared.sight.Callee.{Callee}
-use Rattle.rules.specs.declared.sight.Callee.TheVariants as Callee
 use Rattle.rules.specs.declared.sight.Taker.{Taker}
-use Rattle.rules.specs.declared.sight.Taker.TheVariants as Taker
 
 -- ---- variables
 

@@ -8,7 +8,7 @@ use native.Mathlib.Omega.{arith}
 use lib.ListN.{length}
 use Rattle.language.specs.Sizes.{TOKENS, NODES, ACTIVE}
 use Rattle.language.specs.Tokens.{Token, NAME}
-use Rattle.language.specs.Trees.{Name, whole, Exp, name, literal, unary, binary, follow, group, block, call, bind, branch, loop, counted, Scope, own, nearest}
+use Rattle.language.specs.Trees.{Name, Exp, name, literal, unary, binary, follow, group, block, call, bind, branch, loop, counted, Scope, own, nearest}
 use Rattle.language.specs.State as M
 use Rattle.language.specs.State.{value, stop, stuck, no_unit, too_deep, then, when_some, with_units}
 use Rattle.language.specs.Meaning.{Fun, Env, charge, begin, literal_value, step, eval}

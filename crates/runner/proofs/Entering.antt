@@ -19,7 +19,7 @@ use Rattle.machine.specs.declared.state.Tally.{Tally}
 use Rattle.machine.specs.declared.state.Outcome.{Outcome}
 use Rattle.runner.specs.Trees.{At, slack, Scene}
 use Rattle.runner.specs.Waiting.{Run, Then, Binds, FrameAt, Later, Waits, Stack, frame}
-use Rattle.runner.specs.Standing.{Fair, Begins, Gives, Good, above, onward}
+use Rattle.runner.specs.Standing.{Fair, Begins, Good, onward}
 use Rattle.runner.specs.declared.state.Spot.{Spot}
 use Rattle.runner.proofs.Stacks.{Kept, stack_kept, stack_raise}
 

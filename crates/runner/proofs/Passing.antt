@@ -21,7 +21,6 @@ use Rattle.layout.proofs.Packed.{packed_key, packed_tag}
 use Rattle.machine.specs.Slots.{values_from}
 use Rattle.machine.specs.Outcomes.{memory}
 use Rattle.machine.specs.declared.state.Tally.{Tally}
-use Rattle.machine.specs.declared.state.Outcome.{Outcome}
 use Rattle.machine.proofs.Slotted.{put_value}
 use Rattle.runner.specs.Phases.{LAST, ARGUMENT, NAMELESS}
 use Rattle.runner.specs.Trees.{count, helds, Args}
@@ -34,7 +33,7 @@ use Rattle.runner.proofs.Memory.{frame_pushed, value_kept, values_kept}
 use Rattle.runner.proofs.Stacks.{then_then, helds_length, binds_kept}
 use Rattle.runner.proofs.Functions.{values_more, values_length, parameters_length, Called, call_prints, call_enters, body_of}
 use Rattle.runner.proofs.Entering.{spot, told_whole, onward_good, fair_printed, same_stack}
-use Rattle.runner.proofs.Giving.{waits_at, frame_room, frame_low, below, part_enters, sees}
+use Rattle.runner.proofs.Giving.{waits_at, frame_room, frame_low, below, part_enters}
 use Rattle.runner.proofs.Arguments.{does_inside, call_does, arguments_same, none_left, Argued, some_left}
 use Rattle.runner.proofs.Calling.{heads_at, callee_of}
 

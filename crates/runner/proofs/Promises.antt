@@ -2,7 +2,7 @@
 use mathlib.Core.Path.{◌≡◌, sym, ap, subst, ◌∙◌}
 use mathlib.Core.Bool.{Bool, true, false}
 use mathlib.Core.List.{List}
-use Prim.Native.Nat.{ℕ, ◌+◌, ◌*◌, ◌-◌, ◌≤◌, ◌<◌}
+use Prim.Native.Nat.{ℕ, ◌+◌, ◌*◌, ◌≤◌, ◌<◌}
 use native.Mathlib.Omega.{arith}
 use lib.Dec.{eqb}
 use lib.ListN.{length}
@@ -20,7 +20,7 @@ use Rattle.numbers.specs.declared.Stop.{Stop}
 use Rattle.machine.specs.declared.state.Tally.{Tally}
 use Rattle.runner.specs.Phases.{LAST}
 use Rattle.runner.specs.Waiting.{Run}
-use Rattle.runner.specs.Standing.{Begins, Starts, Gives, Resumes, Good, charged, above, begun, given, over, Enters}
+use Rattle.runner.specs.Standing.{Begins, Starts, Resumes, Good, charged, above, begun, given, over, Enters}
 use Rattle.runner.specs.Standing.{onward, weight, Some, Goes, Any, Prints, Printing, Creating}
 use Rattle.runner.specs.Standing.{Ending}
 use Rattle.runner.specs.declared.state.Spot.{Spot}

@@ -1,9 +1,7 @@
 -- A line of an input by the run of digits at its begin: what it holds, or why it is none; and the count.
 use borrow.Author.Tests.{ltb-true, ltb-false}
-use lib.Dec.{ltb}
-use lib.ListN.{length, get_or, take, drop, take-append-drop, get_or-eq_default}
+use lib.ListN.{length, take, drop, take-append-drop, get_or-eq_default}
 use lib.Seq.{slice, length-slice, drop-cons, drop-append-le, length-take-le, get_or-take, get_or-drop, drop-length}
-use mathlib.Core.Bool.{true, false}
 use mathlib.Core.List.{List, [], ◌∷◌, ◌++◌, append-nil}
 use mathlib.Core.Logic.{⊎_elim}
 use mathlib.Core.Path.{◌≡◌, refl, sym, ap, subst, ◌∙◌}

@@ -1,5 +1,5 @@
 -- What the next layer gets: the table of a stored sheet that is read stands for its tokens.
-use lib.ListN.{length, get_or, get_or-eq_default}
+use lib.ListN.{length, get_or-eq_default}
 use mathlib.Core.List.{List}
 use mathlib.Core.Logic.{⊎_elim}
 use mathlib.Core.Path.{ap}

@@ -1,5 +1,5 @@
 -- The ways through `hang` and `first_alike`: the token at a way's end is compared, and gets a fork beside it or not.
-use lib.ListN.{length, get_or}
+use lib.ListN.{get_or}
 use lib.Seq.{slice, length-slice}
 use mathlib.Core.Bool.{Bool, true, false}
 use mathlib.Core.List.{List}

@@ -1,7 +1,7 @@
 -- The text that a view shows: how long it may be, and where its bytes come from.
 use borrow.Author.Tests.{lt-ltb, le-ltb, le-leb, lt-leb}
 use lib.Dec.{ltb, leb}
-use lib.ListN.{length, get_or, drop, take, length-drop}
+use lib.ListN.{length, drop, take, length-drop}
 use lib.Seq.{slice, length-slice, take_all, get_or-take, get_or-drop}
 use mathlib.Core.Bool.{true}
 use mathlib.Core.List.{List, [], ◌∷◌}

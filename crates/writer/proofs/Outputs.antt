@@ -8,7 +8,6 @@ use Prim.Native.Nat.{ℕ, ◌≤◌, ◌<◌}
 use Rattle.language.specs.Sizes.{SOURCE}
 use Rattle.language.specs.Tokens.{Vocabulary, Token}
 use Rattle.language.specs.Text.{Splits}
-use Rattle.language.specs.Writing as Writing
 use Rattle.language.specs.Writing.{written_out}
 use Rattle.layout.specs.Names.{Stand}
 use Rattle.writer.specs.Texts.{Front, text_from, text_long, Writable, WritesOut}

@@ -1,6 +1,7 @@
 -- Parts put one behind the other at the start of lent bytes.
 use lib.ListN.{length, get_or, take, drop, set, length-append}
-use lib.Seq.{slice, paste, paste-suc, take-length, take_at, take-append_seam, drop-append-add, drop-drop, get_or-append_seam, get_or-take, get_or-drop, length-slice}
+use lib.Seq.{slice, paste, paste-suc, take-length, take_at, take-append_seam}
+use lib.Seq.{drop-append-add, drop-drop, get_or-append_seam, get_or-take, get_or-drop, length-slice}
 use mathlib.Core.List.{List, [], ◌∷◌, ◌++◌}
 use mathlib.Core.Path.{◌≡◌, refl, sym, ◌∙◌, ap}
 use native.Mathlib.Numerals.{add-one}

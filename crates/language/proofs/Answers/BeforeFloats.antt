@@ -8,7 +8,7 @@ use Prim.Native.Nat.{ℕ, ◌≤◌}
 use Rattle.language.specs.Sizes.{Sizes, ALLOWANCE}
 use Rattle.language.specs.Tokens.{EDITION_1, Token}
 use Rattle.language.specs.Trees.{Ty, Program}
-use Rattle.language.specs.State.{Outcome, value}
+use Rattle.language.specs.State.{Outcome}
 use Rattle.language.specs.Meaning.{type_number, run}
 use Rattle.language.specs.Numbers.{passed}
 use Rattle.language.specs.Answers.{Origin, TextGivesUnder, PassesUnder, Ending, ending, CheckReport, check_report, CheckedUnder}

@@ -1,6 +1,6 @@
 -- What head office asks before it buys (Req 11), of any lawful origin: a text, and whatever else tokens may come from.
 use mathlib.Core.List.{List}
-use mathlib.Core.Option.{none, some}
+use mathlib.Core.Option.{some}
 use mathlib.Core.Path.{◌≡◌, refl, sym, ap, subst, ◌∙◌}
 use Prim.Native.Nat.{ℕ, ◌+◌, ◌-◌, ◌≤◌, ◌<◌}
 use native.Mathlib.Omega.{arith}
@@ -12,7 +12,7 @@ use Rattle.language.specs.Grammar.{Reading}
 use Rattle.language.specs.Types.{HasTypeUnder}
 use Rattle.language.specs.State.{Stop, no_unit, Value, State, Outcome, value, stop, stuck}
 use Rattle.language.specs.Meaning.{run, type_number}
-use Rattle.language.specs.Numbers.{passed, refused, stopped, number, stop_number}
+use Rattle.language.specs.Numbers.{passed, stopped, number, stop_number}
 use Rattle.language.specs.Answers.{Origin, nowhere, at, PassesUnder, Ending, ended, ending, CheckReport, CheckedUnder, check_short, check_refused}
 use Rattle.language.specs.Answers.{check_passed, CheckUnder, Lent, EnoughUnder, RunReport, after_run, RanUnder, run_short, run_large}
 use Rattle.language.specs.Answers.{run_refused, run_ended, RunUnder}

@@ -3,10 +3,10 @@
 -- is not said again here stood word for word as it stands now.
 use mathlib.Core.List.{List, [], ◌∷◌}
 use Prim.Native.Nat.{ℕ, zero, suc}
-use lib.IntN.{ℤ, pos, ◌+ℤ◌, ◌-ℤ◌, ◌*ℤ◌}
+use lib.IntN.{pos, ◌+ℤ◌, ◌-ℤ◌, ◌*ℤ◌}
 use lib.Signed.{lt_z, quot_z}
 use Rattle.language.specs.Sizes.{ACTIVE}
-use Rattle.language.specs.Trees.{Literal, whole, truth, trivial, decimal, not, Binary, add, sub, mul, div, less}
+use Rattle.language.specs.Trees.{Literal, whole, truth, trivial, decimal, Binary, add, sub, mul, div, less}
 use Rattle.language.specs.Trees.{equal, and, or, assign, Exp, name, literal, unary, binary, follow, group, block, call, bind, branch, loop, counted}
 use Rattle.language.specs.Trees.{Exps, last, more, own, Def, Program, Scope, empty, push, PUTCHAR}
 use Rattle.language.specs.State.{Value, number, flag, nothing, as_int, as_bool, as_cell, held}

@@ -6,7 +6,7 @@ use mathlib.Core.Option.{some}
 use Prim.Native.Nat.{ℕ, zero, suc}
 use Rattle.language.specs.Sizes.{Sizes, ACTIVE}
 use Rattle.language.specs.Trees.{Ty, Binary, Exp}
-use Rattle.language.specs.Trees.{Exps, Program, Scope, empty, nearest, counted}
+use Rattle.language.specs.Trees.{Exps, Program, Scope, empty, nearest}
 use Rattle.language.specs.Types.{Sig, of_int, of_float, BinopType, b_add, b_sub, b_mul, b_div, b_less, b_equal, b_and}
 use Rattle.language.specs.Types.{b_or, b_assign, TypedUnder, t_name, t_whole, t_truth, t_trivial, t_decimal, t_unary, t_binary}
 use Rattle.language.specs.Types.{t_follow, t_group, t_block, t_call, t_bind, t_branch, t_loop, given, HasTypeUnder}

@@ -5,7 +5,7 @@ use Prim.Native.Nat.{ℕ, zero, suc, ◌≤◌}
 use native.Mathlib.Omega.{arith}
 use lib.IntN.{ℤ, ◌+ℤ◌}
 use Rattle.language.specs.Trees.{Name, Exp, Scope, push}
-use Rattle.language.specs.State.{number, nothing, State, Outcome, value, stop, then, as_unit, choose, want}
+use Rattle.language.specs.State.{number, nothing, State, Outcome, value, then, as_unit, choose, want}
 use Rattle.language.specs.Meaning.{Env, in_range, Fun, due, turns, eval}
 use Rattle.language.proofs.Meaning.Spending.{spends, at_end, then_same, want_same, choose_same, then_stop}
 

@@ -1,5 +1,5 @@
 -- The bytes of two sheets that are joined: those of the first, the LF, those of the second.
-use lib.ListN.{length, get_or, length-append, get_or-append, get_or-eq_default}
+use lib.ListN.{length, length-append, get_or-append, get_or-eq_default}
 use lib.Seq.{get_or-append-add}
 use mathlib.Core.List.{List, ◌∷◌}
 use mathlib.Core.Path.{◌≡◌, refl, sym, ◌∙◌, ap}

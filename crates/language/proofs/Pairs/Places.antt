@@ -1,6 +1,6 @@
 -- Where a place of the joined text falls, case by case (R07.3, R07.4): on a byte of the first sheet; on the LF between them,
 -- which is the end of the first; on a byte of the second; on the end. At an end the empty part is shown.
-use lib.Dec.{eqb, ltb, leb}
+use lib.Dec.{eqb}
 use lib.ListN.{length}
 use mathlib.Core.Bool.{cond}
 use mathlib.Core.List.{List}

@@ -42,7 +42,8 @@ either_way P true p q = p
 either_way P false p q = q
 
 module _ (n : ℕ) (first second : List ℕ) where
-  at_inside : {σ : Sizes} {ts : List Token} → (pair_in_under σ n first second).gives ts → (i : ℕ) → Inside first second ((pair_in_under σ n first second).at ts i)
+  at_inside : {σ : Sizes} {ts : List Token} → (pair_in_under σ n first second).gives ts → (i : ℕ)
+      → Inside first second ((pair_in_under σ n first second).at ts i)
   unfolding place_at
   at_inside {ts} g i =
       either_way (λ (p : ℕ). Inside first second (place_of first second p)) (ltb i (length ts))

@@ -21,7 +21,7 @@ use Rattle.language.specs.Profile.{profile_refused, profile_endless, profile_man
 use Rattle.language.proofs.Types.TypeNumbers.{one_number}
 use Rattle.language.proofs.Meaning.CellTypes.{none_some, some_one}
 use Rattle.language.proofs.Meaning.Profiled.{value_in_count, stop_in_count, never_50}
-use Rattle.language.proofs.Answers.Origins.{LawfulUnder, passes, passes_is, not_both, of_profile, refused_not_profiled}
+use Rattle.language.proofs.Answers.Origins.{LawfulUnder, passes_is, not_both, of_profile, refused_not_profiled}
 use Rattle.language.proofs.Answers.OneAnswer.{one_checked}
 use Rattle.language.proofs.Profiles.OneProfile.{one_profiled}
 

@@ -8,7 +8,7 @@ use mathlib.Core.Path.{◌≡◌, refl}
 use Prim.Native.Nat.{ℕ, ◌≤◌, ◌<◌}
 use native.Mathlib.Omega.{arith}
 use Rattle.language.specs.Sizes.{Sizes, BOX, ALLOWANCE}
-use Rattle.language.specs.Tokens.{Vocabulary, spell, ◌is◌}
+use Rattle.language.specs.Tokens.{Vocabulary, spell}
 use Rattle.language.specs.Text.{many_tokens}
 use Rattle.language.specs.Numbers.{text, refused}
 use Rattle.language.specs.Answers.{Origin, RefusedUnder, by_origin, CheckReport, check_report, CheckedUnder, check_refused}

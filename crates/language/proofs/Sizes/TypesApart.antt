@@ -12,7 +12,7 @@ use Rattle.language.specs.Faults.{not_unit, not_bool, not_int, branches_differ, 
 use Rattle.language.specs.Faults.{too_many_parameters, function_twice, parameter_twice, HasFaultUnder}
 use Rattle.language.specs.Numbers.{reason_number}
 use Rattle.language.proofs.Types.OneType.{program_one_type, never_both, type_or_fault}
-use Rattle.language.proofs.Sizes.Larger.{joint, joint_left, joint_right, reason_of_size}
+use Rattle.language.proofs.Sizes.Larger.{joint_left, joint_right, reason_of_size}
 use Rattle.language.proofs.Sizes.TypesLarger.{type_larger}
 use Rattle.language.proofs.Sizes.FaultsLarger.{has_fault_larger}
 

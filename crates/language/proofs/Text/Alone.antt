@@ -5,7 +5,7 @@ use lib.ListN.{length, get_or, take}
 use lib.Seq.{slice, slice-cons, length-slice, get_or-take, get_or-drop}
 use mathlib.Core.Bool.{Bool, true, false, cond, not}
 use mathlib.Core.List.{List, [], ◌∷◌}
-use mathlib.Core.Logic.{⊎_elim, ◌⊎◌, inl, inr}
+use mathlib.Core.Logic.{⊎_elim, inl, inr}
 use mathlib.Core.Option.{some}
 use mathlib.Core.Path.{◌≡◌, refl, sym, ap, subst, ◌∙◌}
 use native.Mathlib.Nat.{le_refl}
@@ -17,7 +17,7 @@ use Rattle.language.proofs.Text.Choices.{either, clash, and_both}
 use Rattle.language.proofs.Text.Classes.{high_not_blank, name_not_blank, letter_not_blank, digit_not_blank, name_digit_of}
 use Rattle.language.proofs.Text.Marks.{Laws, mark_shape, mark_some, unbroken, slice_two, base_shape}
 use Rattle.language.proofs.Text.OnePiece.{form_bounds}
-use Rattle.language.proofs.Text.Places.{sort, sort_line, sort_open, View, view}
+use Rattle.language.proofs.Text.Places.{sort_line, sort_open, View, view}
 use Rattle.language.proofs.Text.Places.Opened.{closed, left}
 use Rattle.language.proofs.Text.Places.Sort.{lines, opens}
 use Rattle.language.proofs.Text.Spellings.{byte_inside}

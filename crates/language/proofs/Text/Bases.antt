@@ -1,6 +1,6 @@
 -- A number's base as a program finds it: by two bytes, and a digit behind them.
 use borrow.Author.Tests.{le-ltb, leb-true, ne_eqb}
-use lib.Dec.{eqb, leb, ltb}
+use lib.Dec.{eqb, leb}
 use lib.ListN.{length}
 use lib.Seq.{slice}
 use mathlib.Core.Bool.{Bool, true, false, ◌&&◌}

@@ -14,7 +14,7 @@ use native.Mathlib.Omega.{arith}
 use Prim.Native.Nat.{ℕ, suc, ◌+◌, ◌≤◌, ◌<◌}
 use Rattle.language.proofs.Text.Choices.{either}
 use Rattle.language.proofs.Text.Classes.{letter_not_digit, point_no_letter, digit_of_some, name_digit_of, name_letter}
-use Rattle.language.proofs.Text.Marks.{Laws, laws_1, led, base_shape, slice_two}
+use Rattle.language.proofs.Text.Marks.{Laws, laws_1, base_shape, slice_two}
 use Rattle.language.proofs.Text.OnePiece.{one_piece}
 use Rattle.language.proofs.Text.OneSplit.{Step, over, put, Later, here, step, from_start}
 use Rattle.language.proofs.Text.Pieces.{Tells, number_piece}
@@ -28,7 +28,7 @@ use Rattle.language.specs.Text.{Content, Form, Piece, word_kind, number_from, to
 use Rattle.language.specs.Text.Content.{space, token}
 use Rattle.language.specs.Text.Form.{blank, line, comment, unended, name, number, based, float, mark}
 use Rattle.language.specs.Text.Reaches.{start, skip, next}
-use Rattle.language.specs.Tokens.{Spelling, spell, same, Vocabulary, EDITION_1, words, marks, bases, spelled, Token, past, At, kind_at, NAME, NUMBER}
+use Rattle.language.specs.Tokens.{Spelling, same, Vocabulary, EDITION_1, words, marks, bases, spelled, Token, past, At, kind_at, NAME, NUMBER}
 
 -- the vocabulary of that time
 abbrev pub DECIMAL : Vocabulary

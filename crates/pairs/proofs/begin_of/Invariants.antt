@@ -1,5 +1,4 @@
 -- `begin_of` goes back byte for byte: the line stays the same until an LF or the front.
-use Prim.Native.Nat.{◌-◌}
 use Rattle.pairs.proofs.Spans.{Back}
 use Rattle.pairs.proofs.begin_of.Given as goal
 

@@ -1,5 +1,4 @@
 -- `end_of` goes on byte for byte: the line stays the same until an LF or the sheet's end.
-use Prim.Native.Nat.{◌-◌}
 use Rattle.pairs.proofs.Spans.{on_here, on_more, on_all}
 use Rattle.pairs.proofs.end_of.Goals as goal
 

@@ -1,6 +1,5 @@
 -- `tokens_of` goes from line to line, and keeps what is good so far.
 use mathlib.Core.Path.{subst}
-use Prim.Native.Nat.{◌-◌}
 use Rattle.stored.proofs.Reading.{reached_none, reached_amiss, reached_miscounted, reached_long}
 use Rattle.stored.proofs.Reading.{reached_whole, reached_keepable, reached_next}
 use Rattle.stored.specs.Entries.{IsEntry}

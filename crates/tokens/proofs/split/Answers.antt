@@ -3,7 +3,7 @@ use borrow.Author.Tests.{ltb-false}
 use lib.ListN.{length}
 use mathlib.Core.Path.{sym, ◌∙◌, ap, subst}
 use native.Mathlib.Omega.{arith}
-use Prim.Native.Nat.{◌-◌, ◌≤◌, ◌<◌}
+use Prim.Native.Nat.{◌<◌}
 use Rattle.language.proofs.Text.OnePiece.{form_bounds}
 use Rattle.language.proofs.Text.OneSplit.{reached_inside}
 use Rattle.language.proofs.Text.Pieces.{blank_piece}
@@ -15,7 +15,7 @@ use Rattle.tokens.proofs.Splitting.{reached_none, reached_skip}
 use Rattle.tokens.proofs.Splitting.{reached_broken, reached_whole, reached_searchable, reached_next}
 use Rattle.tokens.proofs.Editions.{laws_of}
 use Rattle.tokens.specs.Editions.{meant}
-use Rattle.tokens.specs.Found.{IsPiece, IsToken}
+use Rattle.tokens.specs.Found.{IsPiece}
 use Rattle.tokens.specs.Shown.{shown}
 use Rattle.tokens.proofs.split.Goals as goal
 

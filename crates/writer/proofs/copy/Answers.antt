@@ -1,7 +1,6 @@
 -- `copy` goes byte by byte: so far the first ones are put.
 use borrow.Author.Rules.{rules}
 use native.Mathlib.Omega.{arith}
-use Prim.Native.Nat.{◌-◌}
 use Rattle.writer.proofs.Parts.{copied_one}
 use Rattle.writer.proofs.copy.Goals as goal
 

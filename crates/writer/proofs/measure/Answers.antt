@@ -1,5 +1,4 @@
 -- `measure` adds up the tokens: so far the first ones.
-use Prim.Native.Nat.{◌-◌}
 use Rattle.writer.proofs.Steps.{measured_more, measured_all}
 use Rattle.writer.proofs.measure.Goals as goal
 

@@ -1,5 +1,4 @@
 -- `put_all` goes token by token: so far the first ones stand at the front.
-use Prim.Native.Nat.{◌-◌}
 use Rattle.writer.proofs.Steps.{laying_room, laying_more, laying_all}
 use Rattle.writer.proofs.put_all.Goals as goal
 

@@ -1,7 +1,6 @@
 -- The functions behind `i` do not have the name.
 use mathlib.Core.Option.{some}
 use mathlib.Core.Path.{sym, ap, ◌∙◌}
-use Prim.Native.Nat.{◌-◌}
 use native.Mathlib.Omega.{arith}
 use Rattle.layout.proofs.FunctionLaws.{function_here, function_past, function_none}
 use Rattle.layout.proofs.functions.find.Goals as goal

@@ -1,6 +1,6 @@
 -- The functions behind `i` do not have the name.
 use mathlib.Core.Path.{◌≡◌}
-use Prim.Native.Nat.{◌≤◌, ◌-◌}
+use Prim.Native.Nat.{◌≤◌}
 use Rattle.layout.specs.Functions.{find_function}
 use Rattle.layout.proofs.functions.find.Given as goal
 

@@ -24,4 +24,5 @@ returns-then-condition-eq-BOOL c =
 pub returns : goal.returns
 unfolding infer type_number
 returns c =
-    λ Δ Γ a b d v t u e k f p g q. fault_is (after_ok _ e (after_ok _ f (after_ok _ g (need_no _ _ _ _ (isnt_type v bool k refl c.if-condition-eq-BOOL.false)))))
+    λ Δ Γ a b d v t u e k f p g q. fault_is
+    (after_ok _ e (after_ok _ f (after_ok _ g (need_no _ _ _ _ (isnt_type v bool k refl c.if-condition-eq-BOOL.false)))))

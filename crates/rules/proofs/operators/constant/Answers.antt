@@ -7,17 +7,20 @@ use Rattle.rules.proofs.operators.constant.Goals as goal
 pub returns-then-kind-eq-NUMBER : goal.returns-then-kind-eq-NUMBER
 unfolding type_number
 returns-then-kind-eq-NUMBER c =
-    let h = c.if-kind-eq-NUMBER.true in constant_is (λ e. refl) (λ e. omega (arith, h)) (λ e. omega (arith, h)) (λ e. omega (arith, h)) (λ e. omega (arith, h))
+    let h = c.if-kind-eq-NUMBER.true in
+    constant_is (λ e. refl) (λ e. omega (arith, h)) (λ e. omega (arith, h)) (λ e. omega (arith, h)) (λ e. omega (arith, h))
 
 pub returns-then-kind-eq-FLOAT_NUMBER : goal.returns-then-kind-eq-FLOAT_NUMBER
 unfolding type_number
 returns-then-kind-eq-FLOAT_NUMBER c =
-    let h = c.if-kind-eq-FLOAT_NUMBER.true in constant_is (λ e. omega (arith, h)) (λ e. refl) (λ e. omega (arith, h)) (λ e. omega (arith, h)) (λ e. omega (arith, h))
+    let h = c.if-kind-eq-FLOAT_NUMBER.true in
+    constant_is (λ e. omega (arith, h)) (λ e. refl) (λ e. omega (arith, h)) (λ e. omega (arith, h)) (λ e. omega (arith, h))
 
 pub returns-then-kind-eq-TT : goal.returns-then-kind-eq-TT
 unfolding type_number
 returns-then-kind-eq-TT c =
-    let h = c.if-kind-eq-TT.true in constant_is (λ e. omega (arith, h)) (λ e. omega (arith, h)) (λ e. omega (arith, h)) (λ e. omega (arith, h)) (λ e. refl)
+    let h = c.if-kind-eq-TT.true in
+    constant_is (λ e. omega (arith, h)) (λ e. omega (arith, h)) (λ e. omega (arith, h)) (λ e. omega (arith, h)) (λ e. refl)
 
 pub returns : goal.returns
 unfolding type_number

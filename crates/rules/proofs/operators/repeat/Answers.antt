@@ -15,7 +15,8 @@ returns-then-body-eq-UNIT c =
 pub returns-then-condition-eq-BOOL : goal.returns-then-condition-eq-BOOL
 unfolding type_number
 returns-then-condition-eq-BOOL c =
-    λ t u p q. fault_is (need_yes _ _ _ _ (is_type t bool p refl c.if-condition-eq-BOOL.true) (need_no _ _ _ _ (isnt_type u unit q refl c.if-body-eq-UNIT.false)))
+    λ t u p q. fault_is
+    (need_yes _ _ _ _ (is_type t bool p refl c.if-condition-eq-BOOL.true) (need_no _ _ _ _ (isnt_type u unit q refl c.if-body-eq-UNIT.false)))
 
 pub returns : goal.returns
 unfolding type_number

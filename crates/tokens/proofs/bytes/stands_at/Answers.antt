@@ -1,5 +1,4 @@
 -- `stands_at` compares bytes with the text, one after the other.
-use Prim.Native.Nat.{◌-◌}
 use Rattle.tokens.proofs.Compared.{agrees_more, agrees_less, agrees_all}
 use Rattle.tokens.proofs.bytes.stands_at.Goals as goal
 

@@ -1,6 +1,5 @@
 -- `stands_within` compares bytes with the text, one after the other.
 use native.Mathlib.Omega.{arith}
-use Prim.Native.Nat.{◌-◌}
 use Rattle.tokens.proofs.Compared.{agrees_more, agrees_less, agrees_all}
 use Rattle.tokens.proofs.Views.{shown_long}
 use Rattle.tokens.proofs.bytes.stands_within.Goals as goal

@@ -1,7 +1,7 @@
 -- `all_digits` reads the bytes of a float number one by one, and passes over the point.
 use mathlib.Core.Path.{sym, subst}
 use native.Mathlib.Omega.{arith}
-use Prim.Native.Nat.{◌+◌, ◌-◌, ◌^◌, ◌≤◌, ◌<◌}
+use Prim.Native.Nat.{◌+◌, ◌^◌, ◌≤◌, ◌<◌}
 use Rattle.language.specs.Sizes.{DIGITS}
 use Rattle.tokens.proofs.Decimals.{Read, read_none, read_small, read_digit, read_past, read_more, read_all}
 use Rattle.tokens.specs.Shown.{shown}

@@ -1,6 +1,5 @@
 -- `power_of_ten` multiplies by ten as often as it is told.
 use native.Mathlib.Omega.{arith}
-use Prim.Native.Nat.{◌-◌}
 use Rattle.tokens.proofs.Decimals.{tens}
 use Rattle.tokens.proofs.floats.power_of_ten.Goals as goal
 

@@ -1,5 +1,4 @@
 -- `compare` compares bytes of the text with others of it, one after the other.
-use Prim.Native.Nat.{◌-◌}
 use Rattle.tokens.proofs.Compared.{alike_more, alike_less, alike_all, fewer, further}
 use Rattle.tokens.specs.Shown.{shown}
 use Rattle.tokens.proofs.forks.compare.Goals as goal

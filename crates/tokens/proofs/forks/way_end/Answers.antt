@@ -1,7 +1,6 @@
 -- `way_end` goes from fork to fork, each behind the one before it.
 use mathlib.Core.Path.{refl}
 use native.Mathlib.Omega.{arith}
-use Prim.Native.Nat.{◌-◌}
 use Rattle.tokens.proofs.Planting.{way_first, link_inside, first_inside, next_link, way_on}
 use Rattle.tokens.proofs.forks.way_end.Goals as goal
 

@@ -1,5 +1,5 @@
 -- `piece_of` goes by what may begin at the place: a name, a number, a `/`, and else a mark.
-use mathlib.Core.Bool.{Bool, false}
+use mathlib.Core.Bool.{Bool}
 use mathlib.Core.Path.{◌≡◌, sym, ◌∙◌, ap, subst}
 use native.Mathlib.Omega.{arith}
 use Prim.Native.Nat.{ℕ}

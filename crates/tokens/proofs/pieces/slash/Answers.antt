@@ -40,11 +40,15 @@ overflow_add-at c =
 pub overflow_add-at-then-behind-eq47 : goal.overflow_add-at-then-behind-eq47
 overflow_add-at-then-behind-eq47 c =
     let a = c.args in
-    omega (arith, two_inside ((shown c.args.first.now c.args.second.now c.args.view)) ((c.args.at)) 47 47 (line (goal.at.overflow_add-at-then-behind-eq47 c).Then-behind-eq47) (omega arith), shown_long a.first.now a.second.now a.view, c.well_formed)
+    let t = shown a.first.now a.second.now a.view in
+    let both = two_inside t a.at 47 47 (line (goal.at.overflow_add-at-then-behind-eq47 c).Then-behind-eq47) (omega arith) in
+    omega (arith, both, shown_long a.first.now a.second.now a.view, c.well_formed)
 
 pub returns-then-behind-eq47 : goal.returns-then-behind-eq47
 returns-then-behind-eq47 c =
-    λ e. line_piece (laws_of e) ((shown c.args.first.now c.args.second.now c.args.view)) ((c.args.at)) c.line_end.result (line (goal.at.returns-then-behind-eq47 c).Then-behind-eq47) c.line_end.ensures
+    let t = shown c.args.first.now c.args.second.now c.args.view in
+    let begun = line (goal.at.returns-then-behind-eq47 c).Then-behind-eq47 in
+    λ e. line_piece (laws_of e) t c.args.at c.line_end.result begun c.line_end.ensures
 
 pub returns-in-At : goal.returns-in-At
 returns-in-At c =
@@ -68,5 +72,6 @@ overflow_add-next c =
 pub returns : goal.returns
 returns c =
     let behind = c.byte-behind.ensures in
-    let plain = slash_plain ((shown c.args.first.now c.args.second.now c.args.view)) ((c.args.at)) c.requires (λ x. c.if-behind-eq47.false (behind ∙ x)) (λ x. c.if-behind-eq42.false (behind ∙ x)) in
+    let t = shown c.args.first.now c.args.second.now c.args.view in
+    let plain = slash_plain t c.args.at c.requires (λ x. c.if-behind-eq47.false (behind ∙ x)) (λ x. c.if-behind-eq42.false (behind ∙ x)) in
     λ e. plain_token e plain.0.digit (slash_mark (inside (goal.at.returns c).Start) plain c.requires e)

@@ -36,4 +36,5 @@ returns-in-116 c =
 pub returns-in_default : goal.returns-in_default
 unfolding every begins_so
 returns-in_default c =
-    no_first ((shown c.args.first.now c.args.second.now c.args.view)) c.args.p 1 _ (spell "tidb") c.requires c.byte.ensures refl refl c.in_default.in_default-own.rest c.args.edition
+    no_first ((shown c.args.first.now c.args.second.now c.args.view)) c.args.p 1 _ (spell "tidb") c.requires c.byte.ensures
+    refl refl c.in_default.in_default-own.rest c.args.edition

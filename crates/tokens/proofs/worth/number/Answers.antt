@@ -1,7 +1,6 @@
 -- `number` reads the digits of a run one by one, where no point goes on with them.
 use mathlib.Core.Path.{sym, subst, ◌∙◌, ap}
 use native.Mathlib.Omega.{arith}
-use Prim.Native.Nat.{◌-◌}
 use Rattle.language.specs.Text.Content.{token}
 use Rattle.language.specs.Text.{is_digit, Piece, WrongUnder}
 use Rattle.language.specs.Tokens.{NUMBER}

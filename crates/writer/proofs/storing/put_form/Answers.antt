@@ -1,6 +1,5 @@
 -- `put_form` goes token by token behind the count: so far the lines of the first ones are put.
 use native.Mathlib.Omega.{arith}
-use Prim.Native.Nat.{◌-◌}
 use Rattle.writer.proofs.Forms.{lining_room, lining_more, lining_all, counted_room}
 use Rattle.writer.proofs.storing.put_form.Goals as goal
 

@@ -1,5 +1,4 @@
 -- `put_hex` goes byte by byte: so far the digits of the first ones are put.
-use Prim.Native.Nat.{◌-◌}
 use Rattle.writer.proofs.Digits.{putting_none, putting_room, putting_more}
 use Rattle.writer.proofs.storing.put_hex.Goals as goal
 
