@@ -2,10 +2,8 @@
 //
 // What the sheet prints goes to standard output and nothing else does; the report goes to standard error,
 // and with `--report FILE` also to a file, for machines. The report of a shift, which prints nothing, is what goes
-// to standard output there. The last thing that is told is the status, a digit
-// on descriptor 3: 0 paid, or passed; 1 refused or stopped; 2 where the words do not serve, or something
-// cannot be read or written. A program cannot end with a status of its own; the script `slip` at the top of
-// the repository listens on that descriptor and ends with it.
+// to standard output there. The program ends with its status: 0 paid, or passed; 1 refused or stopped; 2 where the
+// words do not serve, or something cannot be read or written.
 #![tactic(auto)]
 
 mod books;
@@ -17,9 +15,10 @@ mod shifts;
 mod storing;
 
 use desk::{arguments, output};
+use std::process::ExitCode;
 
-fn main() {
-    let asked = arguments::read();
-    let status = serve::serve(asked);
-    output::end(status);
+fn main(rt: HostRuntime) -> ExitCode {
+    let asked = arguments::read(&rt);
+    let status = serve::serve(&rt, asked);
+    output::end(status)
 }
