@@ -1,5 +1,6 @@
 // Reading what the words name.
-ghost use Rattle.std.specs.Prelude.{false, ◌≡◌, ◌≤◌, length};
+ghost use Rattle.std.specs.Prelude.{false, ◌≡◌, ◌≤◌, ◌↔◌, length, IfOk, IsOk};
+ghost use Rattle.std.specs.Str.{IsUtf8};
 ghost use Rattle.std.specs.Io.{ReadsAtMost};
 ghost use Rattle.io.specs.Counts.{IsPrefixLen};
 ghost use Rattle.language.specs.Sizes.{ALLOWANCE, LARGEST};
@@ -29,9 +30,15 @@ pub fn within(n: usize, bytes: &[u8]) -> usize
     if n < bytes.len() { n } else { bytes.len() }
 }
 
-// A file's name as a path, which has to be text.
-pub fn path(name: &[u8]) -> Result<&str, Error> {
-    str::from_utf8(name).or(Err(Error::new(ErrorKind::InvalidFilename, "The name is not UTF-8")))
+// A file's name as a path: one that is text in UTF-8, since std knows no other.
+pub fn path(name: &[u8]) -> Result<&str, Error>
+    ensures same { IfOk result (λ path. path.now ≡ name.now) }
+    ensures text { IsOk result ↔ IsUtf8 name.now }
+{
+    match str::from_utf8(name) {
+        Ok(path) => Ok(path),
+        Err(_) => Err(Error::new(ErrorKind::InvalidFilename, "The name is not UTF-8")),
+    }
 }
 
 // Opens the file of this name for reading.

@@ -74,7 +74,7 @@ pub fn fail(rt: &impl Eprint, word: &[u8], why: &Error) {
 }
 
 // The same of a word that does not fit.
-pub fn too_long(rt: &impl Eprint) {
+pub(crate) fn too_long(rt: &impl Eprint) {
     failed(rt, b"slip: a word", &Error::from_raw_os_error(TOO_LONG));
 }
 

@@ -6,6 +6,9 @@
 // words do not serve, or something cannot be read or written.
 #![tactic(auto)]
 
+ghost use Rattle.std.specs.Prelude.{◌≤◌};
+ghost use Rattle.std.specs.Process.{exit_status};
+
 mod books;
 mod combining;
 mod profiling;
@@ -14,11 +17,17 @@ mod serve;
 mod shifts;
 mod storing;
 
-use desk::{arguments, output};
+use desk::{Outside, arguments, output};
 use std::process::ExitCode;
 
+// Does what the words ask for, and answers with which status the program ends.
+fn ended(rt: &impl Outside) -> ExitCode
+    ensures { exit_status result ≤ 2 }
+{
+    let asked = arguments::read(rt);
+    output::end(serve::serve(rt, asked))
+}
+
 fn main(rt: HostRuntime) -> ExitCode {
-    let asked = arguments::read(&rt);
-    let status = serve::serve(&rt, asked);
-    output::end(status)
+    ended(&rt)
 }
