@@ -1,10 +1,10 @@
 // Writing, and what is said where it cannot be done.
-ghost use Rattle.std.specs.Prelude.{◌≡◌, ◌≤◌};
+ghost use Rattle.std.specs.Prelude.{◌≡◌, min};
 ghost use Rattle.std.specs.Process.{exit_status};
 
 use crate::input::within;
 use std::fmt;
-use std::fmt::{Display, Formatter, Write as _};
+use std::fmt::{Display, Formatter};
 use std::io::{Cursor, Eprint, Error, Print, Write};
 use std::process::ExitCode;
 
@@ -81,9 +81,9 @@ pub(crate) fn too_long(rt: &impl Eprint) {
 // The system's number for a name that is too long.
 const TOO_LONG: i32 = 36;
 
-// The program's end with a status.
+// The program's end with a status: 0, 1 or 2.
 pub fn end(status: u32) -> ExitCode
-    ensures { status ≤ 2 → exit_status result ≡ status }
+    ensures { exit_status result ≡ min status 2 }
 {
     match status {
         0 => ExitCode::from(0),
