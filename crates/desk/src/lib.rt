@@ -7,3 +7,12 @@ pub mod input;
 pub mod output;
 pub mod rooms;
 pub mod statuses;
+
+use std::io::{Eprint, Input, Print};
+use std::rt::{Env, Files, HostRuntime};
+
+// What slip reaches outside itself: the words that it was started with, files, standard input and the two outputs.
+// There is neither an allocator in it nor a clock.
+pub trait Outside: Env + Files + Input + Print + Eprint {}
+
+impl Outside for HostRuntime {}
