@@ -41,20 +41,20 @@ returns c =
     let n = c.paid-n.ensures in
     let m = c.paid-m.ensures in
     let fits_sum : SFits w64 c.sum.result = search rules in
-    let fits-least : SFits w64 c.least.result = search rules in
-    let fits-largest : SFits w64 c.largest.result = search rules in
+    let fits_least : SFits w64 c.least.result = search rules in
+    let fits_largest : SFits w64 c.largest.result = search rules in
     let s =
     to_z-of_z {w = w64} fits_sum
     ∙ picked ◌+ℤ◌ a.sum b.sum (omega arith)
-    (record { sfits = (omega arith) }) c.sum.ensures
+    (record { sfits = omega arith }) c.sum.ensures
     in
     let l =
-    to_z-of_z {w = w64} fits-least
+    to_z-of_z {w = w64} fits_least
     ∙ pay_picked lesser a.least b.least n m (omega arith)
     (omega arith) c.least.ensures
     in
     let g =
-    to_z-of_z {w = w64} fits-largest
+    to_z-of_z {w = w64} fits_largest
     ∙ pay_picked greater a.largest b.largest n m (omega arith)
     (omega arith) c.largest.ensures
     in
