@@ -138,22 +138,26 @@ module _ {a d0 d1 : List ℕ} {n0 n1 : ℕ} (p : Adds a d0 d1 n0 n1) where
           ends = omega (arith, q.ends, adds_long, p.ends, length-append a b);
         }
 
--- the same with what is told of the end
-pub both : {a b d0 d1 d2 : List ℕ} {n0 n1 n2 : ℕ} → Added a d0 d1 n0 n1 → Added b d1 d2 n1 n2 → Added (a ++ b) d0 d2 n0 n2
-both p q = (q.0, adds_both p.1 q.1)
+-- where a part was put it ends within
+pub added : {a d0 d1 : List ℕ} {n0 n1 : ℕ} → Adds a d0 d1 n0 n1 → Added a d0 d1 n0 n1
+added {d1 = d1} p = (prefix_len_of_le _ d1 (omega (arith, adds_long p, p.ends)), p)
+
+-- one behind the other, read from what is told of each
+pub both : {a b d0 d1 d2 : List ℕ} {n0 n1 n2 : ℕ} → Adds a d0 d1 n0 n1 → Adds b d1 d2 n1 n2 → Adds (a ++ b) d0 d2 n0 n2
+both p q = adds_both p q
 
 -- nothing, from where the bytes end at the latest
 pub nothing : (d : List ℕ) {at r : ℕ} → r ≡ min at (length d) → Added [] d d at r
 nothing d e = (prefix_len_of_le _ d (omega arith), adds_none d e)
 
 -- a part that is the same text
-pub being : {a b d0 d1 : List ℕ} {n0 n1 : ℕ} → a ≡ b → Added a d0 d1 n0 n1 → Added b d0 d1 n0 n1
-being {d0 = d0} {d1} {n0} {n1} e p = subst (λ (t : List ℕ). Added t d0 d1 n0 n1) e p
+pub being : {a b d0 d1 : List ℕ} {n0 n1 : ℕ} → a ≡ b → Adds a d0 d1 n0 n1 → Adds b d0 d1 n0 n1
+being {d0 = d0} {d1} {n0} {n1} e p = subst (λ (t : List ℕ). Adds t d0 d1 n0 n1) e p
 
 -- the text that f gives for x, where x is known to be y
-pub worded : {X : Type 0} (f : X → List ℕ) {x y : X} → x ≡ y → {d0 d1 : List ℕ} {n0 n1 : ℕ} → Added (f y) d0 d1 n0 n1 → Added (f x) d0 d1 n0 n1
+pub worded : {X : Type 0} (f : X → List ℕ) {x y : X} → x ≡ y → {d0 d1 : List ℕ} {n0 n1 : ℕ} → Adds (f y) d0 d1 n0 n1 → Adds (f x) d0 d1 n0 n1
 worded f e p = being (sym (ap f e)) p
 
 -- there are as many bytes as before
-pub long : {a d0 d1 : List ℕ} {n0 n1 : ℕ} → Added a d0 d1 n0 n1 → length d1 ≡ length d0
-long p = adds_long p.1
+pub long : {a d0 d1 : List ℕ} {n0 n1 : ℕ} → Adds a d0 d1 n0 n1 → length d1 ≡ length d0
+long p = adds_long p

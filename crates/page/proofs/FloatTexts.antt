@@ -10,7 +10,8 @@ use native.Mathlib.Nat.{one-mul, div-eq_of_lt, mod-eq_of_lt, div-one}
 use native.Mathlib.Omega.{arith}
 use Prim.Native.Nat.{ℕ, zero, suc, ◌+◌, ◌-◌, ◌*◌, ◌/◌, ◌%◌, ◌^◌, ◌≤◌, ◌<◌}
 use Rattle.language.specs.Tokens.{spell}
-use Rattle.page.proofs.Adding.{Added, both, being}
+use Rattle.page.proofs.Adding.{Added, added, both, being}
+use Rattle.page.specs.Text.{Adds}
 use Rattle.page.specs.Floats.{unsigned, ENDLESS, significand, steps, thousandths, is_exact, sign_text, about_text}
 use Rattle.page.specs.Floats.{decimal_text, product_text, float_text, capital, hexadecimal, bits_text}
 
@@ -101,12 +102,12 @@ module _ {b : ℕ} {entry now : List ℕ} {at : ℕ} where
 
   -- one more
   pub nibbles_more : {next : List ℕ} {left r e d : ℕ} → Nibbles b entry now at left r → 0 < left
-      → d ≡ capital (b / 2 ^ (4 * (left - 1)) % 16) → Added (d ∷ []) now next r e
+      → d ≡ capital (b / 2 ^ (4 * (left - 1)) % 16) → Adds (d ∷ []) now next r e
       → Nibbles b entry next at (left - 1) e
   unfolding hexadecimal
   nibbles_more {left = zero} g h x p = absurd (omega arith)
   nibbles_more {left = suc l} {d = d} g h x p =
-      record { few = omega (arith, g.few); done = being text (both g.done (being (ap (λ (k : ℕ). k ∷ []) (x ∙ digit)) p)) }
+      record { few = omega (arith, g.few); done = added (being text (both g.done.1 (being (ap (λ (k : ℕ). k ∷ []) (x ∙ digit)) p))) }
     where
       less : suc l - 1 ≡ l
       less = omega arith
@@ -124,5 +125,5 @@ module _ {b : ℕ} {entry now : List ℕ} {at : ℕ} where
   -- all
   pub nibbles_all : {left r : ℕ} → Nibbles b entry now at left r → left ≤ 0 → Added (bits_text b) entry now at r
   unfolding bits_text
-  nibbles_all {left = zero} g h = being (ap (hexadecimal 16) (div-one b)) g.done
+  nibbles_all {left = zero} g h = added (being (ap (hexadecimal 16) (div-one b)) g.done.1)
   nibbles_all {left = suc l} g h = absurd (omega arith)

@@ -10,9 +10,9 @@ use native.Mathlib.Omega.{arith}
 use Prim.Native.Nat.{ℕ, ◌+◌, ◌/◌, ◌%◌, ◌≤◌, ◌<◌}
 use Rattle.io.specs.Digits.{hex_digit_ascii}
 use Rattle.language.specs.Tokens.{spell}
-use Rattle.page.proofs.Adding.{Added, both, being}
+use Rattle.page.proofs.Adding.{Added, added, both, being}
 use Rattle.page.specs.Characters.{inner}
-use Rattle.page.specs.Text.{each, is_hidden, byte_shown, byte_blank}
+use Rattle.page.specs.Text.{Adds, each, is_hidden, byte_shown, byte_blank}
 
 -- ---- a byte
 
@@ -65,11 +65,11 @@ module _ (f : ℕ → List ℕ) where
     longer h = rw (add-one i, take-suc t i 0 h) (sym (each_end (take i t) (get_or t i 0)))
 
     -- one more
-    pub put_more : i < length t → {next : List ℕ} {e : ℕ} → Added (f (get_or t i 0)) now next r e → Put t entry next at (i + 1) e
-    put_more h p = record { within = omega arith; done = being (longer h) (both g.done p) }
+    pub put_more : i < length t → {next : List ℕ} {e : ℕ} → Adds (f (get_or t i 0)) now next r e → Put t entry next at (i + 1) e
+    put_more h p = record { within = omega arith; done = added (being (longer h) (both g.done.1 p)) }
 
     -- all
     pub put_all : length t ≤ i → Added (each f t) entry now at r
     put_all h =
         let y : i ≡ length t = omega (arith, g.within) in
-        being (ap (λ (k : ℕ). each f (take k t)) y ∙ ap (each f) (take-length t)) g.done
+        added (being (ap (λ (k : ℕ). each f (take k t)) y ∙ ap (each f) (take-length t)) g.done.1)

@@ -11,7 +11,7 @@ use mathlib.Core.Option.{some}
 use mathlib.Core.Path.{◌≡◌, refl, ap, subst, ◌∙◌}
 use borrow.Author.Tests.{eqb-true}
 use native.Mathlib.Omega.{arith}
-use Prim.Native.Nat.{ℕ, suc, ◌+◌, ◌-◌, ◌≤◌}
+use Prim.Native.Nat.{ℕ, ◌+◌, ◌-◌, ◌≤◌}
 use Rattle.language.proofs.Text.Choices.{and_both}
 use Rattle.language.proofs.Shift.Possible.{possible_so, least_size, largest_size}
 use Rattle.language.specs.Combining.{all_stops, paid_lines, possible}
@@ -19,7 +19,6 @@ use Rattle.language.specs.Sizes.{LARGEST, LINES}
 use Rattle.language.specs.Text.{between, is_digit, worth, number_from}
 use Rattle.language.specs.Tokens.{spell}
 use Rattle.page.specs.Amounts.{all_digits, is_number, number_up_to, AMOUNT}
-use Rattle.page.specs.Lines.{behind}
 use Rattle.page.specs.Text.{decimal_of, Adds}
 use Rattle.page.specs.declared.amounts.Number.{Number}
 use Rattle.tally.specs.Stands.{report_in}

@@ -1,11 +1,9 @@
 -- How long causes and types are in words at most, and their numbers.
 use lib.Dec.{eqb}
 use lib.ListN.{length, length-append}
-use mathlib.Core.List.{List, ◌++◌}
 use native.Mathlib.Omega.{arith}
 use Prim.Native.Nat.{ℕ, ◌/◌, ◌%◌, ◌≤◌, min}
 use Rattle.language.specs.Numbers.{flaw_number, reason_number, refusal_number, stop_number}
-use Rattle.language.specs.Tokens.{spell}
 use Rattle.numbers.specs.Meanings.{flaw_meant, reason_meant, refusal_meant, stop_meant}
 use Rattle.numbers.specs.declared.Flaw.{Flaw}
 use Rattle.numbers.specs.declared.Reason.{Reason}

@@ -4,16 +4,15 @@ use borrow.Author.Tests.{lt-ltb}
 use lib.Dec.{eqb, ltb}
 use lib.ListN.{length, get_or, take, drop, length-append, length-take, length-drop}
 use mathlib.Core.Bool.{Bool, true, false, cond}
-use mathlib.Core.List.{List, [], ◌∷◌, ◌++◌}
+use mathlib.Core.List.{List, [], ◌∷◌}
 use mathlib.Core.Path.{◌≡◌, refl}
 use native.Mathlib.Nat.{div-lt_iff_lt-mul, pow-suc}
 use native.Mathlib.Omega.{arith}
 use Prim.Native.Char.{code}
 use Prim.Native.Nat.{ℕ, zero, suc, ◌+◌, ◌-◌, ◌*◌, ◌/◌, ◌%◌, ◌^◌, ◌≤◌, ◌<◌}
 use Rattle.io.specs.Digits.{last_digits, hex_digit_ascii}
-use Rattle.language.specs.Tokens.{spell}
 use Rattle.page.specs.Characters.{heads, inner}
-use Rattle.page.specs.Lines.{feeds, ahead, columns_of, without_return}
+use Rattle.page.specs.Lines.{feeds, columns_of, without_return}
 use Rattle.page.specs.Text.{places, decimal_of, each, is_hidden, byte_shown, byte_blank, all_shown, all_blank}
 use Rattle.wording.specs.Fields.{name_words}
 use Rattle.wording.specs.Spots.{here, line_at, begin_at, end_at, bytes_at, before_at, plain_at, column_at}
@@ -80,7 +79,9 @@ name_few file = shown_few _ file
 
 pub returned_few : (t : List ℕ) → length (without_return t) ≤ length t
 unfolding without_return
-returned_few t = either (eqb (get_or t (length t - 1) 0) (code "\r")) (take (length t - 1) t) t (length t) (omega (arith, length-take (length t - 1) t)) (omega arith)
+returned_few t =
+    either (eqb (get_or t (length t - 1) 0) (code "\r")) (take (length t - 1) t) t (length t) (omega (arith, length-take (length t - 1) t))
+    (omega arith)
 
 -- ---- of a place
 

@@ -1,7 +1,7 @@
 -- What a type is of, and as many `ref` as it has, out of a text that has them all.
 use borrow.Author.Tests.{ne_eqb}
 use lib.ListN.{length, take}
-use mathlib.Core.List.{List, [], ◌++◌}
+use mathlib.Core.List.{List, ◌++◌}
 use mathlib.Core.Path.{◌≡◌, refl, ◌∙◌, ap}
 use native.Mathlib.Omega.{arith}
 use Prim.Native.Nat.{ℕ, zero, suc, ◌*◌, min}

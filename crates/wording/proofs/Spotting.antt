@@ -1,12 +1,11 @@
 -- What is found of a place is what it is a function of sheet and place.
 use lib.ListN.{length, take, drop}
-use mathlib.Core.Bool.{Bool}
 use mathlib.Core.List.{List}
 use mathlib.Core.Path.{◌≡◌, ◌∙◌, ap}
 use native.Mathlib.Omega.{arith}
-use Prim.Native.Nat.{ℕ, ◌+◌, ◌-◌, min}
+use Prim.Native.Nat.{ℕ, ◌-◌, min}
 use Rattle.page.specs.Characters.{is_readable}
-use Rattle.page.specs.Lines.{Spotted, behind, columns_of}
+use Rattle.page.specs.Lines.{Spotted}
 use Rattle.page.specs.declared.lines.Spot.{Spot}
 use Rattle.wording.specs.Spots.{here, line_at, begin_at, end_at, bytes_at, before_at, plain_at, column_at}
 

@@ -1,21 +1,17 @@
 -- How long a value is in words at most; of a float, the words and the bits.
 use lib.Dec.{eqb, ltb}
-use lib.Ieee.{binary64, hid, low, ones, top, to_bits}
+use lib.Ieee.{binary64, hid, low, top, to_bits}
 use lib.IntN.{ℤ, pos, negsuc, nat_abs}
 use lib.ListN.{length, length-append}
-use mathlib.Core.Bool.{Bool, true, false}
-use mathlib.Core.List.{List, [], ◌∷◌, ◌++◌}
+use mathlib.Core.Bool.{true, false}
+use mathlib.Core.List.{[], ◌∷◌}
 use mathlib.Core.Path.{◌≡◌, refl}
 use native.Mathlib.Nat.{div-lt_iff_lt-mul, div-le_self, le-mul_of_pos_right, mod-lt, one-le-pow, add-mul}
 use native.Mathlib.Omega.{arith}
 use Prim.Native.Nat.{ℕ, zero, suc, ◌+◌, ◌-◌, ◌*◌, ◌/◌, ◌%◌, ◌^◌, ◌≤◌, ◌<◌}
-use Rattle.io.specs.Digits.{last_digits}
 use Rattle.language.specs.State.{Value, number, float, flag, nothing, cell}
-use Rattle.language.specs.Tokens.{spell}
-use Rattle.page.specs.Floats as Floats
 use Rattle.page.specs.Floats.{significand, steps, thousandths, sign_text, about_text, thousandths_text, decimal_text}
 use Rattle.page.specs.Floats.{product_text, float_text, hexadecimal, bits_text, capital, unsigned, is_exact, ENDLESS}
-use Rattle.page.specs.Text.{decimal_of}
 use Rattle.wording.specs.Values.{signed_by, signed_words, truth_words, cell_words, value_words, bits_line, bits_words, value_lines}
 use Rattle.wording.proofs.Lengths.{either, either_count, Short, decimal_few, digits_long}
 

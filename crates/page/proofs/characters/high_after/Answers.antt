@@ -1,0 +1,15 @@
+-- `high_after` is 191 but behind a first byte.
+use borrow.Author.Tests.{eq-eqb, ne_eqb}
+use mathlib.Core.Path.{◌∙◌}
+use Rattle.page.specs.Characters.{high_next}
+use Rattle.page.proofs.characters.high_after.Goals as goal
+
+pub returns-then-due-eq0 : goal.returns-then-due-eq0
+unfolding high_next
+returns-then-due-eq0 c =
+    c.high.ensures ∙ simp (eq-eqb _ _ c.if-due-eq0.true)
+
+pub returns : goal.returns
+unfolding high_next
+returns c =
+    simp (ne_eqb _ _ c.if-due-eq0.false)

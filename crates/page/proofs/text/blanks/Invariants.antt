@@ -1,0 +1,12 @@
+-- `blanks` puts byte by byte.
+use lib.ListN.{length}
+use Prim.Native.Nat.{◌-◌}
+use Rattle.page.proofs.Seen.{Put}
+use Rattle.page.specs.Text.{byte_blank}
+use Rattle.page.proofs.text.blanks.Given as goal
+
+abbrev pub invariant-loop-i : goal.invariant-loop-i
+invariant-loop-i l = Put (byte_blank l.plain) l.bytes l.initial.out l.out l.at l.i l.end
+
+abbrev pub decreases-loop-i : goal.decreases-loop-i
+decreases-loop-i l = length l.bytes - l.i
