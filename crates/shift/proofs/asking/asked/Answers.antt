@@ -1,0 +1,28 @@
+use native.Mathlib.Omega.{arith}
+use Rattle.shift.proofs.Admitting.{asked_short, asked_large, asked_text}
+use mathlib.Core.Logic.{inl, inr}
+use Rattle.layout.proofs.Wiped.{zeros_cleared}
+use mathlib.Core.Path.{◌∙◌}
+use Rattle.language.specs.Sizes.{TABLE, WORK}
+use Rattle.shift.proofs.asking.asked.Goals as goal
+
+pub returns-then-table-lt-TABLE : goal.returns-then-table-lt-TABLE
+returns-then-table-lt-TABLE c =
+    asked_short _ _ _ _ _ _ (inl (omega arith)) c.front.ensures
+
+pub returns-then-work-lt-WORK : goal.returns-then-work-lt-WORK
+returns-then-work-lt-WORK c =
+    asked_short _ _ _ _ _ _ (inr (omega arith)) c.front-then-work-lt-WORK.ensures
+
+pub returns-then-allowance-gt-ALLOWANCE : goal.returns-then-allowance-gt-ALLOWANCE
+returns-then-allowance-gt-ALLOWANCE c =
+    let a = c.args in
+    asked_large _ _ _ _ _ _ _ _ (omega arith) (omega arith) (omega arith) c.front-then-allowance-gt-ALLOWANCE.ensures
+    (c.clear-then-allowance-gt-ALLOWANCE.ensures ∙ zeros_cleared TABLE a.table.now (omega arith))
+    (c.clear.ensures ∙ zeros_cleared WORK a.work.now (omega arith))
+
+pub returns : goal.returns
+returns c =
+    let a = c.args in
+    asked_text _ _ _ _ _ _ _ _ (omega arith) (omega arith) (omega arith) c.text.ensures
+    (c.clear.ensures ∙ zeros_cleared WORK a.work.now (omega arith))
