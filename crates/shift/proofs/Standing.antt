@@ -99,15 +99,20 @@ module _ {ed : ℕ} {book : List ℕ} where
   }
 
 module _ {ed : ℕ} {book : List ℕ} {room : ℕ} where
+  -- one byte that ends no line, where what follows stands from any state in which it leaves the shift
+  one_byte : {s e : State} (b : ℕ) {m : State} {bytes : List ℕ} {lines : List EndedLine} {x : Sofar} → Keeps s x → EndsNone s b m
+      → ((y : Sofar) → Keeps m y → Stood ed book (needed room m.allowance) y bytes lines e)
+      → Stood ed book (needed room s.allowance) x (b ∷ bytes) lines e
+  one_byte b {x = x} k (past h) later = more (step_past (goes_on k h)) refl (later x k)
+  one_byte b k (full h n) later = more (step_full (goes_on k h) (omega (arith, k.sums.lines))) refl (later _ (full_keeps k))
+  one_byte b k (inside g i) later =
+      more (step_byte (goes_on k g.going) (omega (arith, k.sums.lines, g.few)) i) refl (later _ (byte_keeps k b))
+
   pub takes_stood : {s e : State} {bytes : List ℕ} {lines : List EndedLine} {x : Sofar} → Keeps s x → Takes ed book room s bytes lines e
       → Stood ed book (needed room s.allowance) x bytes lines e
   unfolding printed_over
   takes_stood {x = x} k takes_none = record { so_far = x; fed = fed_none; keeps = k; output = refl }
-  takes_stood k (takes_byte (past h) t) = more (step_past (goes_on k h)) refl (takes_stood k t)
-  takes_stood k (takes_byte (full h n) t) =
-      more (step_full (goes_on k h) (omega (arith, k.sums.lines))) refl (takes_stood (full_keeps k) t)
-  takes_stood k (takes_byte {b = b} (inside g i) t) =
-      more (step_byte (goes_on k g.going) (omega (arith, k.sums.lines, g.few)) i) refl (takes_stood (byte_keeps k b) t)
+  takes_stood k (takes_byte {b = b} a t) = one_byte b k a (λ y h. takes_stood {x = y} h t)
   takes_stood {x = x} k (takes_line {line = line} g i c t) =
       let few : length x.outcomes < LINES = omega (arith, k.sums.lines, g.few) in
       let z = takes_stood (line_keeps k line.outcome line.printed few (ends_ints k c)) t in

@@ -28,7 +28,7 @@ unfolding printed_over
 over_joined out [] ys = refl
 over_joined out (x ∷ xs) ys = over_joined (x.printed ++ drop (length x.printed) out) xs ys
 
-none_allowance : {s m : State} {b : ℕ} → EndsNone s b m → m.allowance ≡ s.allowance
+none_allowance : {s : State} {b : ℕ} {m : State} → EndsNone s b m → m.allowance ≡ s.allowance
 none_allowance (past h) = refl
 none_allowance (full h n) = refl
 none_allowance (inside g i) = refl
@@ -88,12 +88,12 @@ module _ {ed : ℕ} {book : List ℕ} {l : Lent} {part : Part} where
 
 -- ---- one end of a piece
 
-none_or_line : {s m : State} {b : ℕ} {A : Type 0} → EndsNone s b m → Going s → is_in_line b ≡ false → A
+none_or_line : {s : State} {b : ℕ} {m : State} {A : Type 0} → EndsNone s b m → Going s → is_in_line b ≡ false → A
 none_or_line (past h) g i = absurd (clash h g.going)
 none_or_line (full h n) g i = absurd (omega (arith, g.few))
 none_or_line (inside k j) g i = absurd (clash j i)
 
-one_none : {s m e : State} {b : ℕ} → EndsNone s b m → EndsNone s b e → m ≡ e
+one_none : {s : State} {b : ℕ} {m e : State} → EndsNone s b m → EndsNone s b e → m ≡ e
 one_none (past h) (past k) = refl
 one_none (past h) (full k n) = absurd (clash h k)
 one_none (past h) (inside k i) = absurd (clash h k.going)

@@ -1,6 +1,7 @@
 use Rattle.shift.proofs.Learnt.{book_is_found, no_book_is_found, book_is_refused}
-use mathlib.Core.Logic.{inl, inr, ⊎_elim}
+use mathlib.Core.Logic.{inl, inr}
 use Rattle.shift.proofs.asking.functions.Goals as goal
+use Rattle.shift.proofs.asking.functions.Goals.{else-alone-via-then-alone+else-there, else-alone-via-else-alone}
 
 pub returns-then-there : goal.returns-then-there
 returns-then-there c =
@@ -10,7 +11,10 @@ returns-then-there c =
 pub returns-else-alone : goal.returns-else-alone
 returns-else-alone c =
     no_book_is_found _ _ _ _ c.requires c.outline.result _ _ _ c.outline.ensures c.in-Passed.is
-    (⊎_elim (λ w. inr w.1.left) (λ w. inl w.left) c.else-alone.branch) c.front.ensures
+    (elim c.else-alone.branch [
+      | else-alone-via-then-alone+else-there w ↦ inr w.if-there.false
+      | else-alone-via-else-alone w ↦ inl w.if-alone.false
+    ]) c.front.ensures
 
 pub returns-in-Refused : goal.returns-in-Refused
 returns-in-Refused c =
