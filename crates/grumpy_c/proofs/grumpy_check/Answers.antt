@@ -1,0 +1,6 @@
+use Rattle.grumpy_c.proofs.Told.{checked_c}
+use Rattle.grumpy_c.proofs.grumpy_check.Goals as goal
+
+pub returns : goal.returns
+returns c =
+    checked_c c.check-answer.result c.if-report-lt3.false c.check-answer.ensures c.report_checked.ensures
