@@ -1,4 +1,6 @@
 // The type checker: of the program that a table holds, its type or its first fault.
+#![tactic(auto)]
+
 ghost use Rattle.checker.specs.Checked.{Checkable, Checked};
 
 mod programs;

@@ -3,6 +3,7 @@ ghost use Rattle.desk.specs.Statuses.{Status, Due};
 
 use crate::output::say;
 use crate::statuses::kept;
+use std::io::{Eprint, Print};
 
 // The status: 0 if all could be written.
 fn written(done: bool) -> u32
@@ -13,21 +14,21 @@ fn written(done: bool) -> u32
 }
 
 // What `--help` is answered.
-pub fn help() -> u32
+pub fn help(rt: &(impl Print + Eprint)) -> u32
     ensures due { Due 0 result }
     ensures status { Status result }
 {
     let mut text = io::buffer();
     let n = wording::help::help(&mut text, 0);
-    written(say(&text[..n]))
+    written(say(rt, &text[..n]))
 }
 
 // What `--version` is answered.
-pub fn version() -> u32
+pub fn version(rt: &(impl Print + Eprint)) -> u32
     ensures due { Due 0 result }
     ensures status { Status result }
 {
     let mut text = io::buffer();
     let n = wording::help::version(&mut text, 0);
-    written(say(&text[..n]))
+    written(say(rt, &text[..n]))
 }

@@ -62,7 +62,7 @@ pub enum Profiled {
 }
 
 // The same of two sheets: a refusal or a stop is told at a spot, which names the sheet and the line.
-#[derive(Drop)]
+#[derive(Clone, Copy)]
 pub enum PairChecked {
     Passed(u32),
     Refused(Refusal, Spot),

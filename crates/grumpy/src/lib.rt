@@ -4,6 +4,8 @@
 // loom's, and read them as one, as profile does. All take the number of an edition first, any number, any bytes,
 // any lent memory and any allowance, and tell what the table of numbers has; what they leave in lent memory follows
 // from that.
+#![tactic(auto)]
+
 ghost use Rattle.std.specs.Prelude.{◌≡◌};
 ghost use Rattle.language.specs.Answers.{Check, Run};
 ghost use Rattle.language.specs.Edition.{text_in, stored_in, pair_in, is_known};

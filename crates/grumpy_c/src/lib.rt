@@ -1,5 +1,7 @@
 // The C interface of the box; include/grumpy.h says what each report has. A report that is too short is answered like
 // memory that is too short, and nothing is changed.
+#![tactic(auto)]
+
 ghost use Rattle.std.specs.Prelude.{◌≤◌, length};
 ghost use Rattle.language.specs.Edition.{text_in, stored_in};
 ghost use Rattle.language.specs.Writing.{Write, Store};

@@ -1,5 +1,6 @@
 // The sizes of the box, for the code; `specs/Sizes.antt` has them for the definitions. Every other
 // crate takes a size from here, under this name.
+#![tactic(auto)]
 
 pub mod kinds;
 

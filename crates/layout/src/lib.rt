@@ -8,6 +8,7 @@
 // Work memory: a slot has three words (a key and a tag in one, and two for the value, of which a float alone needs the
 // high one), a frame four (a node's row, its phase, the first slot that it sees, and how many with a mark in one word);
 // cells are slots, too.
+#![tactic(auto)]
 
 pub mod floats;
 pub mod frames;
@@ -25,7 +26,7 @@ use language::{ACTIVE, NODES, PARAMETERS, TOKENS};
 
 // A program as a table holds it: how many tokens and how many functions it has, and the row of its last
 // expression.
-#[derive(Drop)]
+#[derive(Clone, Copy)]
 pub struct Held {
     pub count: usize,
     pub functions: usize,

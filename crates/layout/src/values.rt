@@ -7,7 +7,7 @@ ghost use Rattle.layout.specs.Values.{meant, value_in, tag_of, low_of, high_of, 
 use crate::floats;
 
 // In the order of their tags, so that a value's tag is the number of its case.
-#[derive(Drop)]
+#[derive(Clone, Copy)]
 pub enum Value {
     Int(i32),
     Flag(bool),

@@ -1,5 +1,6 @@
 // What a run works on, and all that is done with values: numbers, operands, operators, cells, and
 // the bytes that are printed.
+#![tactic(auto)]
 
 pub mod arithmetic;
 pub mod cells;

@@ -6,7 +6,7 @@ use numbers::Stop;
 
 // A run in numbers: units left, cells born so far and live now, bytes printed. The cells and the bytes
 // themselves lie in lent memory.
-#[derive(Drop)]
+#[derive(Clone, Copy)]
 pub struct Tally {
     pub units: usize,
     pub births: usize,

@@ -1,12 +1,14 @@
 // The table of numbers, for the code: why a text does not split, why a reading has no type, why nothing
 // is run and why a run stops, and the number of each. `specs/Meanings.antt` says which case of the written
 // language each case here stands for.
+#![tactic(auto)]
+
 ghost use Rattle.std.specs.Prelude.{◌≡◌};
 ghost use Rattle.language.specs.Numbers.{flaw_number, reason_number, refusal_number, stop_number};
 ghost use Rattle.numbers.specs.Meanings.{flaw_meant, reason_meant, refusal_meant, stop_meant};
 
 // What stops the split of a text.
-#[derive(Drop)]
+#[derive(Clone, Copy)]
 pub enum Flaw {
     StrangeByte,
     OpenComment,
@@ -16,7 +18,7 @@ pub enum Flaw {
 }
 
 // Why a reading has no type.
-#[derive(Drop)]
+#[derive(Clone, Copy)]
 pub enum Reason {
     NoBinding,
     NoFunction,
@@ -37,7 +39,7 @@ pub enum Reason {
 }
 
 // Why nothing is run or written, in the order in which it is looked for.
-#[derive(Drop)]
+#[derive(Clone, Copy)]
 pub enum Refusal {
     ShortMemory,
     LargeAllowance,
@@ -58,7 +60,7 @@ pub enum Refusal {
 }
 
 // Why a run stops before it has a value.
-#[derive(Drop)]
+#[derive(Clone, Copy)]
 pub enum Stop {
     NoUnit,
     TooDeep,

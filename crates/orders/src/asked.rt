@@ -7,7 +7,7 @@ ghost use Rattle.orders.specs.Asked.{with_edition, with_strange, with_plain, fir
 ghost use Rattle.orders.specs.Asked.{with_whole, with_combine, with_word, in_turn};
 
 // What is to be done.
-#[derive(Drop)]
+#[derive(Clone, Copy)]
 pub enum Task {
     Pay,
     Check,
@@ -26,7 +26,7 @@ pub enum Task {
 }
 
 // What a word means by itself.
-#[derive(Drop)]
+#[derive(Clone, Copy)]
 pub enum Word {
     Command(Task),
     // Asked for wherever it stands.
@@ -44,7 +44,7 @@ pub enum Word {
 
 // How the next word is taken: by what it means, as the name of the report's file, as the number of the edition,
 // or as it stands.
-#[derive(Drop)]
+#[derive(Clone, Copy)]
 pub enum Turn {
     Meaning,
     Name,
@@ -53,7 +53,7 @@ pub enum Turn {
 }
 
 // How many plain words there are.
-#[derive(Drop)]
+#[derive(Clone, Copy)]
 pub enum Count {
     None,
     One,
@@ -63,7 +63,7 @@ pub enum Count {
 }
 
 // What the words so far ask for. A word is kept by its number; 0 is the program's name, and so no word.
-#[derive(Drop)]
+#[derive(Clone, Copy)]
 pub struct Asked {
     pub task: Task,
     pub turn: Turn,

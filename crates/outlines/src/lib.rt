@@ -1,5 +1,7 @@
 // What may be asked of a sheet without running it: whether its last expression is a number alone, and
 // whether it has a function of a name that takes and gives values of some types.
+#![tactic(auto)]
+
 ghost use Rattle.std.specs.Prelude.{◌≡◌, ℕ, ◌+◌, ◌≤◌, ◌<◌, length};
 ghost use Rattle.language.specs.Sizes.{TABLE, NODES};
 ghost use Rattle.language.specs.Edition.{pair_in};

@@ -66,7 +66,7 @@ fn spelled(digits: &[u8], most: u64) -> u64
 }
 
 // A word that is a number up to a limit, or none.
-#[derive(Drop)]
+#[derive(Clone, Copy)]
 pub enum Number {
     Of(u32),
     None,

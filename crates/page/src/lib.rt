@@ -1,6 +1,8 @@
 // What the program around the box does with bytes: it reads a number among its arguments, finds the line and the
 // column of a place, puts text behind text so that it can be seen, writes a float or pence for who reads it, takes a
 // number's sign off, and reads a value that has a name on its line.
+#![tactic(auto)]
+
 ghost use Rattle.std.specs.Prelude.{◌≡◌, min, nat_abs, length};
 ghost use Rattle.page.specs.Lines.{Spotted};
 

@@ -1,12 +1,14 @@
 // Two sheets that are read as one: which of them holds a place of the joined text, and the line around it, as
 // a part of that very sheet. Nothing is copied.
+#![tactic(auto)]
+
 ghost use Rattle.std.specs.Prelude.{◌≡◌, ◌≤◌, length};
 ghost use Rattle.language.specs.Pairs.{line_begin, line_end, in_sheet, place_of};
 ghost use Rattle.language.specs.Pairs as Pairs;
 ghost use Rattle.pairs.specs.Spots.{meant, Cut, Shows};
 
 // A sheet, 1 or 2, a byte of it, and the part that is shown: from its first byte up to its end.
-#[derive(Drop)]
+#[derive(Clone, Copy)]
 pub struct Spot {
     pub sheet: u32,
     pub at: usize,

@@ -40,7 +40,7 @@ fn name(table: &[u32], node: usize, binds: usize) -> Typing
 }
 
 // The type of the tree at `node`, where the first `seen` functions and `binds` variables are in sight.
-#[cycle(arguments_bind_branch_call_counted_over_one_over_two_type_at)]
+#[cycle(typing)]
 pub fn type_at(table: &mut [u32], node: usize, seen: usize, binds: usize) -> Typing
     requires { Ready table.old node seen binds }
     ensures { Inferred table.old table.new node seen binds result }
@@ -72,7 +72,7 @@ pub fn type_at(table: &mut [u32], node: usize, seen: usize, binds: usize) -> Typ
 }
 
 // A node with one child.
-#[cycle(arguments_bind_branch_call_counted_over_one_over_two_type_at)]
+#[cycle(typing)]
 fn over_one(table: &mut [u32], node: usize, seen: usize, binds: usize) -> Typing
     requires { Ready table.old node seen binds × Children (row_word table.old node KIND) 1 }
     ensures { Inferred table.old table.new node seen binds result }
@@ -88,7 +88,7 @@ fn over_one(table: &mut [u32], node: usize, seen: usize, binds: usize) -> Typing
 }
 
 // A node with two children, both of which see what the node sees.
-#[cycle(arguments_bind_branch_call_counted_over_one_over_two_type_at)]
+#[cycle(typing)]
 fn over_two(table: &mut [u32], node: usize, seen: usize, binds: usize) -> Typing
     requires { Ready table.old node seen binds × Children (row_word table.old node KIND) 2
         × (row_word table.old node KIND ≡ LET → ⊥) }
@@ -112,7 +112,7 @@ fn over_two(table: &mut [u32], node: usize, seen: usize, binds: usize) -> Typing
 }
 
 // `let` types what it binds, and its body with that variable in sight.
-#[cycle(arguments_bind_branch_call_counted_over_one_over_two_type_at)]
+#[cycle(typing)]
 fn bind(table: &mut [u32], node: usize, seen: usize, binds: usize) -> Typing
     requires { Ready table.old node seen binds × (row_word table.old node KIND ≡ LET) }
     ensures { Inferred table.old table.new node seen binds result }
@@ -132,7 +132,7 @@ fn bind(table: &mut [u32], node: usize, seen: usize, binds: usize) -> Typing
 }
 
 // `for` types its bounds, and its body with its name in sight, which is an int, before it asks.
-#[cycle(arguments_bind_branch_call_counted_over_one_over_two_type_at)]
+#[cycle(typing)]
 fn counted(table: &mut [u32], node: usize, seen: usize, binds: usize) -> Typing
     requires { Ready table.old node seen binds × (counts (row_word table.old node KIND) ≡ true) }
     ensures { Inferred table.old table.new node seen binds result }
@@ -157,7 +157,7 @@ fn counted(table: &mut [u32], node: usize, seen: usize, binds: usize) -> Typing
 }
 
 // `if`, its condition and its branches.
-#[cycle(arguments_bind_branch_call_counted_over_one_over_two_type_at)]
+#[cycle(typing)]
 fn branch(table: &mut [u32], node: usize, seen: usize, binds: usize) -> Typing
     requires { Ready table.old node seen binds × Children (row_word table.old node KIND) 3 }
     ensures { Inferred table.old table.new node seen binds result }
@@ -186,7 +186,7 @@ fn branch(table: &mut [u32], node: usize, seen: usize, binds: usize) -> Typing
 }
 
 // A call types all its arguments before it asks whom it calls.
-#[cycle(arguments_bind_branch_call_counted_over_one_over_two_type_at)]
+#[cycle(typing)]
 fn call(table: &mut [u32], node: usize, seen: usize, binds: usize) -> Typing
     requires { Ready table.old node seen binds × (row_word table.old node KIND ≡ CALL) }
     ensures { Inferred table.old table.new node seen binds result }
@@ -214,7 +214,7 @@ fn still(suited: bool, found: u32, wanted: u32) -> bool
 }
 
 // The expressions of a list from row `row` on, the first of which is its expression k.
-#[cycle(arguments_bind_branch_call_counted_over_one_over_two_type_at)]
+#[cycle(typing)]
 fn arguments(
     table: &mut [u32],
     row: usize,

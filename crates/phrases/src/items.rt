@@ -12,7 +12,7 @@ use language::kinds;
 use layout::token::kind;
 
 // A Seq and the token `mark` behind it, at which it stops.
-#[cycle(clause_if_else_let_in_seq_until_while_block_ends_for_in_arguments_named_assign_atom_rest_tier_un)]
+#[cycle(phrases)]
 pub fn until(table: &mut [u32], count: usize, at: usize, free: usize, mark: u32) -> u32
     requires room { Room count table.old at free }
     requires le_mark { 1 ≤ mark }
@@ -37,7 +37,7 @@ pub fn until(table: &mut [u32], count: usize, at: usize, free: usize, mark: u32)
 }
 
 // `;` associates to the right. Behind a Tail there is none: the body of its let has taken it.
-#[cycle(clause_if_else_let_in_seq_until_while_block_ends_for_in_arguments_named_assign_atom_rest_tier_un)]
+#[cycle(phrases)]
 pub fn seq(table: &mut [u32], count: usize, at: usize, free: usize) -> u32
     requires { Room count table.old at free }
     ensures { Yields (Seq at) count table.old at free (part_of result) table.new }
@@ -62,7 +62,7 @@ pub fn seq(table: &mut [u32], count: usize, at: usize, free: usize) -> u32
 }
 
 // A Tail or an Item, which the first token does not tell: an `if` is a Tail where its last part is one.
-#[cycle(clause_if_else_let_in_seq_until_while_block_ends_for_in_arguments_named_assign_atom_rest_tier_un)]
+#[cycle(phrases)]
 fn clause(table: &mut [u32], count: usize, at: usize, free: usize) -> u32
     requires { Room count table.old at free }
     ensures { Yields (Clause at) count table.old at free (part_of result) table.new }
@@ -84,7 +84,7 @@ fn clause(table: &mut [u32], count: usize, at: usize, free: usize) -> u32
 }
 
 // At a `let`, whose body is a Seq, and so reaches as far as one can.
-#[cycle(clause_if_else_let_in_seq_until_while_block_ends_for_in_arguments_named_assign_atom_rest_tier_un)]
+#[cycle(phrases)]
 fn let_in(table: &mut [u32], count: usize, at: usize, free: usize) -> u32
     requires room { Room count table.old at free }
     requires at_value { kind_of table.old count at ≡ LET }
@@ -112,7 +112,7 @@ fn let_in(table: &mut [u32], count: usize, at: usize, free: usize) -> u32
 }
 
 // At an `if`, whose last part is a Tail or an Item: a `;` is taken by the let in it, or ends it.
-#[cycle(clause_if_else_let_in_seq_until_while_block_ends_for_in_arguments_named_assign_atom_rest_tier_un)]
+#[cycle(phrases)]
 fn if_else(table: &mut [u32], count: usize, at: usize, free: usize) -> u32
     requires room { Room count table.old at free }
     requires at_value { kind_of table.old count at ≡ IF }
@@ -145,7 +145,7 @@ fn if_else(table: &mut [u32], count: usize, at: usize, free: usize) -> u32
 }
 
 // At a `while`, whose body is a Block of its own.
-#[cycle(clause_if_else_let_in_seq_until_while_block_ends_for_in_arguments_named_assign_atom_rest_tier_un)]
+#[cycle(phrases)]
 fn while_block(table: &mut [u32], count: usize, at: usize, free: usize) -> u32
     requires room { Room count table.old at free }
     requires at_value { kind_of table.old count at ≡ WHILE }

@@ -14,7 +14,7 @@ use layout::token::kind;
 
 // At a `for`, whose row has the kind of the mark between its start and its end. These, and its step, are
 // rows as the arguments of a call are.
-#[cycle(clause_if_else_let_in_seq_until_while_block_ends_for_in_arguments_named_assign_atom_rest_tier_un)]
+#[cycle(phrases)]
 pub fn for_in(table: &mut [u32], count: usize, at: usize, free: usize) -> u32
     requires room { Room count table.old at free }
     requires at_value { kind_of table.old count at ≡ FOR }
@@ -62,7 +62,7 @@ pub fn for_in(table: &mut [u32], count: usize, at: usize, free: usize) -> u32
 }
 
 // Behind the mark at `at`, the end of the `for` at `own` and maybe, behind `by`, its step.
-#[cycle(clause_if_else_let_in_seq_until_while_block_ends_for_in_arguments_named_assign_atom_rest_tier_un)]
+#[cycle(phrases)]
 fn ends(table: &mut [u32], count: usize, at: usize, free: usize, own: usize) -> u32
     requires room { Room count table.old at free }
     requires at_lt_count { (at < count) × (own < count) }

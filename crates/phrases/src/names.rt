@@ -11,7 +11,7 @@ use layout::rows::{ARGUMENT, CALL};
 use layout::token::kind;
 
 // At a name, which is called where `(` stands behind it.
-#[cycle(clause_if_else_let_in_seq_until_while_block_ends_for_in_arguments_named_assign_atom_rest_tier_un)]
+#[cycle(phrases)]
 pub fn named(table: &mut [u32], count: usize, at: usize, free: usize) -> u32
     requires room { Room count table.old at free }
     requires at_value { kind_of table.old count at ≡ NAME }
@@ -29,7 +29,7 @@ pub fn named(table: &mut [u32], count: usize, at: usize, free: usize) -> u32
 
 // The arguments of the call at `own`, up to the `)` and with it. An argument's row comes behind the
 // rows of those after it, and links to the first of them.
-#[cycle(clause_if_else_let_in_seq_until_while_block_ends_for_in_arguments_named_assign_atom_rest_tier_un)]
+#[cycle(phrases)]
 fn arguments(table: &mut [u32], count: usize, at: usize, free: usize, own: usize) -> u32
     requires room { Room count table.old at free }
     requires own_lt_count { own < count }

@@ -11,7 +11,7 @@ use layout::rows::{PREFIX, put};
 use layout::token::kind;
 
 // `:=` does not chain.
-#[cycle(clause_if_else_let_in_seq_until_while_block_ends_for_in_arguments_named_assign_atom_rest_tier_un)]
+#[cycle(phrases)]
 pub fn assign(table: &mut [u32], count: usize, at: usize, free: usize) -> u32
     requires { Room count table.old at free }
     ensures { Yields (Assign at) count table.old at free (part_of result) table.new }
@@ -37,7 +37,7 @@ pub fn assign(table: &mut [u32], count: usize, at: usize, free: usize) -> u32
 
 // Or, And, Cmp, Sum, Prod and Un, all by one function: operands with operators between them that bind
 // at least as tightly as `least`.
-#[cycle(clause_if_else_let_in_seq_until_while_block_ends_for_in_arguments_named_assign_atom_rest_tier_un)]
+#[cycle(phrases)]
 pub fn tier(table: &mut [u32], count: usize, at: usize, free: usize, least: u32) -> u32
     requires room { Room count table.old at free }
     requires le_least { (1 ≤ least) × (least ≤ 7) × (least ≡ 4 → ⊥) }
@@ -57,7 +57,7 @@ pub fn tier(table: &mut [u32], count: usize, at: usize, free: usize, least: u32)
 
 // The operators behind a left operand whose root `left` is the last row, from those that bind as
 // tightly as `least` up to `most`. What is read becomes the next one's left operand.
-#[cycle(clause_if_else_let_in_seq_until_while_block_ends_for_in_arguments_named_assign_atom_rest_tier_un)]
+#[cycle(phrases)]
 fn rest(
     table: &mut [u32],
     count: usize,
@@ -97,7 +97,7 @@ fn rest(
 }
 
 // Operators before an Atom.
-#[cycle(clause_if_else_let_in_seq_until_while_block_ends_for_in_arguments_named_assign_atom_rest_tier_un)]
+#[cycle(phrases)]
 fn un(table: &mut [u32], count: usize, at: usize, free: usize) -> u32
     requires { Room count table.old at free }
     ensures { Yields (Un at) count table.old at free (part_of result) table.new }
@@ -112,7 +112,7 @@ fn un(table: &mut [u32], count: usize, at: usize, free: usize) -> u32
 }
 
 // A constant, a number, a float number, a name, a call, a Group or a Block.
-#[cycle(clause_if_else_let_in_seq_until_while_block_ends_for_in_arguments_named_assign_atom_rest_tier_un)]
+#[cycle(phrases)]
 fn atom(table: &mut [u32], count: usize, at: usize, free: usize) -> u32
     requires { Room count table.old at free }
     ensures { Yields (Atom at) count table.old at free (part_of result) table.new }

@@ -1,4 +1,6 @@
 // The pay profile of a program that a table holds: its first endless node, or how many units it can use.
+#![tactic(auto)]
+
 ghost use Rattle.std.specs.Prelude.{◌≡◌};
 ghost use Rattle.profiles.specs.Profiled.{Countable, Profiled, Reckoned, told, Bodied, BodyPassed};
 

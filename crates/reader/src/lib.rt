@@ -1,5 +1,6 @@
 // The reader: from the tokens in table memory to the rows of their reading. Functions and the program are
 // read here, what they are made of by `phrases`.
+#![tactic(auto)]
 
 mod definitions;
 mod types;

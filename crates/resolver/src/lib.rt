@@ -1,5 +1,6 @@
 // Resolves the names and calls of a program that has a type, before it runs: which slot of its frame a name means, and
 // which function a call means, is noted of its token.
+#![tactic(auto)]
 
 mod trees;
 

@@ -70,7 +70,7 @@ fn between(table: &mut [u32], node: usize, kind: u32, size: usize) -> usize
 }
 
 // The tree at `node`, where `size` slots of its frame are in use.
-#[cycle(arguments_call_counted_place)]
+#[cycle(resolving)]
 pub fn place(table: &mut [u32], node: usize, defs: usize, size: usize)
     requires { Placing table.old node defs size }
     ensures { Places table.old table.new node defs size }
@@ -119,7 +119,7 @@ fn callee(table: &[u32], defs: usize, number: u32) -> u32
     }
 }
 
-#[cycle(arguments_call_counted_place)]
+#[cycle(resolving)]
 fn call(table: &mut [u32], node: usize, defs: usize, size: usize)
     requires { Placing table.old node defs size × (row_word table.old node KIND ≡ CALL) }
     ensures { Places table.old table.new node defs size }
@@ -133,7 +133,7 @@ fn call(table: &mut [u32], node: usize, defs: usize, size: usize)
 }
 
 // The arguments or bounds from row `row` on, each of which waits in the slot above the one before.
-#[cycle(arguments_call_counted_place)]
+#[cycle(resolving)]
 fn arguments(table: &mut [u32], row: usize, defs: usize, size: usize)
     requires { PlacingAll table.old row defs size }
     ensures { PlacesAll table.old table.new row defs size }
@@ -162,7 +162,7 @@ fn enter(table: &mut [u32], node: usize, size: usize)
 }
 
 // A `for`: its bounds as arguments, then its body.
-#[cycle(arguments_call_counted_place)]
+#[cycle(resolving)]
 fn counted(table: &mut [u32], node: usize, defs: usize, size: usize)
     requires { Placing table.old node defs size × (counts (row_word table.old node KIND) ≡ true) }
     ensures { Places table.old table.new node defs size }

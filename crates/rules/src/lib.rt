@@ -1,4 +1,5 @@
 // The typing rules: what a node asks of its children's types, and what is in sight of it.
+#![tactic(auto)]
 
 pub mod operators;
 pub mod sight;

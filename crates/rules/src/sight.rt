@@ -15,7 +15,7 @@ pub enum Found {
 }
 
 // Whom a call means: the function at a row, or the one that is there before all others.
-#[derive(Drop)]
+#[derive(Clone, Copy)]
 pub enum Callee {
     Function(usize),
     Putchar,
@@ -23,7 +23,7 @@ pub enum Callee {
 }
 
 // Who takes a list of expressions, each of some type: a callee its arguments, or a `for` its bounds.
-#[derive(Drop)]
+#[derive(Clone, Copy)]
 pub enum Taker {
     Call(Callee),
     For,

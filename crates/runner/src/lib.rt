@@ -1,6 +1,7 @@
 // Runs a reading that has a type, by a loop: what waits lies as frames in lent work memory, beside the slots for
 // bindings and operands and the cells. Each node uses a unit when it begins. Work memory is cleared at the end, and
 // bytes go to the lent output.
+#![tactic(auto)]
 
 mod begin;
 mod calls;

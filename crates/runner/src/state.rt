@@ -8,7 +8,7 @@ use numbers::Stop;
 
 // A node begins, a value goes to the frame that waits for it, or it is over: with the value, or by a stop at a token.
 // Why and where it stops stand here, so that a run carries nothing of it from step to step.
-#[derive(Drop)]
+#[derive(Clone, Copy)]
 pub enum Mode {
     Begin,
     Give,
@@ -17,7 +17,7 @@ pub enum Mode {
 }
 
 // The slots in sight, from slot `base` on, and how many frames wait.
-#[derive(Drop)]
+#[derive(Clone, Copy)]
 pub struct Spot {
     pub base: usize,
     pub size: usize,
@@ -25,7 +25,7 @@ pub struct Spot {
 }
 
 // What comes next. The node is the one that begins, and the value the one that was given last.
-#[derive(Drop)]
+#[derive(Clone, Copy)]
 pub struct Next {
     pub mode: Mode,
     pub node: usize,

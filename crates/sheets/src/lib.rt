@@ -1,6 +1,8 @@
 // What becomes of a source: split into the tokens of the edition that is named, read and typed, it is a
 // program that the table holds, or it is refused. All services of the box begin with this, for one sheet,
 // for two, and for a stored one.
+#![tactic(auto)]
+
 ghost use Rattle.std.specs.Prelude.{◌≡◌, ◌≤◌, length};
 ghost use Rattle.language.specs.Answers.{from_text};
 ghost use Rattle.language.specs.Edition.{text_in, stored_in};
@@ -38,7 +40,7 @@ pub enum Seen {
 }
 
 // What a source is: the text that a view shows of two sheets, or the first of them as a stored sheet.
-#[derive(Drop)]
+#[derive(Clone, Copy)]
 pub enum Form {
     Text(View),
     Lines,

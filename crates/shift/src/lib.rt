@@ -4,6 +4,8 @@
 // between is plain data that the caller keeps; whatever he makes of it, nothing here wraps or goes past an
 // end, and nothing is run of a book that is not admitted, since every piece asks that anew. Reports of two parts of
 // an input add up to that of the whole: `combine`.
+#![tactic(auto)]
+
 ghost use Rattle.std.specs.Prelude.{◌≡◌};
 ghost use Rattle.shift.specs.Meanings.{new_state, closed_sums};
 ghost use Rattle.shift.specs.Promises.{Begin, Feed, Finish};
@@ -23,7 +25,7 @@ use tally::{combining, lines, sums};
 
 // What is carried: the units that each line may use, the line that has begun, what the lines before it add
 // up to, and whether there was a line too many.
-#[derive(Drop)]
+#[derive(Clone, Copy)]
 pub struct State {
     pub allowance: u64,
     pub part: Part,
@@ -32,7 +34,7 @@ pub struct State {
 }
 
 // Why a shift is refused: as a sheet is, or because the book is none, or for its lines.
-#[derive(Drop)]
+#[derive(Clone, Copy)]
 pub enum Why {
     Sheet(Refusal),
     NoBook,
@@ -40,7 +42,7 @@ pub enum Why {
 }
 
 // What is told of a book before any line.
-#[derive(Drop)]
+#[derive(Clone, Copy)]
 pub enum Admission {
     Granted,
     Refused(Why, Spot),

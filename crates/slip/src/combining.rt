@@ -2,7 +2,7 @@
 ghost use Rattle.desk.specs.Statuses.{Status};
 
 use desk::input::Sheet;
-use desk::{arguments, input};
+use desk::{Outside, arguments, input};
 use orders::asked::Asked;
 use orders::{asked, tasks};
 use records::readings;
@@ -18,13 +18,13 @@ struct Total {
 }
 
 // The file that a word names is no report of a shift.
-fn strange(word: usize, all: Finished) -> Total {
-    input::no_report(word);
+fn strange(rt: &impl Outside, word: usize, all: Finished) -> Total {
+    input::no_report(rt, word);
     Total { read: false, all }
 }
 
 // What was read of the file that a word names, told with those before it.
-fn added(word: usize, reading: Reading, all: Finished) -> Total {
+fn added(rt: &impl Outside, word: usize, reading: Reading, all: Finished) -> Total {
     if reading.good {
         let sums = reading.sums;
         let part = Finished {
@@ -37,30 +37,30 @@ fn added(word: usize, reading: Reading, all: Finished) -> Total {
             all: both,
         };
     }
-    strange(word, all)
+    strange(rt, word, all)
 }
 
 // Reads the report that this word names. No report has as many bytes as there is room for, and a part of a file is not
 // read as one.
-fn add(word: usize, all: Finished) -> Total {
+fn add(rt: &impl Outside, word: usize, all: Finished) -> Total {
     let mut bytes = io::large_buffer();
-    let Sheet::Bytes(length) = input::load(word, &mut bytes) else {
+    let Sheet::Bytes(length) = input::load(rt, word, &mut bytes) else {
         return Total { read: false, all };
     };
     let n = input::within(length, &bytes);
     if n < bytes.len() {
         let reading = readings::read(&bytes[..n]);
-        return added(word, reading, all);
+        return added(rt, word, reading, all);
     }
-    strange(word, all)
+    strange(rt, word, all)
 }
 
 // Takes a word that is a plain one, if all before it could be read.
-fn step(total: Total, plain: bool, word: usize) -> Total {
+fn step(rt: &impl Outside, total: Total, plain: bool, word: usize) -> Total {
     if plain {
         if total.read {
             let all = total.all;
-            return add(word, all);
+            return add(rt, word, all);
         }
     }
     total
@@ -77,39 +77,36 @@ fn none() -> Total {
 }
 
 // Goes through the words again: there may be more reports than were kept of them.
-fn summed() -> Total {
-    let count = os::arg_count();
+fn summed(rt: &impl Outside) -> Total {
     let mut asked = asked::nothing();
     let mut total = none();
-    let mut i = 1;
-    while i < count {
-        let word = arguments::meaning(i);
-        total = step(total, tasks::is_plain(asked, word), i);
+    for i in 1..arguments::count(rt) {
+        let word = arguments::meaning(rt, i);
+        total = step(rt, total, tasks::is_plain(asked, word), i);
         asked = asked::take(asked, word, i);
-        i += 1;
     }
     total
 }
 
 // That a part is refused otherwise than for its lines does not come: such a report has no sums, and is not read.
-fn tell(asked: Asked, all: Finished) -> u32
+fn tell(rt: &impl Outside, asked: Asked, all: Finished) -> u32
     ensures { Status result }
 {
     let told = all.told;
     let sums = all.sums;
     match told {
-        Ending::Report { over } => reports::combined(asked, over, sums),
-        Ending::Refused(_) => reports::failed(asked),
+        Ending::Report { over } => reports::combined(rt, asked, over, sums),
+        Ending::Refused(_) => reports::failed(rt, asked),
     }
 }
 
-pub fn combine(asked: Asked) -> u32
+pub fn combine(rt: &impl Outside, asked: Asked) -> u32
     ensures { Status result }
 {
-    let total = summed();
+    let total = summed(rt);
     let all = total.all;
     if total.read {
-        return tell(asked, all);
+        return tell(rt, asked, all);
     }
-    reports::failed(asked)
+    reports::failed(rt, asked)
 }

@@ -2,10 +2,13 @@
 //
 // What the sheet prints goes to standard output and nothing else does; the report goes to standard error,
 // and with `--report FILE` also to a file, for machines. The report of a shift, which prints nothing, is what goes
-// to standard output there. The last thing that is told is the status, a digit
-// on descriptor 3: 0 paid, or passed; 1 refused or stopped; 2 where the words do not serve, or something
-// cannot be read or written. A program cannot end with a status of its own; the script `slip` at the top of
-// the repository listens on that descriptor and ends with it.
+// to standard output there. The program ends with its status: 0 paid, or passed; 1 refused or stopped; 2 where the
+// words do not serve, or something cannot be read or written.
+#![tactic(auto)]
+
+ghost use Rattle.std.specs.Prelude.{◌≤◌};
+ghost use Rattle.std.specs.Process.{exit_status};
+
 mod books;
 mod combining;
 mod profiling;
@@ -14,10 +17,17 @@ mod serve;
 mod shifts;
 mod storing;
 
-use desk::{arguments, output};
+use desk::{Outside, arguments, output};
+use std::process::ExitCode;
 
-fn main() {
-    let asked = arguments::read();
-    let status = serve::serve(asked);
-    output::end(status);
+// Does what the words ask for, and answers with which status the program ends.
+fn ended(rt: &impl Outside) -> ExitCode
+    ensures { exit_status result ≤ 2 }
+{
+    let asked = arguments::read(rt);
+    output::end(serve::serve(rt, asked))
+}
+
+fn main(rt: HostRuntime) -> ExitCode {
+    ended(&rt)
 }

@@ -3,7 +3,7 @@ ghost use Rattle.desk.specs.Statuses.{Status};
 
 use answered::{called, whole};
 use desk::input::Sheet;
-use desk::{input, rooms};
+use desk::{Outside, input, rooms};
 use grumpy::answers::{PairProfiled, Profiled};
 use orders::asked::Asked;
 use wording::limits::unlimited;
@@ -21,22 +21,22 @@ fn count_pair(edition: u32, sheet: &[u8], call: &[u8]) -> PairProfiled {
 }
 
 // Of a rate sheet that passes with the call under it.
-pub fn count_called(asked: Asked, edition: u32, sheet: &[u8], call: &[u8]) -> u32
+pub fn count_called(rt: &impl Outside, asked: Asked, edition: u32, sheet: &[u8], call: &[u8]) -> u32
     ensures { Status result }
 {
     let end = called::of_profile(count_pair(edition, sheet, call));
-    reports::report(asked, sheet, b"", unlimited(), end)
+    reports::report(rt, asked, sheet, b"", unlimited(), end)
 }
 
 // Of a whole sheet.
-pub fn count_whole(asked: Asked, edition: u32) -> u32
+pub fn count_whole(rt: &impl Outside, asked: Asked, edition: u32) -> u32
     ensures { Status result }
 {
     let mut bytes = rooms::sheet();
-    let Sheet::Bytes(length) = input::load(asked.sheet, &mut bytes) else {
-        return reports::failed(asked);
+    let Sheet::Bytes(length) = input::load(rt, asked.sheet, &mut bytes) else {
+        return reports::failed(rt, asked);
     };
     let n = input::within(length, &bytes);
     let end = whole::of_profile(count(edition, &bytes[..n]));
-    reports::report(asked, &bytes[..n], b"", unlimited(), end)
+    reports::report(rt, asked, &bytes[..n], b"", unlimited(), end)
 }

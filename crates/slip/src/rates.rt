@@ -8,7 +8,7 @@ ghost use Rattle.language.specs.Sizes.{BOX, TABLE};
 use crate::{profiling, serve};
 use answered::{called, whole};
 use desk::input::Sheet;
-use desk::{input, rooms};
+use desk::{Outside, input, rooms};
 use grumpy::answers::PairChecked;
 use language::ALLOWANCE;
 use orders::asked::Asked;
@@ -29,7 +29,7 @@ fn examine_called(edition: u32, sheet: &[u8], call: &[u8]) -> PairChecked
 }
 
 // Runs the sheet with the call under it, and reports, with what its profile says.
-fn run_called(asked: Asked, edition: u32, sheet: &[u8], call: &[u8]) -> u32
+fn run_called(rt: &impl Outside, asked: Asked, edition: u32, sheet: &[u8], call: &[u8]) -> u32
     ensures { Status result }
 {
     let mut words = rooms::table();
@@ -42,7 +42,7 @@ fn run_called(asked: Asked, edition: u32, sheet: &[u8], call: &[u8]) -> u32
     let most = called::known(grumpy::profile_pair(edition, sheet, call, table));
     let allowance = ALLOWANCE;
     let end = called::of_run(sheet.len(), answer);
-    serve::ran(asked, sheet, out, Limits { allowance, most }, end)
+    serve::ran(rt, asked, sheet, out, Limits { allowance, most }, end)
 }
 
 // What a rate sheet with its call under it comes to; where that is no program, the sheet alone may be one.
@@ -64,55 +64,70 @@ pub enum Called {
 }
 
 // Checks the sheet with the call under it and, if they pass, does what is asked.
-fn serve_called(asked: Asked, edition: u32, sheet: &[u8], call: &[u8], what: Called) -> u32
+fn serve_called(
+    rt: &impl Outside,
+    asked: Asked,
+    edition: u32,
+    sheet: &[u8],
+    call: &[u8],
+    what: Called,
+) -> u32
     ensures { Status result }
 {
     let end = judge(edition, sheet, call);
     if ends::status(end) != 0 {
-        return reports::report(asked, sheet, b"", unlimited(), end);
+        return reports::report(rt, asked, sheet, b"", unlimited(), end);
     }
     match what {
-        Called::Checked => reports::report(asked, sheet, b"", unlimited(), end),
-        Called::Counted => profiling::count_called(asked, edition, sheet, call),
-        Called::Paid => run_called(asked, edition, sheet, call),
+        Called::Checked => reports::report(rt, asked, sheet, b"", unlimited(), end),
+        Called::Counted => profiling::count_called(rt, asked, edition, sheet, call),
+        Called::Paid => run_called(rt, asked, edition, sheet, call),
     }
 }
 
 // Sets the call under the sheet, as a second sheet, as each line of a shift has its call.
-fn call(asked: Asked, edition: u32, sheet: &[u8], picks: u32, rate: u32, what: Called) -> u32
+fn call(
+    rt: &impl Outside,
+    asked: Asked,
+    edition: u32,
+    sheet: &[u8],
+    picks: u32,
+    rate: u32,
+    what: Called,
+) -> u32
     ensures { Status result }
 {
     let line = calls::call(picks, rate);
     let n = line.len;
     let text = line.text;
-    serve_called(asked, edition, sheet, &text[..n], what)
+    serve_called(rt, asked, edition, sheet, &text[..n], what)
 }
 
 // Every call counts the same, whatever its numbers are.
-pub fn examine_rates(asked: Asked, edition: u32, what: Called) -> u32
+pub fn examine_rates(rt: &impl Outside, asked: Asked, edition: u32, what: Called) -> u32
     ensures { Status result }
 {
     let mut bytes = rooms::sheet();
-    let Sheet::Bytes(length) = input::load(asked.sheet, &mut bytes) else {
-        return reports::failed(asked);
+    let Sheet::Bytes(length) = input::load(rt, asked.sheet, &mut bytes) else {
+        return reports::failed(rt, asked);
     };
     let n = input::within(length, &bytes);
-    call(asked, edition, &bytes[..n], 0, 0, what)
+    call(rt, asked, edition, &bytes[..n], 0, 0, what)
 }
 
-pub fn pay(asked: Asked, edition: u32) -> u32
+pub fn pay(rt: &impl Outside, asked: Asked, edition: u32) -> u32
     ensures { Status result }
 {
     let mut bytes = rooms::sheet();
-    let Number::Of(picks) = input::number(asked.second, b"picks", LARGEST) else {
-        return reports::failed(asked);
+    let Number::Of(picks) = input::number(rt, asked.second, b"picks", LARGEST) else {
+        return reports::failed(rt, asked);
     };
-    let Number::Of(rate) = input::number(asked.third, b"rate", LARGEST) else {
-        return reports::failed(asked);
+    let Number::Of(rate) = input::number(rt, asked.third, b"rate", LARGEST) else {
+        return reports::failed(rt, asked);
     };
-    let Sheet::Bytes(length) = input::load(asked.sheet, &mut bytes) else {
-        return reports::failed(asked);
+    let Sheet::Bytes(length) = input::load(rt, asked.sheet, &mut bytes) else {
+        return reports::failed(rt, asked);
     };
     let n = input::within(length, &bytes);
-    call(asked, edition, &bytes[..n], picks, rate, Called::Paid)
+    call(rt, asked, edition, &bytes[..n], picks, rate, Called::Paid)
 }

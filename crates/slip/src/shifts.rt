@@ -4,12 +4,14 @@ ghost use Rattle.desk.specs.Statuses.{Status};
 use crate::books;
 use crate::serve::examine;
 use answered::whole;
-use desk::input::Sheet;
-use desk::{input, output, rooms};
+use desk::arguments::word;
+use desk::input::{Sheet, within};
+use desk::{Outside, input, output, rooms};
 use orders::asked::Asked;
 use page::Number;
 use pairs::Spot;
 use shift::{Admission, Ending, State, Why};
+use std::io::{Error, ErrorKind, Read};
 use wording::ends;
 use wording::limits::unlimited;
 
@@ -17,15 +19,15 @@ use wording::limits::unlimited;
 const STRIDE: u32 = 8192;
 
 // More pieces than any input has: no clock gets there. A loop has to have an end that can be seen.
-const PIECES: u64 = 0xffff_ffff_ffff_ffff;
+const PIECES: u64 = u64::MAX;
 
 // What became of a read: a piece was fed, and there may be more; the input has ended, or no byte more of it matters;
 // it cannot be read. That a book which was admitted is refused later does not come.
-#[derive(Drop)]
+#[derive(Clone, Copy)]
 enum Reading {
     More,
     End,
-    Unread,
+    Unread(Error),
     Refused(Why, Spot),
 }
 
@@ -35,22 +37,22 @@ struct Fed {
     state: State,
 }
 
-fn refuse(asked: Asked, edition: u32, book: &[u8], why: Why, spot: Spot) -> u32
+fn refuse(rt: &impl Outside, asked: Asked, edition: u32, book: &[u8], why: Why, spot: Spot) -> u32
     ensures { Status result }
 {
     let mut end = books::of_shift(why, spot);
     if books::unread_shift(why) {
         end = ends::completed(end, whole::unread(examine(edition, book)));
     }
-    reports::report(asked, book, b"", unlimited(), end)
+    reports::report(rt, asked, book, b"", unlimited(), end)
 }
 
 // Says how far it is, where a stride was passed.
-fn progress(before: u32, after: u32) {
+fn progress(rt: &impl Outside, before: u32, after: u32) {
     if before / STRIDE < after / STRIDE {
         let mut text = io::buffer();
         let n = clerk::shifts::progress(&mut text, after / STRIDE * STRIDE);
-        output::tell(&text[..n]);
+        output::tell(rt, &text[..n]);
     }
 }
 
@@ -70,6 +72,7 @@ fn after(state: State) -> Fed {
 
 // Feeds one piece more.
 fn feed(
+    rt: &impl Outside,
     edition: u32,
     book: &[u8],
     piece: &[u8],
@@ -83,7 +86,7 @@ fn feed(
     let next = answer.state;
     match told {
         Admission::Granted => {
-            progress(state.sums.lines, next.sums.lines);
+            progress(rt, state.sums.lines, next.sums.lines);
             after(next)
         }
         Admission::Refused(why, spot) => Fed {
@@ -94,8 +97,9 @@ fn feed(
 }
 
 // Reads one piece more into `bytes`, and feeds it.
-fn read(
-    fd: i32,
+fn read<I: Read>(
+    rt: &impl Outside,
+    input: &mut I,
     edition: u32,
     book: &[u8],
     bytes: &mut [u8],
@@ -104,98 +108,110 @@ fn read(
     out: &mut [u8],
     state: State,
 ) -> Fed {
-    let got = libc::read(fd, bytes);
-    if got < 0 {
-        return Fed {
-            reading: Reading::Unread,
-            state,
-        };
-    }
-    if got == 0 {
-        return Fed {
+    match input.read(bytes) {
+        Ok(0) => Fed {
             reading: Reading::End,
             state,
-        };
+        },
+        Ok(got) => {
+            let n = within(got, bytes);
+            feed(rt, edition, book, &bytes[..n], table, work, out, state)
+        }
+        Err(why) => Fed {
+            reading: Reading::Unread(why),
+            state,
+        },
     }
-    let n = io::count(got, bytes);
-    feed(edition, book, &bytes[..n], table, work, out, state)
 }
 
 fn goes_on(reading: Reading) -> bool {
     match reading {
         Reading::More => true,
         Reading::End => false,
-        Reading::Unread => false,
+        Reading::Unread(_) => false,
         Reading::Refused(_, _) => false,
     }
 }
 
 // Reads and feeds all pieces.
-fn pieces(
-    fd: i32,
+fn pieces<I: Read>(
+    rt: &impl Outside,
+    input: &mut I,
     edition: u32,
     book: &[u8],
     table: &mut [u32],
     work: &mut [u32],
     begun: State,
 ) -> Fed {
-    let mut input = io::large_buffer();
+    let mut room = io::large_buffer();
     let mut printed = io::large_buffer();
-    let bytes: &mut [u8] = &mut input;
+    let bytes: &mut [u8] = &mut room;
     let out: &mut [u8] = &mut printed;
     let mut state = begun;
-    let mut left = PIECES;
-    while 0 < left {
-        let fed = read(fd, edition, book, bytes, table, work, out, state);
-        let reading = fed.reading;
-        if !goes_on(reading) {
+    for _ in 0..PIECES {
+        let fed = read(rt, input, edition, book, bytes, table, work, out, state);
+        if !goes_on(fed.reading) {
             return fed;
         }
-        let next = fed.state;
-        state = next;
-        left -= 1;
+        state = fed.state;
     }
     Fed {
-        reading: Reading::Unread,
+        reading: Reading::More,
         state,
     }
 }
 
-fn finished(asked: Asked, edition: u32, book: &[u8], allowance: u64, state: State) -> u32
+fn finished(
+    rt: &impl Outside,
+    asked: Asked,
+    edition: u32,
+    book: &[u8],
+    allowance: u64,
+    state: State,
+) -> u32
     ensures { Status result }
 {
     let finished = shift::finish(edition, state);
     let told = finished.told;
     let sums = finished.sums;
     match told {
-        Ending::Report { over } => reports::shift(asked, allowance, over, sums),
-        Ending::Refused(why) => refuse(asked, edition, book, Why::Sheet(why), pairs::front()),
+        Ending::Report { over } => reports::shift(rt, asked, allowance, over, sums),
+        Ending::Refused(why) => refuse(rt, asked, edition, book, Why::Sheet(why), pairs::front()),
     }
 }
 
-fn unread(asked: Asked, name: &[u8]) -> u32
+fn unread(rt: &impl Outside, asked: Asked, name: &[u8], why: &Error) -> u32
     ensures { Status result }
 {
-    output::fail(name);
-    reports::failed(asked)
+    output::fail(rt, name, why);
+    reports::failed(rt, asked)
 }
 
 // Tells what came of the lines, whose file has this name.
-fn tell(asked: Asked, edition: u32, book: &[u8], name: &[u8], allowance: u64, fed: Fed) -> u32
+fn tell(
+    rt: &impl Outside,
+    asked: Asked,
+    edition: u32,
+    book: &[u8],
+    name: &[u8],
+    allowance: u64,
+    fed: Fed,
+) -> u32
     ensures { Status result }
 {
     let reading = fed.reading;
     let state = fed.state;
     match reading {
-        Reading::More => unread(asked, name),
-        Reading::End => finished(asked, edition, book, allowance, state),
-        Reading::Unread => unread(asked, name),
-        Reading::Refused(why, spot) => refuse(asked, edition, book, why, spot),
+        Reading::More => unread(rt, asked, name, &Error::from(ErrorKind::TimedOut)),
+        Reading::End => finished(rt, asked, edition, book, allowance, state),
+        Reading::Unread(why) => unread(rt, asked, name, &why),
+        Reading::Refused(why, spot) => refuse(rt, asked, edition, book, why, spot),
     }
 }
 
 // The lines of the file that the second word names.
 fn lines(
+    rt: &impl Outside,
     asked: Asked,
     edition: u32,
     book: &[u8],
@@ -207,22 +223,21 @@ fn lines(
     ensures { Status result }
 {
     let mut name = io::buffer();
-    let length = os::arg(asked.second, &mut name);
+    let length = word(rt, asked.second, &mut name);
     if check::same(&name[..length], b"-") {
-        let fed = pieces(libc::STDIN_FILENO, edition, book, table, work, begun);
-        return tell(asked, edition, book, &name[..length], allowance, fed);
+        let fed = pieces(rt, &mut rt.reader(), edition, book, table, work, begun);
+        return tell(rt, asked, edition, book, &name[..length], allowance, fed);
     }
-    let fd = os::open_read(&name[..length]);
-    if fd < 0 {
-        return unread(asked, &name[..length]);
+    match input::open(rt, &name[..length]) {
+        Ok(mut file) => {
+            let fed = pieces(rt, &mut file, edition, book, table, work, begun);
+            tell(rt, asked, edition, book, &name[..length], allowance, fed)
+        }
+        Err(why) => unread(rt, asked, &name[..length], &why),
     }
-    let fed = pieces(fd, edition, book, table, work, begun);
-    let status = tell(asked, edition, book, &name[..length], allowance, fed);
-    libc::close(fd);
-    status
 }
 
-fn begin(asked: Asked, edition: u32, book: &[u8], allowance: u64) -> u32
+fn begin(rt: &impl Outside, asked: Asked, edition: u32, book: &[u8], allowance: u64) -> u32
     ensures { Status result }
 {
     let mut words = rooms::table();
@@ -233,30 +248,30 @@ fn begin(asked: Asked, edition: u32, book: &[u8], allowance: u64) -> u32
     let told = answer.told;
     let state = answer.state;
     match told {
-        Admission::Granted => lines(asked, edition, book, table, work, allowance, state),
-        Admission::Refused(why, spot) => refuse(asked, edition, book, why, spot),
+        Admission::Granted => lines(rt, asked, edition, book, table, work, allowance, state),
+        Admission::Refused(why, spot) => refuse(rt, asked, edition, book, why, spot),
     }
 }
 
 // One file cannot be two things, and standard input is read only once.
-pub fn shift(asked: Asked, edition: u32) -> u32
+pub fn shift(rt: &impl Outside, asked: Asked, edition: u32) -> u32
     ensures { Status result }
 {
     let mut bytes = rooms::sheet();
-    if input::same(asked.sheet, asked.second) {
-        output::tell(b"slip: book and lines are the same file\n");
-        return reports::failed(asked);
+    if input::same(rt, asked.sheet, asked.second) {
+        output::tell(rt, b"slip: book and lines are the same file\n");
+        return reports::failed(rt, asked);
     }
-    if input::same(asked.second, asked.report) {
-        output::tell(b"slip: --report names the lines\n");
+    if input::same(rt, asked.second, asked.report) {
+        output::tell(rt, b"slip: --report names the lines\n");
         return 2;
     }
-    let Number::Of(allowance) = input::allowance(asked.third) else {
-        return reports::failed(asked);
+    let Number::Of(allowance) = input::allowance(rt, asked.third) else {
+        return reports::failed(rt, asked);
     };
-    let Sheet::Bytes(length) = input::load(asked.sheet, &mut bytes) else {
-        return reports::failed(asked);
+    let Sheet::Bytes(length) = input::load(rt, asked.sheet, &mut bytes) else {
+        return reports::failed(rt, asked);
     };
     let n = input::within(length, &bytes);
-    begin(asked, edition, &bytes[..n], allowance as u64)
+    begin(rt, asked, edition, &bytes[..n], allowance as u64)
 }

@@ -8,7 +8,7 @@ ghost use Rattle.language.specs.Sizes.{BOX, TABLE};
 use crate::serve;
 use answered::whole;
 use desk::input::Sheet;
-use desk::{input, output, rooms};
+use desk::{Outside, input, output, rooms};
 use grumpy::answers::Checked;
 use orders::asked::Asked;
 use page::Number;
@@ -17,7 +17,7 @@ use wording::ends::End;
 use wording::limits::{Limits, Most, unlimited};
 
 // Writes the stored form of a whole sheet, if it passes. There is room for that of every sheet.
-fn form(asked: Asked, edition: u32, sheet: &[u8]) -> u32
+fn form(rt: &impl Outside, asked: Asked, edition: u32, sheet: &[u8]) -> u32
     ensures { Status result }
 {
     let mut words = rooms::table();
@@ -25,30 +25,31 @@ fn form(asked: Asked, edition: u32, sheet: &[u8]) -> u32
     let table: &mut [u32] = &mut words;
     let out: &mut [u8] = &mut bytes;
     let answer = grumpy::store(edition, sheet, table, out);
-    serve::wrote(asked, edition, sheet, out, answer)
+    serve::wrote(rt, asked, edition, sheet, out, answer)
 }
 
-pub fn store(asked: Asked, edition: u32) -> u32
+pub fn store(rt: &impl Outside, asked: Asked, edition: u32) -> u32
     ensures { Status result }
 {
     let mut bytes = rooms::sheet();
-    let Sheet::Bytes(length) = input::load(asked.sheet, &mut bytes) else {
-        return reports::failed(asked);
+    let Sheet::Bytes(length) = input::load(rt, asked.sheet, &mut bytes) else {
+        return reports::failed(rt, asked);
     };
     let n = input::within(length, &bytes);
-    form(asked, edition, &bytes[..n])
+    form(rt, asked, edition, &bytes[..n])
 }
 
 // Reads a stored sheet. What fills the bytes may go on behind them, and would be judged by a part of it; no sheet's
 // stored form has so many.
-fn load(word: usize, bytes: &mut [u8]) -> Sheet {
-    let Sheet::Bytes(length) = input::load(word, bytes) else {
+fn load(rt: &impl Outside, word: usize, bytes: &mut [u8]) -> Sheet {
+    let Sheet::Bytes(length) = input::load(rt, word, bytes) else {
         return Sheet::Nothing;
     };
     if length < bytes.len() {
         return Sheet::Bytes(length);
     }
     output::tell(
+        rt,
         b"slip: the stored sheet has more than 131071 bytes, and no sheet needs so many\n",
     );
     Sheet::Nothing
@@ -63,27 +64,27 @@ fn examine(edition: u32, stored: &[u8]) -> Checked
     grumpy::check_stored(edition, stored, table)
 }
 
-pub fn check(asked: Asked, edition: u32) -> u32
+pub fn check(rt: &impl Outside, asked: Asked, edition: u32) -> u32
     ensures { Status result }
 {
     let mut bytes = rooms::stored();
-    let Sheet::Bytes(length) = load(asked.sheet, &mut bytes) else {
-        return reports::failed(asked);
+    let Sheet::Bytes(length) = load(rt, asked.sheet, &mut bytes) else {
+        return reports::failed(rt, asked);
     };
     let n = input::within(length, &bytes);
     let end = whole::of_check(examine(edition, &bytes[..n]));
-    reports::report_stored(asked, b"", unlimited(), end)
+    reports::report_stored(rt, asked, b"", unlimited(), end)
 }
 
 // Reports a run; what was printed stands first in `out`.
-fn ran(asked: Asked, out: &[u8], limits: Limits, end: End) -> u32
+fn ran(rt: &impl Outside, asked: Asked, out: &[u8], limits: Limits, end: End) -> u32
     ensures { Status result }
 {
     let n = input::within(ends::printed(end), out);
-    reports::report_stored(asked, &out[..n], limits, end)
+    reports::report_stored(rt, asked, &out[..n], limits, end)
 }
 
-fn run_lines(asked: Asked, edition: u32, stored: &[u8], allowance: u64) -> u32
+fn run_lines(rt: &impl Outside, asked: Asked, edition: u32, stored: &[u8], allowance: u64) -> u32
     ensures { Status result }
 {
     let mut words = rooms::table();
@@ -97,19 +98,19 @@ fn run_lines(asked: Asked, edition: u32, stored: &[u8], allowance: u64) -> u32
         allowance,
         most: Most::Unknown,
     };
-    ran(asked, out, limits, whole::of_run(answer))
+    ran(rt, asked, out, limits, whole::of_run(answer))
 }
 
-pub fn run(asked: Asked, edition: u32) -> u32
+pub fn run(rt: &impl Outside, asked: Asked, edition: u32) -> u32
     ensures { Status result }
 {
     let mut bytes = rooms::stored();
-    let Number::Of(allowance) = input::allowance(asked.second) else {
-        return reports::failed(asked);
+    let Number::Of(allowance) = input::allowance(rt, asked.second) else {
+        return reports::failed(rt, asked);
     };
-    let Sheet::Bytes(length) = load(asked.sheet, &mut bytes) else {
-        return reports::failed(asked);
+    let Sheet::Bytes(length) = load(rt, asked.sheet, &mut bytes) else {
+        return reports::failed(rt, asked);
     };
     let n = input::within(length, &bytes);
-    run_lines(asked, edition, &bytes[..n], allowance as u64)
+    run_lines(rt, asked, edition, &bytes[..n], allowance as u64)
 }

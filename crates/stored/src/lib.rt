@@ -1,5 +1,7 @@
 // Stored sheets: lines of hexadecimal, a count and then one token a line. Any bytes are read as such lines,
 // in their order, and the tokens written into table memory; or it is told which line is wrong and why.
+#![tactic(auto)]
+
 ghost use Rattle.std.specs.Prelude.{◌≤◌, length};
 ghost use Rattle.language.specs.Sizes.{TOKENS, TABLE};
 ghost use Rattle.tokens.specs.Editions.{meant};

@@ -4,7 +4,7 @@ ghost use Rattle.language.specs.Shift.{decimal_with, call_of, LARGEST_CALL};
 ghost use Rattle.tally.specs.Calls.{OPENING, Shows, Longer};
 
 // Its bytes, and how many of these there are; with two numbers of ten digits it has 26.
-#[derive(Drop)]
+#[derive(Clone, Copy)]
 pub struct Text {
     pub text: [u8; 26],
     pub len: usize,

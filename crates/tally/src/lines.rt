@@ -7,7 +7,7 @@ ghost use Rattle.tally.specs.Parts.{no_part, spoilt, with_digit, longer, is_begu
 use language::LARGEST;
 
 // How many digits of the line there were, what picks and rate are worth so far, and whether it is bad.
-#[derive(Drop)]
+#[derive(Clone, Copy)]
 pub struct Part {
     pub at: u32,
     pub picks: u64,

@@ -17,7 +17,7 @@ const LOW: i64 = -140737488355329;
 
 // Lines; bad ones; for each stop from 50 on how many; how many were paid, and the sum, the least and the
 // largest of these.
-#[derive(Drop)]
+#[derive(Clone, Copy)]
 pub struct Sums {
     pub lines: u32,
     pub bad: u32,

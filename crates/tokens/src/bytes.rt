@@ -120,7 +120,7 @@ pub fn is_blank(b: u8) -> bool
 }
 
 // What the bytes of a run have in common.
-#[derive(Drop)]
+#[derive(Clone, Copy)]
 pub enum Class {
     NameByte,
     // A digit of this base.

@@ -1,7 +1,7 @@
 // Editions of the language: by which words, marks and points a text is split.
 ghost use Rattle.tokens.specs.Editions.{Names};
 
-#[derive(Drop)]
+#[derive(Clone, Copy)]
 pub enum Edition {
     One,
     // Counted loops: `for`, `by`, `..` and `..=`.

@@ -1,5 +1,7 @@
 // The tokens of a sheet: its bytes are split into the longest pieces, and each token is written into
 // table memory, with the number of its name where it is one.
+#![tactic(auto)]
+
 ghost use Rattle.std.specs.Prelude.{◌≡◌, ◌≤◌, length};
 ghost use Rattle.std.proofs.Math.Seq.{slice};
 ghost use Rattle.language.specs.Sizes.{TABLE};

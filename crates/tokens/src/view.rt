@@ -9,7 +9,7 @@ ghost use Rattle.tokens.specs.Shown.{told, text_of};
 
 use crate::hexadecimal::two;
 
-#[derive(Drop)]
+#[derive(Clone, Copy)]
 pub enum View {
     // The first sheet alone.
     Plain,

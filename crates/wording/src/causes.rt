@@ -4,7 +4,7 @@ ghost use Rattle.wording.specs.Causes.{refusal_placed, cause_number, cause_place
 
 use numbers::{Refusal, Stop};
 
-#[derive(Drop)]
+#[derive(Clone, Copy)]
 pub enum Cause {
     // The box refuses the sheet.
     Refused(Refusal),

@@ -5,7 +5,7 @@ ghost use Rattle.wording.specs.Ends.{completed_if, status_of, told_status, print
 use crate::causes::Cause;
 use layout::values::Value;
 
-#[derive(Drop)]
+#[derive(Clone, Copy)]
 pub enum End {
     // It passed, and has the type with this number.
     Passed(u32),

@@ -3,14 +3,14 @@ ghost use Rattle.std.specs.Prelude.{◌≡◌};
 ghost use Rattle.wording.specs.Limits.{no_limits};
 
 // It is not known of a sheet that does not pass the profile.
-#[derive(Drop)]
+#[derive(Clone, Copy)]
 pub enum Most {
     Unknown,
     Units(u32),
 }
 
 // What a run may use, and what it can use.
-#[derive(Drop)]
+#[derive(Clone, Copy)]
 pub struct Limits {
     pub allowance: u64,
     pub most: Most,

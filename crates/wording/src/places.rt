@@ -1,5 +1,5 @@
 // How the places of a sheet are counted: by its bytes, or for a stored sheet by its lines.
-#[derive(Drop)]
+#[derive(Clone, Copy)]
 pub enum Places {
     Bytes,
     Lines,

@@ -1,6 +1,8 @@
 // A sheet written out again, from its source and the tokens that the table holds: each as it is spelled, one
 // space between every two, and LF at the end. How long that is is known before a byte is written. `storing` has
 // the sheet's other form.
+#![tactic(auto)]
+
 ghost use Rattle.std.specs.Prelude.{◌≡◌, ◌+◌, ◌-◌, ◌≤◌, ◌<◌, length};
 ghost use Rattle.std.proofs.Math.Seq.{slice};
 ghost use Rattle.language.specs.Sizes.{SOURCE};

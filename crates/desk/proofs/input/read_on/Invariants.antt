@@ -1,0 +1,9 @@
+-- It ends, since each read leaves less to fill.
+use Rattle.std.proofs.Common.{length, ◌-◌, ◌≤◌}
+use Rattle.desk.proofs.input.read_on.Given as goal
+
+abbrev pub invariant-loop-done : goal.invariant-loop-done
+invariant-loop-done g l = l.done ≤ length l.bytes
+
+abbrev pub decreases-loop-done : goal.decreases-loop-done
+decreases-loop-done g l = length l.initial.bytes - l.done
