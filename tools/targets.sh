@@ -68,7 +68,8 @@ high_first() {
 }
 
 # In two steps: what the calls are is read from the optimised text, and what each function takes of the stack from the
-# list that is written with the object, so that tools/stack need not compile again. Products and sums of floats stay two
+# list that is written with the object, so that tools/stack need not compile again. The text has in which order a value
+# is used, so that the second step does with it what one step would do. Products and sums of floats stay two
 # roundings, what cannot be reached traps, and the passes that `rt` leaves out where it compiles are left out here, too.
 compile() { # TRIPLE LEVEL
   local words word status=0
@@ -81,7 +82,7 @@ compile() { # TRIPLE LEVEL
   done
   module "$1" >whole.ll || return
   # shellcheck disable=SC2086
-  llvm clang $words -S -emit-llvm whole.ll -o grumpy_c.ll &&
+  llvm clang $words -S -emit-llvm -Xclang -emit-llvm-uselists whole.ll -o grumpy_c.ll &&
     llvm clang -fstack-usage -Xclang -disable-llvm-passes $words -c grumpy_c.ll -o grumpy_c.o || status=$?
   rm whole.ll
   return $status
