@@ -17,7 +17,7 @@ function after(i, d,   s) {
   s = text[i]
   if (s ~ /^push/) return d + 8
   if (s ~ /^pop/) return d - 8
-  if (s !~ /,%rsp$/) return d
+  if (s !~ /,%rsp$/ || s ~ /^(cmp|test)/) return d
   if (match(s, /^(sub|add) +\$0x[0-9a-f]+/)) {
     d += (s ~ /^sub/ ? 1 : -1) * hex(substr(s, index(s, "$0x") + 3, RLENGTH - index(s, "$0x") - 2))
   } else if (match(s, /^and +\$0xffffffffffff[0-9a-f]+/)) {
@@ -40,6 +40,12 @@ function follow(   i, d, s) {
     s = text[i]
     d = after(i, d)
     if (d > most) most = d
+    if (d > 16777216) {
+      print "frames: " name " takes stack in a loop" >"/dev/stderr"
+      failed = 1
+      ways = 0
+      return
+    }
     if (s ~ /^(ret|ud2|hlt)/) continue
     if (s ~ /^(notrack )?jmp +\*/) { if (d > aside) aside = d; continue }
     if (s ~ /^j/ && match(s, / [0-9a-f]+ </)) {
