@@ -13,7 +13,7 @@ use Rattle.language.specs.Numbers.{Told, no_reading, passed, refused, number}
 use Rattle.language.specs.Answers as Answers
 use Rattle.language.specs.Answers.{Passes, CheckReport, Check, Lent, RunReport, Run}
 use Rattle.language.specs.Pairs.{joined, Place}
-use Rattle.language.specs.Edition.{text_in, pair_in}
+use Rattle.language.specs.Edition.{pair_in}
 use Rattle.language.proofs.Answers.Editions.{text_in_lawful, pair_in_lawful}
 use Rattle.language.proofs.Answers.Endings.{IsRun}
 use Rattle.language.proofs.Answers.Demand1.{Listed, ran_listed, checked_listed}

@@ -7,7 +7,6 @@ use lib.ListN.{length, length-reverse}
 use Rattle.language.specs.State as M
 use Rattle.language.specs.State.{value, stop, stuck}
 use Rattle.language.specs.Meaning.{run}
-use Rattle.language.specs.Answers as Answers
 use Rattle.language.specs.Answers.{ending}
 use Rattle.language.proofs.Meaning.Spending.{Spent, spent_value, spent_stop, spent_stuck, births_few}
 use Rattle.layout.specs.declared.Held.{Held}

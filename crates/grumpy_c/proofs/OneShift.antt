@@ -1,16 +1,15 @@
 -- No two answers of the three functions of a shift for C, whatever words they are given: what they say in words follows from
 -- what the services answer, of which there is one (shift/proofs/Determined).
-use mathlib.Core.Bool.{Bool, true, false, false≢true}
+use mathlib.Core.Bool.{Bool, false≢true}
 use mathlib.Core.List.{List, [], ◌∷◌}
 use mathlib.Core.Logic.{◌⊎◌, inl, inr}
-use mathlib.Core.Path.{◌≡◌, refl, sym, ap, ap₂, ◌∙◌}
+use mathlib.Core.Path.{◌≡◌, sym, ap, ap₂, ◌∙◌}
 use native.Mathlib.Omega.{arith}
 use Prim.Native.Nat.{ℕ, ◌≤◌, ◌<◌}
 use lib.ListN.{length}
 use Rattle.tally.specs.Stands.{report_in}
 use Rattle.tally.specs.declared.sums.Sums.{Sums}
 use Rattle.shift.specs.Meanings.{admission_meant, keeps_all}
-use Rattle.shift.specs.declared.Admission.{Admission}
 use Rattle.shift.specs.declared.Answer.{Answer}
 use Rattle.shift.specs.declared.State.{State}
 use Rattle.shift.proofs.Determined as Determined

@@ -17,7 +17,7 @@ use Rattle.language.specs.Shift as Shift
 use Rattle.language.specs.Tokens.{Vocabulary}
 use Rattle.language.proofs.Shift.OneReport.{one_admission}
 use Rattle.tally.specs.Stands.{report_in}
-use Rattle.shift.specs.After.{After, Reports}
+use Rattle.shift.specs.After.{After}
 use Rattle.shift.specs.Meanings.{admission_meant, granted, keeps_all, lent, over_told}
 use Rattle.shift.specs.Promises.{Feeds, feeds, turned, finished}
 use Rattle.shift.specs.Promises as Promises

@@ -3,7 +3,7 @@ use mathlib.Core.List.{List}
 use mathlib.Core.Path.{◌≡◌, refl, sym, ap, ap₂, subst, ◌∙◌}
 use Prim.Native.Nat.{ℕ, ◌≤◌}
 use native.Mathlib.Omega.{arith}
-use lib.ListN.{length, set, length-set}
+use lib.ListN.{length, length-set}
 use mir.Syntax.{w64}
 use mir.Val.{of_z}
 use Rattle.language.specs.Meaning.{value_number}
@@ -97,7 +97,8 @@ check_pair_determined {edition} {first} {second} {report = report} (check_report
     (b ∙ ap (λ (r : CheckReport Place). number r.told) x.0 ∙ sym e, x.1, c ∙ ap (pair_check_words report) x.0 ∙ sym f)
 
 pub run_pair_determined : {edition : ℕ} {first second table work out : List ℕ} {allowance : ℕ} {report t' w' o' r' t'' w'' o'' r'' : List ℕ} {m n : ℕ}
-    → PairRanC edition first second table work out allowance report t' w' o' r' m → PairRanC edition first second table work out allowance report t'' w'' o'' r'' n
+    → PairRanC edition first second table work out allowance report t' w' o' r' m
+    → PairRanC edition first second table work out allowance report t'' w'' o'' r'' n
     → (m ≡ n) × (t' ≡ t'') × (w' ≡ w'') × (o' ≡ o'') × (r' ≡ r'')
 run_pair_determined (run_no_report h a b c d e) (run_no_report k f g i j l) = (a ∙ sym f, b ∙ sym g, c ∙ sym i, d ∙ sym j, e ∙ sym l)
 run_pair_determined (run_no_report h a b c d e) (run_reported k f g i) = absurd (omega arith)

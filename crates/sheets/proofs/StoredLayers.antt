@@ -6,7 +6,7 @@ use native.Mathlib.Omega.{arith}
 use lib.ListN.{length}
 use Rattle.language.specs.Sizes.{TOKENS, TABLE}
 use Rattle.language.specs.Tokens.{Vocabulary, Token}
-use Rattle.language.specs.Answers.{at, Denied, unread, faulty, Refused, by_origin, by_tokens}
+use Rattle.language.specs.Answers.{at, Denied, unread, faulty, by_origin, by_tokens}
 use Rattle.language.specs.Numbers as Numbers
 use Rattle.language.specs.Starts.{wrong_token, wrong_end}
 use Rattle.language.specs.Stored.{from_stored}

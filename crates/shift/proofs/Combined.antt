@@ -5,7 +5,6 @@ use mathlib.Core.Option.{some}
 use mathlib.Core.Path.{◌≡◌, refl, sym, subst, ◌∙◌}
 use Rattle.language.specs.State as State
 use Rattle.language.specs.Combining.{all_stops, addable, no_report, without_sums, together}
-use Rattle.language.specs.Combining as Combining
 use Rattle.language.specs.Shift.{ShiftRefusal, sheet, many_lines}
 use Rattle.language.proofs.Text.Choices.{clash}
 use Rattle.numbers.specs.Meanings.{refusal_meant}

@@ -3,14 +3,13 @@
 use lib.IntN.{ℤ}
 use lib.ListN.{length, get_or}
 use lib.Seq.{ext_get_or}
-use mathlib.Core.Bool.{Bool, true, false}
+use mathlib.Core.Bool.{true, false}
 use mathlib.Core.List.{List}
 use mathlib.Core.Option.{Option, none, some}
 use mathlib.Core.Path.{◌≡◌, refl, sym, ap, ap₂, ◌∙◌}
 use native.Mathlib.Omega.{arith}
 use Prim.Native.Nat.{ℕ, zero, suc, ◌<◌}
 use Rattle.language.specs.Combining as Combining
-use Rattle.language.specs.Edition as Edition
 use Rattle.language.specs.Pairs.{Place}
 use Rattle.language.specs.Shift.{Report, ShiftRefusal, sheet, no_book, many_lines}
 use Rattle.language.specs.Shift as Shift
@@ -18,7 +17,6 @@ use Rattle.language.specs.Sizes.{TABLE, WORK}
 use Rattle.language.specs.State.{Stop, no_unit, too_deep, out_of_range, zero_divisor, cell_freed, cells_full, not_a_byte, output_full, zero_step}
 use Rattle.language.proofs.Shift.OneReport.{one_admission}
 use Rattle.numbers.proofs.Apart.{refusal_of, refusal_back}
-use Rattle.numbers.specs.declared.Refusal.{Refusal}
 use Rattle.pairs.specs.declared.Spot.{Spot}
 use Rattle.tally.specs.Stands.{stop_at, report_in}
 use Rattle.tally.specs.declared.sums.Sums.{Sums}
@@ -28,10 +26,10 @@ use Rattle.shift.specs.declared.Ending.{Ending}
 use Rattle.shift.specs.declared.Finished.{Finished}
 use Rattle.shift.specs.declared.State.{State}
 use Rattle.shift.specs.declared.Why.{Why}
-use Rattle.shift.specs.Combining.{ending_meant, told_in, Tells, Combine}
+use Rattle.shift.specs.Combining.{ending_meant, Tells, Combine}
 use Rattle.shift.specs.Meanings.{why_meant, admission_meant, left_by}
 use Rattle.shift.specs.Promises.{Begin, Feeds, feeds, turned, Feed, Finish, finished, no_edition}
-use Rattle.shift.specs.Taking.{EndedLine, printed_over}
+use Rattle.shift.specs.Taking.{printed_over}
 use Rattle.shift.proofs.Taken.{one_taking}
 
 -- ---- answers from what they mean

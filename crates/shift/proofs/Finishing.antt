@@ -21,7 +21,7 @@ use Rattle.tally.proofs.Reported.{report_stands, bad_more}
 use Rattle.shift.specs.declared.State.{State}
 use Rattle.shift.specs.Meanings.{closed_sums, over_told}
 use Rattle.shift.specs.After.{After, Reports}
-use Rattle.shift.specs.Taking.{needed, printed_over}
+use Rattle.shift.specs.Taking.{needed}
 use Rattle.shift.specs.declared.Ending.{Ending}
 use Rattle.shift.specs.Promises.{Finish, finished, no_edition}
 use Rattle.shift.proofs.Kept.{some_begun, none_begun}

@@ -14,10 +14,8 @@ use Rattle.language.specs.State as State
 use Rattle.language.specs.State.{Value, number, value, stop, stuck}
 use Rattle.language.specs.Meaning.{in_range, run}
 use Rattle.language.specs.Numbers.{Refusal, Told, passed, refused}
-use Rattle.language.specs.Numbers as Numbers
 use Rattle.language.specs.Answers.{Origin, Passes, Lent, Enough, Ending, ending, RunReport, Ran}
 use Rattle.language.specs.Answers.{run_short, run_large, run_refused, run_ended}
-use Rattle.language.specs.Edition.{pair_in}
 use Rattle.language.specs.Shift.{Line, Job, call_of, Outcome, paid, Runs, runs_to_stop, runs_to_pay, Comes, comes_bad, comes_run}
 use Rattle.language.specs.Shift.{AllCome, none_comes, one_comes, Report, ShiftRefusal, Shift}
 use Rattle.language.proofs.Meaning.CellTypes.{none_some, some_one}

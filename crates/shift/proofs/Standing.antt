@@ -1,16 +1,13 @@
 -- What a state takes is what is fed, by the written meaning: a state that has what is known of an input so far has it with the
 -- bytes behind it (R14.2 to R14.6).
 use lib.ListN.{length}
-use mathlib.Core.Bool.{true, false}
-use mathlib.Core.List.{List, [], ◌∷◌, ◌++◌, append-nil}
-use mathlib.Core.Option.{none, some}
+use mathlib.Core.List.{List, [], ◌∷◌, ◌++◌}
 use mathlib.Core.Path.{◌≡◌, refl, sym, ap, subst, ◌∙◌}
 use native.Mathlib.Omega.{arith}
-use Prim.Native.Nat.{ℕ, ◌≤◌, ◌<◌}
+use Prim.Native.Nat.{ℕ, ◌<◌}
 use Rattle.language.specs.Sizes.{LINES}
 use Rattle.language.specs.Answers.{Lent}
 use Rattle.language.specs.Shift.{job_of, Comes, comes_bad, comes_run}
-use Rattle.language.specs.Text.{is_in_line}
 use Rattle.language.specs.Feeding.{Sofar, begun, filled, with_outcome, ended_line, Steps, step_past, step_full, step_byte, step_feed, Fed, fed_none, fed_more}
 use Rattle.language.specs.Feeding as Written
 use Rattle.tally.specs.Parts.{no_part, longer_by, job_told}
@@ -24,7 +21,7 @@ use Rattle.tally.proofs.Reported.{added_stands, none_stands}
 use Rattle.shift.specs.declared.State.{State}
 use Rattle.shift.specs.Meanings.{new_state}
 use Rattle.shift.specs.After.{After}
-use Rattle.shift.specs.Taking.{needed, EndedLine, Ends, ends_bad, ends_run, printed_over, with_byte, overfull, summed_up, Going, EndsNone}
+use Rattle.shift.specs.Taking.{needed, EndedLine, Ends, ends_bad, ends_run, printed_over, with_byte, overfull, summed_up, EndsNone}
 use Rattle.shift.specs.Taking.{past, full, inside, Takes, takes_none, takes_byte, takes_line}
 use Rattle.shift.proofs.Kept.{longer_last}
 use Rattle.shift.proofs.Sound as Sound

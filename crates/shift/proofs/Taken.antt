@@ -1,6 +1,6 @@
 -- Bytes that a state takes: pieces put together, and that there is one end.
 use lib.ListN.{length, drop}
-use mathlib.Core.Bool.{true, false}
+use mathlib.Core.Bool.{false}
 use mathlib.Core.List.{List, [], ◌∷◌, ◌++◌}
 use mathlib.Core.Path.{◌≡◌, refl, sym, ap, ap₂, subst, ◌∙◌}
 use native.Mathlib.Omega.{arith}
@@ -12,13 +12,12 @@ use Rattle.language.specs.Text.{is_in_line}
 use Rattle.language.proofs.Text.Choices.{clash}
 use Rattle.language.proofs.Shift.LineOutcomes.{one_runs}
 use Rattle.numbers.proofs.Apart.{stop_of, stop_back}
-use Rattle.tally.specs.Parts.{job_told}
 use Rattle.tally.specs.Stands.{outcome_meant}
 use Rattle.tally.specs.declared.lines.Job.{Job}
 use Rattle.tally.specs.declared.lines.Part.{Part}
 use Rattle.tally.specs.declared.sums.Outcome.{Outcome}
 use Rattle.shift.specs.declared.State.{State}
-use Rattle.shift.specs.Taking.{needed, EndedLine, Ends, ends_bad, ends_run, printed_over, summed_up, Going, EndsNone, past, full, inside}
+use Rattle.shift.specs.Taking.{EndedLine, Ends, ends_bad, ends_run, printed_over, summed_up, Going, EndsNone, past, full, inside}
 use Rattle.shift.specs.Taking.{Takes, takes_none, takes_byte, takes_line}
 
 -- ---- one behind the other

@@ -1,6 +1,5 @@
 -- The loop's invariant: one of the functions that are left suits exactly where one of all does.
 use mathlib.Core.Path.{sym, ◌∙◌}
-use Prim.Native.Nat.{◌-◌}
 use native.Mathlib.Omega.{arith}
 use Rattle.outlines.proofs.Matched.{any_here, any_later, any_none}
 use Rattle.outlines.proofs.any_suits.Goals as goal

@@ -1,6 +1,5 @@
 -- The loop's invariant: the bytes that are left match what is left of the name exactly where the whole does.
 use mathlib.Core.Path.{sym, ◌∙◌}
-use Prim.Native.Nat.{◌-◌}
 use native.Mathlib.Omega.{arith}
 use Rattle.outlines.proofs.Matched.{before_none, long_none, spelled_is, match_start, match_none, match_step, match_end}
 use Rattle.outlines.proofs.spelled.Goals as goal

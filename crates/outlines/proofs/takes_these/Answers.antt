@@ -1,6 +1,5 @@
 -- The loop's invariant: the types of the parameters that are left match what is left of those wanted exactly where all do.
 use mathlib.Core.Path.{sym, ◌∙◌}
-use Prim.Native.Nat.{◌-◌}
 use native.Mathlib.Omega.{arith}
 use Rattle.outlines.proofs.Matched.{many_none, takes_is, match_start, match_none, match_step, match_end}
 use Rattle.outlines.proofs.takes_these.Goals as goal

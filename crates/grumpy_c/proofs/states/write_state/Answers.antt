@@ -1,8 +1,8 @@
 use borrow.Author.Rules.{rules}
 use lib.ListN.{length, get_or}
 use mathlib.Core.Path.{◌≡◌}
-use mir.Syntax.{w32, w64}
-use mir.Val.{Fits, SFits}
+use mir.Syntax.{w32}
+use mir.Val.{Fits}
 use Prim.Native.Nat.{ℕ}
 use Rattle.grumpy_c.proofs.StateWords.{Fit, state_held}
 use Rattle.grumpy_c.proofs.states.write_state.Goals as goal

@@ -1,5 +1,4 @@
 use native.Mathlib.Omega.{arith}
-use Prim.Native.Nat.{◌-◌}
 use Rattle.grumpy_c.proofs.Fronts.{all_put}
 use Rattle.grumpy_c.proofs.words.put.Goals as goal
 

@@ -1,7 +1,6 @@
 use borrow.Author.Rules.{rules}
 use Rattle.shift.proofs.Going.{so_far_none, so_far_more, so_far_all, ready_on, lends_ready, lends_same}
 use mathlib.Core.Path.{refl}
-use Prim.Native.Nat.{◌-◌}
 use Rattle.shift.proofs.feeding.bytes.Goals as goal
 
 pub loop-i-init : goal.loop-i-init
