@@ -5,7 +5,7 @@
 #   is_there TRIPLE                whether all that it needs is there; lacking TRIPLE names what is not
 #   build TRIPLE PROGRAM WORDS...  a program of the C files and archives in WORDS; where it is bare, with STACK bytes of
 #                                  stack, or as many as the header and start.c say
-#   run TRIPLE PROGRAM             runs it, or node for WebAssembly
+#   run TRIPLE PROGRAM             runs it, or node for WebAssembly, for LIMIT seconds at most, if that is set
 export QEMU_STACK_SIZE=16M
 STACK=
 
@@ -104,14 +104,15 @@ build() { # TRIPLE PROGRAM WORDS...
 }
 
 run() { # TRIPLE PROGRAM
+  local patient=(timeout "${LIMIT:-0}")
   case $1 in
-  x86_64-*) $EMULATOR "$2" ;;
-  armv7-*) qemu-arm "$2" ;;
+  x86_64-*) "${patient[@]}" $EMULATOR "$2" ;;
+  armv7-*) "${patient[@]}" qemu-arm "$2" ;;
   thumbv7em-*)
-    qemu-system-arm -M mps2-an386 -display none -monitor none -serial none -semihosting-config enable=on,target=native \
-      -kernel "$2"
+    "${patient[@]}" qemu-system-arm -M mps2-an386 -display none -monitor none -serial none \
+      -semihosting-config enable=on,target=native -kernel "$2"
     ;;
-  wasm32-*) node boards/cases.mjs "$2" ;;
-  *) "qemu-${1%%-*}" "$2" ;;
+  wasm32-*) "${patient[@]}" node boards/cases.mjs "$2" ;;
+  *) "${patient[@]}" "qemu-${1%%-*}" "$2" ;;
   esac
 }
