@@ -12,7 +12,7 @@ use phrase_types::expressions;
 use rules::sight::{Callee, Found};
 use rules::{Typing, sight};
 
-#[derive(Drop)]
+#[derive(Clone, Copy)]
 pub enum Verdict {
     Fine,
     Wrong(Reason, u32),

@@ -17,7 +17,7 @@ use std::io::{Eprint, Error, ErrorKind, Input, Read};
 use std::rt::{Env, Files};
 
 // The bytes of a sheet, or nothing, when the reason was told.
-#[derive(Drop)]
+#[derive(Clone, Copy)]
 pub enum Sheet {
     Bytes(usize),
     Nothing,

@@ -13,7 +13,7 @@ use Rattle.language.specs.Trees.{Literal, whole, truth, trivial, decimal, Exp, n
 use Rattle.language.specs.Trees.{block, call, bind, branch, loop, counted, Exps, last, more}
 use Rattle.language.proofs.Grammar.Entries.{every, entry_passes}
 use Rattle.layout.specs.Table.{row_word}
-use Rattle.layout.specs.Decode.{Shape, a_name, a_number, a_float, a_follow, a_group, a_Block, a_call, a_let, an_if, a_while}
+use Rattle.layout.specs.Decode.{Shape, a_name, a_number, a_float, a_follow, a_group, a_block, a_call, a_let, an_if, a_while}
 use Rattle.layout.specs.Decode.{a_constant, a_unary, a_binary, a_for, shapes, shape_of, build, build_if, tree_at, args_at}
 use Rattle.layout.specs.Decode.{counts, Right, RightArgs}
 use Rattle.layout.proofs.Owned.{OwnedLiteral, owned_whole, owned_truth, owned_trivial, owned_decimal, Owned, owned_name, owned_literal}
@@ -96,7 +96,7 @@ plain (a_unary o) = true
 plain (a_binary o) = true
 plain a_follow = true
 plain a_group = true
-plain a_Block = true
+plain a_block = true
 plain a_call = true
 plain a_let = true
 plain an_if = true
@@ -132,7 +132,7 @@ module _ {ts ts' : List Token} {w w' : List ℕ} (same : Rows ts ts' w w') (v : 
   build_anew (a_binary o) t i a b c es = refl
   build_anew a_follow t i a b c es = refl
   build_anew a_group t i a b c es = refl
-  build_anew a_Block t i a b c es = refl
+  build_anew a_block t i a b c es = refl
   build_anew a_call t i a b c es = ap (λ x. call i x (all_anew v es)) (same.spellings i)
   build_anew a_let t i a b c es = ap (λ x. bind i x (anew v a) (anew v b)) (same.spellings (i + 1))
   build_anew an_if t i a b c es = refl

@@ -4,7 +4,7 @@ use numbers::{Refusal, Stop};
 use pairs::Spot;
 
 // A type's number, or a refusal and the byte it is told at.
-#[derive(Drop)]
+#[derive(Clone, Copy)]
 pub enum Checked {
     Passed(u32),
     Refused(Refusal, usize),
@@ -12,7 +12,7 @@ pub enum Checked {
 
 // A value, or a stop and the byte it is told at, each with the number of the program's
 // type, the units used and the bytes printed; or a refusal.
-#[derive(Drop)]
+#[derive(Clone, Copy)]
 pub enum Ran {
     Value {
         type_number: u32,
@@ -32,7 +32,7 @@ pub enum Ran {
 
 // How a program ends: a value, or a stop and the token it is told at; with the units
 // used and the bytes printed.
-#[derive(Drop)]
+#[derive(Clone, Copy)]
 pub enum Ending {
     Value {
         value: Value,
@@ -48,14 +48,14 @@ pub enum Ending {
 }
 
 // How many bytes were written, or a refusal and the byte it is told at.
-#[derive(Drop)]
+#[derive(Clone, Copy)]
 pub enum Wrote {
     Written(usize),
     Refused(Refusal, usize),
 }
 
 // A type's number and how many units the sheet can use, or a refusal and the byte it is told at.
-#[derive(Drop)]
+#[derive(Clone, Copy)]
 pub enum Profiled {
     Passed(u32, u32),
     Refused(Refusal, usize),
@@ -68,13 +68,13 @@ pub enum PairChecked {
     Refused(Refusal, Spot),
 }
 
-#[derive(Drop)]
+#[derive(Clone, Copy)]
 pub enum PairProfiled {
     Passed(u32, u32),
     Refused(Refusal, Spot),
 }
 
-#[derive(Drop)]
+#[derive(Clone, Copy)]
 pub enum PairRan {
     Value {
         type_number: u32,

@@ -10,7 +10,7 @@ use Rattle.language.specs.Tokens.{IF, WHILE}
 use Rattle.language.specs.Trees.{Exp, name, literal, unary, binary, follow, group, block, call, bind, branch, loop, counted, Exps, last, more}
 use Rattle.layout.specs.Table.{ROWS_AT, put_row}
 use Rattle.layout.specs.Rows.{CALL, ARGUMENT, unary_kind, binary_kind, range_kind, below, under, head, lay, lay_all}
-use Rattle.layout.specs.Decode.{a_name, a_follow, a_group, a_Block, a_let, an_if}
+use Rattle.layout.specs.Decode.{a_name, a_follow, a_group, a_block, a_let, an_if}
 use Rattle.layout.specs.Decode.{a_while, a_unary, a_binary, shape_of, counts, build}
 use Rattle.layout.proofs.LayLaws.{length_lay, length_lay_all, lay_before, lay_all_before}
 use Rattle.layout.proofs.Owned.{Owned, owned_name, owned_literal, owned_unary, owned_binary, owned_follow}
@@ -57,7 +57,7 @@ module _ (ts : List Token) (ls : List ℕ) where
     laid_back (block i e) w f zero d h l (owned_block x) g = absurd (omega arith)
     laid_back (block i e) w f (suc m) d h l (owned_block x) g =
         to ts ls {j = f + below e + 1} (omega arith)
-        (one_laid ts ls LBRACE i a_Block _ w f (suc m) refl (listless LBRACE refl) (plain ts ls _ _ refl refl) l e refl (λ _ _ _. refl) (omega arith)
+        (one_laid ts ls LBRACE i a_block _ w f (suc m) refl (listless LBRACE refl) (plain ts ls _ _ refl refl) l e refl (λ _ _ _. refl) (omega arith)
         (laid_back e w f m (omega arith) (omega arith) l x) (λ j p q. g j p (omega arith)))
     laid_back (binary i o a b) w f zero d h l (owned_binary x y) g = absurd (omega arith)
     laid_back (binary i o a b) w f (suc m) d h l (owned_binary x y) g =

@@ -10,7 +10,7 @@ use Rattle.language.specs.Tokens.{NAME, NUMBER, FLOAT_NUMBER, LET, WHILE, IF, PL
 use Rattle.language.specs.Trees.{Literal, Unary, minus, not, fetch, new, Binary, add, sub, mul, div, less, equal, and, or, assign}
 use Rattle.language.proofs.Grammar.Entries.{every, entry_passes, by_entries}
 use Rattle.layout.specs.Rows.{PREFIX, CALL, literal_kind, unary_kind, binary_kind, range_kind}
-use Rattle.layout.specs.Decode.{Shape, a_name, a_number, a_float, a_for, a_follow, a_group, a_Block, a_call, a_let, an_if}
+use Rattle.layout.specs.Decode.{Shape, a_name, a_number, a_float, a_for, a_follow, a_group, a_block, a_call, a_let, an_if}
 use Rattle.layout.specs.Decode.{a_while, a_constant, a_unary, a_binary, shapes, shape_of, children, counts}
 
 -- ---- kinds
@@ -22,7 +22,7 @@ shape_kind a_number = NUMBER
 shape_kind a_float = FLOAT_NUMBER
 shape_kind a_follow = SEMI
 shape_kind a_group = LPAR
-shape_kind a_Block = LBRACE
+shape_kind a_block = LBRACE
 shape_kind a_call = CALL
 shape_kind a_let = LET
 shape_kind an_if = IF
@@ -87,7 +87,7 @@ pub data Parted : Shape → ℕ → Type 0 where
   is_for : {b : Bool} → Parted (a_for b) 0
   is_unary : {o : Unary} → Parted (a_unary o) 1
   is_group : Parted a_group 1
-  is_block : Parted a_Block 1
+  is_block : Parted a_block 1
   is_binary : {o : Binary} → Parted (a_binary o) 2
   is_follow : Parted a_follow 2
   is_let : Parted a_let 2
@@ -103,7 +103,7 @@ parts a_call = is_call
 parts (a_for b) = is_for
 parts (a_unary o) = is_unary
 parts a_group = is_group
-parts a_Block = is_block
+parts a_block = is_block
 parts (a_binary o) = is_binary
 parts a_follow = is_follow
 parts a_let = is_let

@@ -14,7 +14,7 @@ use Rattle.layout.specs.Table.{ROWS_AT, FUNCTIONS_AT, VARIABLES_AT, row_word, wi
 use Rattle.layout.proofs.TokenLaws.{stand_same}
 use Rattle.layout.proofs.Shapes.{shape_kind, kind_of_shape, range_counts}
 use Rattle.layout.proofs.VariablesWords.{length_without, without_before}
-use Rattle.layout.specs.Decode.{Shape, a_name, a_number, a_float, a_follow, a_group, a_Block, a_call, a_let, an_if, a_while, a_constant}
+use Rattle.layout.specs.Decode.{Shape, a_name, a_number, a_float, a_follow, a_group, a_block, a_call, a_let, an_if, a_while, a_constant}
 use Rattle.layout.specs.Decode.{a_unary, a_binary, a_for, children, counts, build, build_if, tree_at, args_at, Right, RightArgs, ParamsAt}
 use Rattle.layout.specs.Decode.{params_none, params_more, FunctionAt, FunctionsAt, functions_none, functions_more, Holds}
 use Rattle.layout.specs.declared.Held.{Held}
@@ -34,7 +34,7 @@ build_same ts (a_unary o) i a b c es a' b' c' es' p q r t u = cc (p (omega arith
 build_same ts (a_binary o) i a b c es a' b' c' es' p q r t u = cc (p (omega arith), q (omega arith))
 build_same ts a_follow i a b c es a' b' c' es' p q r t u = cc (p (omega arith), q (omega arith))
 build_same ts a_group i a b c es a' b' c' es' p q r t u = cc (p (omega arith))
-build_same ts a_Block i a b c es a' b' c' es' p q r t u = cc (p (omega arith))
+build_same ts a_block i a b c es a' b' c' es' p q r t u = cc (p (omega arith))
 build_same ts a_call i a b c es a' b' c' es' p q r t u = cc (t refl)
 build_same ts a_let i a b c es a' b' c' es' p q r t u = cc (p (omega arith), q (omega arith))
 build_same ts an_if i a b c es a' b' c' es' p q r t u = cc (p (omega arith), q (omega arith), r (omega arith))

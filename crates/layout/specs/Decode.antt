@@ -22,7 +22,7 @@ use Rattle.layout.specs.declared.Held.{Held}
 -- ---- what kind of node a row is
 
 pub data Shape : Type 0 where
-  a_name a_number a_float a_follow a_group a_Block a_call a_let an_if a_while : Shape
+  a_name a_number a_float a_follow a_group a_block a_call a_let an_if a_while : Shape
   a_constant : Literal → Shape
   a_for : Bool → Shape
   a_unary : Unary → Shape
@@ -32,7 +32,7 @@ abbrev pub shapes : List (Entry ℕ Shape)
 shapes =
     NAME is a_name ∷ NUMBER is a_number ∷ FLOAT_NUMBER is a_float
     ∷ TRUE is a_constant (truth true) ∷ FALSE is a_constant (truth false) ∷ TT is a_constant trivial
-    ∷ SEMI is a_follow ∷ LPAR is a_group ∷ LBRACE is a_Block ∷ CALL is a_call
+    ∷ SEMI is a_follow ∷ LPAR is a_group ∷ LBRACE is a_block ∷ CALL is a_call
     ∷ LET is a_let ∷ IF is an_if ∷ WHILE is a_while ∷ UPTO is a_for false ∷ THROUGH is a_for true
     ∷ (PREFIX + MINUS) is a_unary minus ∷ (PREFIX + NOT) is a_unary not
     ∷ (PREFIX + BANG) is a_unary fetch ∷ (PREFIX + REF) is a_unary new
@@ -54,7 +54,7 @@ children a_call = 0
 children (a_for b) = 0
 children (a_unary o) = 1
 children a_group = 1
-children a_Block = 1
+children a_block = 1
 children (a_binary o) = 2
 children a_follow = 2
 children a_let = 2
@@ -73,7 +73,7 @@ build ts (a_unary o) i a b c es = unary i o a
 build ts (a_binary o) i a b c es = binary i o a b
 build ts a_follow i a b c es = follow i a b
 build ts a_group i a b c es = group i a
-build ts a_Block i a b c es = block i a
+build ts a_block i a b c es = block i a
 build ts a_call i a b c es = call i (spelling_at ts i) es
 build ts a_let i a b c es = bind i (spelling_at ts (i + 1)) a b
 build ts an_if i a b c es = branch i a b c

@@ -7,7 +7,7 @@ ghost use Rattle.layout.specs.Functions.{function_name, Headed, find_function, f
 use crate::{FUNCTIONS_AT, rows, token};
 
 // A function, by its row.
-#[derive(Drop)]
+#[derive(Clone, Copy)]
 pub enum Found {
     At(usize),
     Nowhere,

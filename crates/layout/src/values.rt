@@ -17,7 +17,7 @@ pub enum Value {
 }
 
 // A value in words.
-#[derive(Drop)]
+#[derive(Clone, Copy)]
 pub struct InWords {
     pub tag: u32,
     pub low: u32,

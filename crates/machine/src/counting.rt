@@ -10,7 +10,7 @@ use crate::{arithmetic, operands};
 use layout::values::Value;
 
 // The number behind the one of a pass; past the range of int there is none.
-#[derive(Drop)]
+#[derive(Clone, Copy)]
 pub enum Counter {
     At(Value),
     Past,

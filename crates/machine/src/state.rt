@@ -15,7 +15,7 @@ pub struct Tally {
 }
 
 // A value, or why the run stops at the node.
-#[derive(Drop)]
+#[derive(Clone, Copy)]
 pub enum Outcome {
     Gives(Value),
     Halts(Stop),

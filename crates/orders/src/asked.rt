@@ -81,7 +81,7 @@ pub struct Asked {
 }
 
 // What all the words ask for: a task; a file's name or an edition is missing; there are too many words or too few.
-#[derive(Drop)]
+#[derive(Clone, Copy)]
 pub enum Wanted {
     Do(Task),
     NoName,

@@ -23,7 +23,7 @@ use Rattle.language.proofs.Text.Spellings.{slice_stands}
 use Rattle.language.proofs.Grammar.Entries.{every, entry_passes}
 use Rattle.layout.specs.Table.{KIND, OWN, ARITY, row_word, function_row, token_place, token_end}
 use Rattle.layout.specs.Names.{Stand}
-use Rattle.layout.specs.Decode.{Shape, a_name, a_number, a_float, a_follow, a_group, a_Block, a_call, a_let, an_if, a_while, a_constant, a_unary}
+use Rattle.layout.specs.Decode.{Shape, a_name, a_number, a_float, a_follow, a_group, a_block, a_call, a_let, an_if, a_while, a_constant, a_unary}
 use Rattle.layout.specs.Decode.{a_for, a_binary, shapes, shape_of, build, build_if, tree_at, Right, ParamsAt, params_none, params_more, FunctionAt, FunctionsAt}
 use Rattle.layout.specs.Decode.{functions_none, functions_more, Holds}
 use Rattle.layout.specs.declared.Held.{Held}
@@ -103,7 +103,7 @@ shape_number a_number = true
 shape_number a_float = false
 shape_number a_follow = false
 shape_number a_group = false
-shape_number a_Block = false
+shape_number a_block = false
 shape_number a_call = false
 shape_number a_let = false
 shape_number an_if = false
@@ -139,7 +139,7 @@ built ts a_number i a b c es = refl
 built ts a_float i a b c es = refl
 built ts a_follow i a b c es = refl
 built ts a_group i a b c es = refl
-built ts a_Block i a b c es = refl
+built ts a_block i a b c es = refl
 built ts a_call i a b c es = refl
 built ts a_let i a b c es = refl
 built ts an_if i a b c es = refl

@@ -18,7 +18,7 @@ use sheets::Seen;
 use tokens::view::{View, byte};
 
 // What is told of a sheet; where a refusal has its place is told by check.
-#[derive(Drop)]
+#[derive(Clone, Copy)]
 pub enum Outlined {
     Passed { alone: bool, there: bool },
     Refused(Refusal),

@@ -90,7 +90,7 @@ pub fn up_to(word: &[u8], most: u32) -> Number
 const AMOUNT: u64 = 140737488355328;
 
 // A word that is a number with or without a sign, as far as a sum can be from zero, or none.
-#[derive(Drop)]
+#[derive(Clone, Copy)]
 pub enum Amount {
     Of(i64),
     None,

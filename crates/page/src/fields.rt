@@ -6,7 +6,7 @@ use crate::amounts::{Amount, Number, signed, up_to};
 use crate::lines::line_end;
 
 // Where a value is, from one byte up to another, if it is there.
-#[derive(Drop)]
+#[derive(Clone, Copy)]
 struct Field {
     found: bool,
     from: usize,

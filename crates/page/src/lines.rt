@@ -7,7 +7,7 @@ use crate::characters::characters;
 
 // The line and the column of a place, both counted from 1; the bytes from one up to another that are its
 // line, the place among them, and whether they are UTF-8.
-#[derive(Drop)]
+#[derive(Clone, Copy)]
 pub struct Spot {
     pub line: usize,
     pub column: usize,

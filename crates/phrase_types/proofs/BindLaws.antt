@@ -135,26 +135,26 @@ module _ {p w : List ℕ} {row seen binds : ℕ} {c : Taker} {k : ℕ} {b : Bool
   unfolding infers suits
   args_end e ts f Δ Γ st = types_are [] (ap (λ es. infers Δ es Γ) (no_argument f ts p row e)) (omega arith) (and_true b)
 
-  module _ (some-row : row ≡ 0 → ⊥) where
+  module _ (some_row : row ≡ 0 → ⊥) where
     -- a fault of the first
     pub args_stop : {r : Reason} {i : ℕ} → Told p w (row_word p row EXPRESSION) seen binds (Typing.Fault r i)
         → ToldAll p w row seen binds c k b (Passed.Wrong r i)
     unfolding infers RightArgs
-    args_stop h ts zero Δ Γ st = absurd (some-row st.whole)
+    args_stop h ts zero Δ Γ st = absurd (some_row st.whole)
     args_stop h ts (suc f) Δ Γ st =
-        let a = st.whole some-row in
-        wrong_is (ap (λ es. infers Δ es Γ) (an_argument f ts p row some-row)
+        let a = st.whole some_row in
+        wrong_is (ap (λ es. infers Δ es Γ) (an_argument f ts p row some_row)
         ∙ after_bad _ (fault_told (h ts f Δ Γ record { depth = st.depth; sight = st.sight; whole = a.exp.1; scope = st.scope })))
 
     -- the later ones' answer, with the first
     pub args_go : {n v : ℕ} {q : Passed} → v ≡ expected_in p c k → Told p w (row_word p row EXPRESSION) seen binds (Typing.«Type» n)
         → ToldAll p w (row_word p row NEXT) seen binds c (k + 1) (b && eqb n v) q → ToldAll p w row seen binds c k b q
     unfolding infers RightArgs
-    args_go o h g ts zero Δ Γ st = absurd (some-row st.whole)
+    args_go o h g ts zero Δ Γ st = absurd (some_row st.whole)
     args_go o h g ts (suc f) Δ Γ st =
-        let a = st.whole some-row in
+        let a = st.whole some_row in
         let u = type_told (h ts f Δ Γ record { depth = st.depth; sight = st.sight; whole = a.exp.1; scope = st.scope }) in
-        let e = ap (λ es. infers Δ es Γ) (an_argument f ts p row some-row) in
+        let e = ap (λ es. infers Δ es Γ) (an_argument f ts p row some_row) in
         one_more u.2 o (g ts f Δ Γ record { depth = st.depth; sight = st.sight; whole = a.next.1; scope = st.scope })
         (λ us d. e ∙ after_ok _ u.1 (after_ok _ d refl)) (λ r i d. e ∙ after_ok _ u.1 (after_bad _ d))
 

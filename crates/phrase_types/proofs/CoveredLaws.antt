@@ -12,7 +12,7 @@ use Rattle.language.specs.Tokens.{Token, entry}
 use Rattle.language.specs.Trees.{Name, Exp, call, Exps, last, more}
 use Rattle.layout.specs.Table.{KIND, OWN, FIRST, SECOND, THIRD, START, PASS, EXPRESSION, NEXT, row_word, without_variables}
 use Rattle.layout.specs.Rows.{CALL}
-use Rattle.layout.specs.Decode.{Shape, a_name, a_number, a_float, a_follow, a_group, a_Block, a_call, a_let, an_if, a_while, a_constant}
+use Rattle.layout.specs.Decode.{Shape, a_name, a_number, a_float, a_follow, a_group, a_block, a_call, a_let, an_if, a_while, a_constant}
 use Rattle.layout.specs.Decode.{a_unary, a_binary, a_for, shape_of, children, counts, build, build_if, tree_at, args_at, Node, Argument, Right, RightArgs}
 use Rattle.layout.proofs.Shapes.{shape_kind, kind_of_shape, range_counts}
 use Rattle.rules.proofs.ShapeLaws.{for_shape}
@@ -44,7 +44,7 @@ alike ts us (a_unary o) i a b c es a' b' c' es' p q r t u = omega (arith, p (ome
 alike ts us (a_binary o) i a b c es a' b' c' es' p q r t u = omega (arith, p (omega arith), q (omega arith))
 alike ts us a_follow i a b c es a' b' c' es' p q r t u = omega (arith, p (omega arith), q (omega arith))
 alike ts us a_group i a b c es a' b' c' es' p q r t u = omega (arith, p (omega arith))
-alike ts us a_Block i a b c es a' b' c' es' p q r t u = omega (arith, p (omega arith))
+alike ts us a_block i a b c es a' b' c' es' p q r t u = omega (arith, p (omega arith))
 alike ts us a_call i a b c es a' b' c' es' p q r t u = omega (arith, t refl)
 alike ts us a_let i a b c es a' b' c' es' p q r t u = omega (arith, p (omega arith), q (omega arith))
 alike ts us an_if i a b c es a' b' c' es' p q r t u = omega (arith, p (omega arith), q (omega arith), r (omega arith))
@@ -107,7 +107,7 @@ covers_parts ts a_number i a b c es = ((λ h. omega arith), (λ h. omega arith),
 covers_parts ts a_float i a b c es = ((λ h. omega arith), (λ h. omega arith), λ h. omega arith)
 covers_parts ts a_follow i a b c es = ((λ h. omega arith), (λ h. omega arith), λ h. omega arith)
 covers_parts ts a_group i a b c es = ((λ h. omega arith), (λ h. omega arith), λ h. omega arith)
-covers_parts ts a_Block i a b c es = ((λ h. omega arith), (λ h. omega arith), λ h. omega arith)
+covers_parts ts a_block i a b c es = ((λ h. omega arith), (λ h. omega arith), λ h. omega arith)
 covers_parts ts a_call i a b c es = ((λ h. omega arith), (λ h. omega arith), λ h. omega arith)
 covers_parts ts a_let i a b c es = ((λ h. omega arith), (λ h. omega arith), λ h. omega arith)
 covers_parts ts an_if i a b c es = ((λ h. omega arith), (λ h. omega arith), λ h. omega arith)

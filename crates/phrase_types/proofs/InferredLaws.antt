@@ -220,15 +220,15 @@ pub end_inferred : {w : List ℕ} {row seen binds : ℕ} {c : Taker} {k : ℕ} {
     → InferredAll w w row seen binds c k b (Passed.Typed k b)
 end_inferred {w} {binds = binds} e = record { kept = kept_self w binds; right = args_end e }
 
-module _ {w : List ℕ} {row seen binds : ℕ} {c : Taker} {k : ℕ} (r : ReadyAll w row seen binds c k) (some-row : row ≡ 0 → ⊥)
+module _ {w : List ℕ} {row seen binds : ℕ} {c : Taker} {k : ℕ} (r : ReadyAll w row seen binds c k) (some_row : row ≡ 0 → ⊥)
     {w₁ : List ℕ} {j : ℕ} {s : Typing} (ej : j ≡ row_word w row EXPRESSION) (h : Inferred w w₁ j seen binds s) where
   argument_told : {q : Typing} → s ≡ q → Told (without_variables w) w (row_word (without_variables w) row EXPRESSION) seen binds q
   argument_told {q} e =
-      subst (λ (j : ℕ). Told (without_variables w) w j seen binds q) (ej ∙ sym (args_row r some-row 2 (omega arith))) (inferred_as e h).right
+      subst (λ (j : ℕ). Told (without_variables w) w j seen binds q) (ej ∙ sym (args_row r some_row 2 (omega arith))) (inferred_as e h).right
 
   -- a fault of the first argument
   pub stop_inferred : {b : Bool} {q : Reason} {i : ℕ} → s ≡ Typing.Fault q i → InferredAll w w₁ row seen binds c k b (Passed.Wrong q i)
-  stop_inferred e = record { kept = h.kept; right = args_stop some-row (argument_told e) }
+  stop_inferred e = record { kept = h.kept; right = args_stop some_row (argument_told e) }
 
   -- the later arguments answer, with the first
   pub more_inferred : {n v j₂ : ℕ} {w₂ : List ℕ} {b d : Bool} {q : Passed} → s ≡ Typing.«Type» n → v ≡ expected_in w c k
@@ -238,7 +238,7 @@ module _ {w : List ℕ} {row seen binds : ℕ} {c : Taker} {k : ℕ} (r : ReadyA
       let a = told_all_before h.kept (inferred_all_as ed g).right in
       record {
         kept = kept_then h.kept g.kept;
-        right = args_go some-row (ev ∙ sym (expected_plain w c k r.readable)) (argument_told e)
+        right = args_go some_row (ev ∙ sym (expected_plain w c k r.readable)) (argument_told e)
             (subst (λ (j : ℕ). ToldAll (without_variables w) w j seen binds c (k + 1) (b && eqb n v) q) (ej₂
-            ∙ sym (args_row r some-row 3 (omega arith))) a);
+            ∙ sym (args_row r some_row 3 (omega arith))) a);
       }

@@ -14,7 +14,7 @@ use Rattle.language.proofs.Executable.Checks.{ok, after_ok, after_bad}
 use Rattle.language.proofs.Executable.Checker.{infer}
 use Rattle.layout.specs.Table.{KIND, OWN, FIRST, SECOND, THIRD, token_value, row_word}
 use Rattle.layout.specs.Rows.{CALL}
-use Rattle.layout.specs.Decode.{Shape, a_name, a_follow, a_group, a_Block, a_call, a_let, an_if, a_while, a_unary}
+use Rattle.layout.specs.Decode.{Shape, a_name, a_follow, a_group, a_block, a_call, a_let, an_if, a_while, a_unary}
 use Rattle.layout.specs.Decode.{a_binary, shape_of, children, counts, build, build_if, tree_at, args_at, Node, Right, RightArgs}
 use Rattle.layout.specs.Names.{Named}
 use Rattle.layout.proofs.NameLaws.{named_at}
@@ -63,7 +63,7 @@ module _ (ts : List Token) (Δ : Scope Sig) (Γ : Scope Ty) (i : ℕ) (a b c : E
   first_wrong Shape.a_float l h = absurd (omega arith)
   first_wrong a_follow l h = fault_is (after_bad _ (fault_told h))
   first_wrong a_group l h = h
-  first_wrong a_Block l h = h
+  first_wrong a_block l h = h
   first_wrong a_call l h = absurd (omega arith)
   first_wrong a_let l h = fault_is (after_bad _ (fault_told h))
   first_wrong an_if l h = fault_is (after_bad _ (fault_told h))

@@ -11,7 +11,7 @@ use Rattle.language.specs.Trees.{Name, Ty, Exp, Exps, push}
 use Rattle.language.specs.Meaning.{type_number}
 use Rattle.layout.specs.Table.{KIND, OWN, FIRST, SECOND, THIRD, START, PASS, token_value, row_word, put_variable, without_variables}
 use Rattle.layout.specs.Rows.{CALL, below, under}
-use Rattle.layout.specs.Decode.{Shape, a_name, a_number, a_float, a_follow, a_group, a_Block, a_call, a_let, an_if, a_while, a_constant}
+use Rattle.layout.specs.Decode.{Shape, a_name, a_number, a_float, a_follow, a_group, a_block, a_call, a_let, an_if, a_while, a_constant}
 use Rattle.layout.specs.Decode.{a_unary, a_binary, a_for, shape_of, children, counts, build, tree_at, args_at, Node, Right, RightArgs}
 use Rattle.layout.specs.Names.{Named}
 use Rattle.layout.proofs.NameLaws.{named_at, name_inside}
@@ -43,7 +43,7 @@ below_parts ts a_number i a b c es = ((λ h. omega arith), (λ h. omega arith), 
 below_parts ts a_float i a b c es = ((λ h. omega arith), (λ h. omega arith), λ h. omega arith)
 below_parts ts a_follow i a b c es = ((λ h. omega arith), (λ h. omega arith), λ h. omega arith)
 below_parts ts a_group i a b c es = ((λ h. omega arith), (λ h. omega arith), λ h. omega arith)
-below_parts ts a_Block i a b c es = ((λ h. omega arith), (λ h. omega arith), λ h. omega arith)
+below_parts ts a_block i a b c es = ((λ h. omega arith), (λ h. omega arith), λ h. omega arith)
 below_parts ts a_call i a b c es = ((λ h. omega arith), (λ h. omega arith), λ h. omega arith)
 below_parts ts a_let i a b c es = ((λ h. omega arith), (λ h. omega arith), λ h. omega arith)
 below_parts ts an_if i a b c es = ((λ h. omega arith), (λ h. omega arith), λ h. omega arith)

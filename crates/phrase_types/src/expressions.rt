@@ -17,7 +17,7 @@ use rules::{Typing, operators, sight};
 
 // The expressions of a list, which are the arguments of a call or the bounds of a `for`: how many, and whether
 // each has the type that is wanted of it.
-#[derive(Drop)]
+#[derive(Clone, Copy)]
 pub enum Passed {
     Typed(usize, bool),
     Wrong(Reason, u32),

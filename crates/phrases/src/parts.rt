@@ -9,7 +9,7 @@ ghost use Rattle.phrases.specs.Parts.{REACH, part_of, Written, Placed, Topped};
 use language::kinds;
 use layout::rows;
 
-#[derive(Drop)]
+#[derive(Clone, Copy)]
 pub enum Part {
     // The row of its root, the token behind it, and the first free row.
     Tree { root: u32, next: usize, free: usize },

@@ -100,7 +100,7 @@ module _ (w : List ℕ) (i x n : ℕ) {k : ℕ} (kind : k ≡ row_word w i KIND)
 
   pub share_plain : {t : Bool} {c r : ℕ} → (k ≡ CALL → ⊥) → t ≡ counts k → t ≡ false → (k ≡ WHILE → ⊥) → Children k c → r ≡ over_share w i c
       → RowShare w i x n r
-  share_plain {c = c} no_call e t no-while h r =
+  share_plain {c = c} no_call e t no_while h r =
       subst (RowShare w i x n) (sym r)
-      (of_plain (λ d. no_call (kind ∙ d)) (λ d. false≢true (sym t ∙ e ∙ ap counts kind ∙ d)) (λ d. no-while (kind ∙ d))
+      (of_plain (λ d. no_call (kind ∙ d)) (λ d. false≢true (sym t ∙ e ∙ ap counts kind ∙ d)) (λ d. no_while (kind ∙ d))
       (subst (λ (j : ℕ). Children j c) kind h))

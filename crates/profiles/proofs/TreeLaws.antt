@@ -11,7 +11,7 @@ use Rattle.language.specs.Trees.{Name, Exp, Exps, Scope, nearest}
 use Rattle.language.specs.Profile.{or_else, endless, any_endless, cost, all_cost, or_zero}
 use Rattle.layout.specs.Table.{KIND, OWN, FIRST, SECOND, THIRD, PASS, EXPRESSION, NEXT, row_word}
 use Rattle.layout.specs.Rows.{CALL}
-use Rattle.layout.specs.Decode.{Shape, a_name, a_number, a_float, a_follow, a_group, a_Block, a_call, a_let, an_if, a_while, a_constant}
+use Rattle.layout.specs.Decode.{Shape, a_name, a_number, a_float, a_follow, a_group, a_block, a_call, a_let, an_if, a_while, a_constant}
 use Rattle.layout.specs.Decode.{a_for, a_unary, a_binary, shape_of, children, counts, build, build_if, tree_at, args_at, Part, Node, Right, RightArgs}
 use Rattle.language.proofs.Meaning.CellTypes.{some_one}
 use Rattle.layout.proofs.Shapes.{shape_kind, kind_of_shape, range_counts}
@@ -58,7 +58,7 @@ module _ (self : Name → Bool) (costs : Scope ℕ) where
     plain_share (a_constant l) x y z p q r = sym share_one
     plain_share (a_unary u) x y z p q r = ap (beside 1) (p (omega arith)) ∙ one_beside _ _
     plain_share a_group x y z p q r = ap (beside 1) (p (omega arith)) ∙ one_beside _ _
-    plain_share a_Block x y z p q r = ap (beside 1) (p (omega arith)) ∙ one_beside _ _
+    plain_share a_block x y z p q r = ap (beside 1) (p (omega arith)) ∙ one_beside _ _
     plain_share (a_binary u) x y z p q r =
         ap₂ beside (ap (beside 1) (p (omega arith)) ∙ one_beside _ _) (q (omega arith)) ∙ share_beside _ _ _ _
     plain_share a_follow x y z p q r =
@@ -161,11 +161,11 @@ module _ (self : Name → Bool) (costs : Scope ℕ) where
           plain_known : {c : ℕ} → (row_word w i KIND ≡ CALL → ⊥) → (counts (row_word w i KIND) ≡ true → ⊥) → (row_word w i KIND ≡ WHILE → ⊥)
               → c ≡ children r.shape → over_share w i c ≡ tree_share (tree_at (suc f) ts w i)
           unfolding shape_kind
-          plain_known no_call no_for no-while e =
+          plain_known no_call no_for no_while e =
               let k = kind_of_shape _ _ r.known in
               ap (over_share w i) e
               ∙ plain_share ts w i (row_word w i OWN) _ _ _ _ r.shape (λ s. no_call (k ∙ ap shape_kind s))
-              (λ m s. no_for (ap counts (k ∙ ap shape_kind s) ∙ range_counts m)) (λ s. no-while (k ∙ ap shape_kind s))
+              (λ m s. no_for (ap counts (k ∙ ap shape_kind s) ∙ range_counts m)) (λ s. no_while (k ∙ ap shape_kind s))
               (λ l. part_known i FIRST f (omega arith) (r.first l)) (λ l. part_known i SECOND f (omega arith) (r.second l))
               (λ l. part_known i THIRD f (omega arith) (r.third l))
               ∙ sym (ap tree_share (tree_is r.shape r.known))

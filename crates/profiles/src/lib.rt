@@ -11,7 +11,7 @@ use language::NODES;
 use layout::{HELD, Held, TABLE_END, VARIABLES_AT, functions, memory, rows};
 
 // The count of a program's last expression; that it is too large; or the token of the first endless node.
-#[derive(Drop)]
+#[derive(Clone, Copy)]
 pub enum Counted {
     Endless(u32),
     TooMany,

@@ -15,7 +15,7 @@ use layout::{functions, rows};
 use phrases::items::{seq, until};
 use phrases::parts::{Part, around, unpack};
 
-#[derive(Drop)]
+#[derive(Clone, Copy)]
 pub enum Rows {
     // The token behind what was laid, and the first free row.
     Laid { next: usize, free: usize },
@@ -23,7 +23,7 @@ pub enum Rows {
     None { at: usize },
 }
 
-#[derive(Drop)]
+#[derive(Clone, Copy)]
 pub enum Parsed {
     // How many functions there are, the row of the last expression, and the token behind it.
     Program { defs: usize, root: u32, next: usize },

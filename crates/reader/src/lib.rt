@@ -14,7 +14,7 @@ use definitions::{Parsed, program};
 use layout::memory::clear;
 use layout::{Held, ROWS_AT, VARIABLES_AT};
 
-#[derive(Drop)]
+#[derive(Clone, Copy)]
 pub enum Found {
     // The reading, laid down in the table.
     Program(Held),

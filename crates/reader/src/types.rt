@@ -8,7 +8,7 @@ use language::kinds;
 use layout::token::kind;
 use layout::types;
 
-#[derive(Drop)]
+#[derive(Clone, Copy)]
 pub enum Typing {
     // Its number, and the token behind it.
     Type { number: u32, next: usize },

@@ -17,7 +17,7 @@ const NO_COUNT: u32 = 65537;
 const NO_AMOUNT: i64 = 4611686018427387904;
 
 // A file that was read: whether it is the report of a shift, whether it tells of a line too many, and the sums.
-#[derive(Drop)]
+#[derive(Clone, Copy)]
 pub struct Reading {
     pub good: bool,
     pub over: bool,

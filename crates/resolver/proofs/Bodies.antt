@@ -116,7 +116,7 @@ module _ {w : List ℕ} {ts : List Token} {f a b : ℕ} {d : Def} {ds : List Def
   names_w : (i : ℕ) → i < length d.params → row_word w (function_row w k + 1 + i) OWN < TOKENS
   names_w i l = omega (arith, params_own this.params i l, s.tokens)
 
-  module _ {row count body : ℕ} (is_row : row ≡ function_row t k) (is-count : count ≡ row_word t row ARITY) (is_IsBody : body ≡ row_word t row BODY) where
+  module _ {row count body : ℕ} (is_row : row ≡ function_row t k) (is_count : count ≡ row_word t row ARITY) (is_body : body ≡ row_word t row BODY) where
     row_w : row ≡ function_row w k
     row_w = is_row ∙ row_is
 
@@ -127,10 +127,10 @@ module _ {w : List ℕ} {ts : List Token} {f a b : ℕ} {d : Def} {ds : List Def
     word_w i l = row_alike s.scene.alike row i row_inside l ∙ ap (λ (r : ℕ). row_word w r i) row_w
 
     count_w : count ≡ length d.params
-    count_w = is-count ∙ word_w ARITY (omega arith) ∙ this.count
+    count_w = is_count ∙ word_w ARITY (omega arith) ∙ this.count
 
     body_w : body ≡ row_word w (function_row w k) BODY
-    body_w = is_IsBody ∙ word_w BODY (omega arith)
+    body_w = is_body ∙ word_w BODY (omega arith)
 
     names_t : (i : ℕ) → i < count → row_word t (row + 1 + i) OWN < TOKENS
     names_t i l =

@@ -103,11 +103,11 @@ module _ {t u : List ℕ} {node defs size : ℕ} (e : row_word t node KIND ≡ N
 pub call_ready : {t : List ℕ} {node defs size : ℕ} → Placing t node defs size → row_word t node KIND ≡ CALL → row_word t node OWN < TOKENS
 call_ready p e = peel p λ w ts f a b j. omega (arith, own_is j, call_inside j e, j.high)
 
-module _ (head : ℕ) {t u : List ℕ} {node defs size i row : ℕ} (e : row_word t node KIND ≡ CALL) (is-own : i ≡ row_word t node OWN)
+module _ (head : ℕ) {t u : List ℕ} {node defs size i row : ℕ} (e : row_word t node KIND ≡ CALL) (is_own : i ≡ row_word t node OWN)
     (is_row : row ≡ row_word t node FIRST) (is : u ≡ put_note t i head) where
   module _ {w : List ℕ} {ts : List Token} {f a b : ℕ} (j : Job w ts (suc f) a b t node defs size) where
     at_own : i ≡ own j
-    at_own = is-own ∙ own_is j
+    at_own = is_own ∙ own_is j
 
     own_few : own j < TOKENS
     own_few = omega (arith, call_inside j e, j.high)
@@ -144,7 +144,7 @@ module _ (head : ℕ) {t u : List ℕ} {node defs size i row : ℕ} (e : row_wor
 
       head_is : head ≡ callee_row w defs (token_value w (own j))
       head_is =
-          found ∙ ap (callee_row t defs) (name ∙ ap (λ (k : ℕ). token_value t k) is-own ∙ token_is j (own_few j))
+          found ∙ ap (callee_row t defs) (name ∙ ap (λ (k : ℕ). token_value t k) is_own ∙ token_is j (own_few j))
           ∙ callee_alike j.scene.alike defs _ j.scene.heads
 
       call_noted : noted v (own j) ≡ callee_row w defs (token_value w (own j))

@@ -8,7 +8,7 @@ use Rattle.language.specs.Tokens.{Token, NAME}
 use Rattle.language.specs.Trees.{Binary, add, sub, mul, div, less, equal, and, or, assign, Exp, Exps}
 use Rattle.layout.specs.Table.{token_value}
 use Rattle.layout.specs.Rows.{CALL, binary_kind}
-use Rattle.layout.specs.Decode.{Shape, a_name, a_number, a_float, a_follow, a_group, a_Block, a_call, a_let, an_if, a_while, a_constant}
+use Rattle.layout.specs.Decode.{Shape, a_name, a_number, a_float, a_follow, a_group, a_block, a_call, a_let, an_if, a_while, a_constant}
 use Rattle.layout.specs.Decode.{a_unary, a_binary, a_for, children, counts, build}
 use Rattle.layout.specs.Slots.{HELD}
 use Rattle.layout.specs.Resolved.{Placed}
@@ -84,7 +84,7 @@ module _ (ts : List Token) (i : ℕ) (x y z : Exp) (es : Exps) {a b : ℕ} where
   cuts (a_for r) l h = absurd (omega arith)
   cuts (a_unary o) l h = one_cut (a_unary o) refl h.0 h.1
   cuts a_group l h = one_cut a_group refl h.0 h.1
-  cuts a_Block l h = one_cut a_Block refl h.0 h.1
+  cuts a_block l h = one_cut a_block refl h.0 h.1
   cuts (a_binary o) l h = around_cut (a_binary o) refl h.0 h.1
   cuts a_follow l h = around_cut a_follow refl h.0 h.1
   cuts a_let l h = let p = h.1 in two_cut a_let p.0 refl h.0 p.1 p.2

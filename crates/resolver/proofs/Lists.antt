@@ -113,11 +113,11 @@ part_ready {t} {row} {defs} {size} p n e = peel_all p n λ w ts f a b j. (
   subst (λ (r : ℕ). Placing t r defs size) (sym e) (record { w = w; ts = ts; f = f; a = _; b = _; job = part_job j n }),
 )
 
-module _ {t u v : List ℕ} {row defs size child : ℕ} (some : row ≡ 0 → ⊥) (is-part : child ≡ row_word t row EXPRESSION)
+module _ {t u v : List ℕ} {row defs size child : ℕ} (some : row ≡ 0 → ⊥) (is_part : child ≡ row_word t row EXPRESSION)
     (p : Places t u child defs size) (held : v ≡ put_name u size HELD) where
   module _ {w : List ℕ} {ts : List Token} {f a b : ℕ} (j : JobAll w ts (suc f) a b t row defs size) where
     part_done : Done w ts f a (cut j some).0 t u (row_word t row EXPRESSION) defs size
-    part_done = subst (λ (r : ℕ). Places t u r defs size) is-part p w ts f _ _ (part_job j some)
+    part_done = subst (λ (r : ℕ). Places t u r defs size) is_part p w ts f _ _ (part_job j some)
 
     few : size < TOKENS
     few = omega (arith, past j some, within j some, j.room, j.high)
@@ -141,10 +141,10 @@ module _ {t u v : List ℕ} {row defs size child : ℕ} (some : row ≡ 0 → �
         (record { w = w; ts = ts; f = f; a = _; b = _; job = others_job j some (both_wrote j) }),
   )
 
-  module _ {x : List ℕ} {next : ℕ} (is-next : next ≡ row_word t row NEXT) (q : PlacesAll v x next defs (size + 1)) where
+  module _ {x : List ℕ} {next : ℕ} (is_next : next ≡ row_word t row NEXT) (q : PlacesAll v x next defs (size + 1)) where
     module _ {w : List ℕ} {ts : List Token} {f a b : ℕ} (j : JobAll w ts (suc f) a b t row defs size) where
       others_done : DoneAll w ts f (cut j some).0 b v x (row_word t row NEXT) defs (size + 1)
-      others_done = subst (λ (r : ℕ). PlacesAll v x r defs (size + 1)) is-next q w ts f _ _ (others_job j some (both_wrote j))
+      others_done = subst (λ (r : ℕ). PlacesAll v x r defs (size + 1)) is_next q w ts f _ _ (others_job j some (both_wrote j))
 
       part_placed : Placed w x defs (names_in t size) (part j some)
       part_placed =

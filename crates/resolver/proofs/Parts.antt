@@ -67,10 +67,10 @@ module _ {t : List ℕ} {node defs size n : ℕ} (many : Children (row_word t no
 
   -- ---- the first part is done
 
-  module _ {u : List ℕ} {child : ℕ} (is-first : child ≡ row_word t node FIRST) (p : Places t u child defs size) where
+  module _ {u : List ℕ} {child : ℕ} (is_first : child ≡ row_word t node FIRST) (p : Places t u child defs size) where
     module _ {w : List ℕ} {ts : List Token} {f a b : ℕ} (j : Job w ts (suc f) a b t node defs size) (l : 1 ≤ n) where
       first_done : Done w ts f a (cut j many l).m t u (row_word t node FIRST) defs size
-      first_done = as_places is-first p w ts f a (cut j many l).m (first_job j many l)
+      first_done = as_places is_first p w ts f a (cut j many l).m (first_job j many l)
 
       first_placed : Placed w u defs (names_in t size) (tree j FIRST)
       first_placed = at_row w u ts f defs (names_in t size) (word j FIRST (omega arith)) first_done.placed
@@ -107,7 +107,7 @@ module _ {t : List ℕ} {node defs size n : ℕ} (many : Children (row_word t no
           ),
         )
 
-    module _ {v : List ℕ} {kind inner : ℕ} (is-kind : kind ≡ row_word t node KIND) (between : Between u v node kind size inner) where
+    module _ {v : List ℕ} {kind inner : ℕ} (is_kind : kind ≡ row_word t node KIND) (between : Between u v node kind size inner) where
       between_wrote : {w : List ℕ} {ts : List Token} {f a b : ℕ} (j : Job w ts (suc f) a b t node defs size) (l : 1 ≤ n) → Wrote t v a b size
       between_wrote j l =
           wrote_then (first_wrote j l) between.wrote (omega arith) (λ i x y. (x, y)) (λ i x y. absurd (omega arith))
@@ -120,14 +120,14 @@ module _ {t : List ℕ} {node defs size n : ℕ} (many : Children (row_word t no
             (record { w = w; ts = ts; f = f; a = _; b = _; job = second_job j many (omega arith) l (between_wrote j (omega arith)) between.few }),
       )
 
-      module _ {x : List ℕ} {second : ℕ} (is-second : second ≡ row_word t node SECOND) (q : Places v x second defs inner) where
+      module _ {x : List ℕ} {second : ℕ} (is_second : second ≡ row_word t node SECOND) (q : Places v x second defs inner) where
         module _ {w : List ℕ} {ts : List Token} {f a b : ℕ} (j : Job w ts (suc f) a b t node defs size) (l : 2 ≤ n) where
           some_part : 1 ≤ n
           some_part = omega arith
 
           second_done : Done w ts f (cut j many some_part).m (cut j many some_part).n v x (row_word t node SECOND) defs inner
           second_done =
-              as_places is-second q w ts f _ _ (second_job j many some_part l (between_wrote j some_part) between.few)
+              as_places is_second q w ts f _ _ (second_job j many some_part l (between_wrote j some_part) between.few)
 
           second_wrote : Wrote t x a b size
           second_wrote =
@@ -146,7 +146,7 @@ module _ {t : List ℕ} {node defs size n : ℕ} (many : Children (row_word t no
               let h = behind_own j many some_part l in
               let g = word j OWN (omega arith) in
               between.names
-              ∙ ap (λ (k : ℕ). sees k (token_value u (row_word u node OWN + 1)) (names_in u size)) (is-kind ∙ kind_is j)
+              ∙ ap (λ (k : ℕ). sees k (token_value u (row_word u node OWN + 1)) (names_in u size)) (is_kind ∙ kind_is j)
               ∙ ap (λ (k : ℕ). sees (shape_kind (whole j).shape) (token_value u (k + 1)) (names_in u size)) e
               ∙ ap (λ (k : ℕ). sees (shape_kind (whole j).shape) k (names_in u size))
               (token_alike (alike_then j.scene.alike (first_wrote j some_part).alike) (own j + 1) (omega arith))
@@ -187,13 +187,13 @@ module _ {t : List ℕ} {node defs size n : ℕ} (many : Children (row_word t no
               (record { w = w; ts = ts; f = f; a = _; b = _; job = third_job j many (omega arith) l (second_wrote j (omega arith)) }),
         )
 
-        module _ {y : List ℕ} {third : ℕ} (is-third : third ≡ row_word t node THIRD) (r : Places x y third defs size) where
+        module _ {y : List ℕ} {third : ℕ} (is_third : third ≡ row_word t node THIRD) (r : Places x y third defs size) where
           module _ {w : List ℕ} {ts : List Token} {f a b : ℕ} (j : Job w ts (suc f) a b t node defs size) (l : 3 ≤ n) where
             pair : 2 ≤ n
             pair = omega arith
 
             third_done : Done w ts f (cut j many (some_part j pair)).n b x y (row_word t node THIRD) defs size
-            third_done = as_places is-third r w ts f _ _ (third_job j many (some_part j pair) l (second_wrote j pair))
+            third_done = as_places is_third r w ts f _ _ (third_job j many (some_part j pair) l (second_wrote j pair))
 
             third_wrote : Wrote t y a b size
             third_wrote =

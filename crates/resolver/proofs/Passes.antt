@@ -95,7 +95,7 @@ module _ {t : List ℕ} {node defs size : ℕ} (is_for : counts (row_word t node
         omega (arith, own_u j, behind j, within j, j.high),
       )
 
-      module _ {v : List ℕ} {body : ℕ} (is_IsBody : body ≡ row_word t node PASS) (entered : Entered u v node size) where
+      module _ {v : List ℕ} {body : ℕ} (is_body : body ≡ row_word t node PASS) (entered : Entered u v node size) where
         entered_wrote : {w : List ℕ} {ts : List Token} {f a b : ℕ} (j : Job w ts (suc f) a b t node defs size) → Wrote t v a b size
         entered_wrote j =
             let l = low j in
@@ -105,7 +105,7 @@ module _ {t : List ℕ} {node defs size : ℕ} (is_for : counts (row_word t node
         body_job : {w : List ℕ} {ts : List Token} {f a b : ℕ} (j : Job w ts (suc f) a b t node defs size)
             → Job w ts f (middle j) b v body defs (size + 3)
         body_job {w} {ts} {f} {b = b} j =
-            subst (λ (r : ℕ). Job w ts f (middle j) b v r defs (size + 3)) (sym (is_IsBody ∙ word j PASS (omega arith)))
+            subst (λ (r : ℕ). Job w ts f (middle j) b v r defs (size + 3)) (sym (is_body ∙ word j PASS (omega arith)))
             (record {
               scene = scene_after j.scene (entered_wrote j);
               right = (loops j).body.1;
@@ -116,7 +116,7 @@ module _ {t : List ℕ} {node defs size : ℕ} (is_for : counts (row_word t node
 
         pub body_ready : Placing t node defs size → (body < node) × Placing v body defs (size + 3)
         body_ready q = peel q λ w ts f a b j. (
-          omega (arith, is_IsBody, word j PASS (omega arith), (loops j).body.0),
+          omega (arith, is_body, word j PASS (omega arith), (loops j).body.0),
           record { w = w; ts = ts; f = f; a = _; b = _; job = body_job j },
         )
 
@@ -150,7 +150,7 @@ module _ {t : List ℕ} {node defs size : ℕ} (is_for : counts (row_word t node
             body_placed : Placed w x defs (counting (token_value w (own j + 1)) (names_in t size)) (tree j SECOND)
             body_placed =
                 subst (λ (M : List ℕ). Placed w x defs M (tree j SECOND)) seen
-                (subst (λ (r : ℕ). Placed w x defs (names_in v (size + 3)) (tree_at f ts w r)) (is_IsBody ∙ word j PASS (omega arith))
+                (subst (λ (r : ℕ). Placed w x defs (names_in v (size + 3)) (tree_at f ts w r)) (is_body ∙ word j PASS (omega arith))
                 body_done.placed)
 
             for_wrote : Wrote t x a b size

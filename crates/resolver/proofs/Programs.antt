@@ -77,13 +77,13 @@ module _ {t : List ℕ} {k defs root : ℕ} (p : Resolving t k defs root) (l : k
   pub row_ready : {row : ℕ} → row ≡ function_row t k → row < NODES
   row_ready q = unroll p l λ w ts f a b d ds e s. row_inside s q refl refl
 
-  module _ {row count body : ℕ} (is_row : row ≡ function_row t k) (is-count : count ≡ row_word t row ARITY) (is_IsBody : body ≡ row_word t row BODY) where
+  module _ {row count body : ℕ} (is_row : row ≡ function_row t k) (is_count : count ≡ row_word t row ARITY) (is_body : body ≡ row_word t row BODY) where
     pub parameters_ready : Binding t row count
-    parameters_ready = unroll p l λ w ts f a b d ds e s. binding s is_row is-count is_IsBody
+    parameters_ready = unroll p l λ w ts f a b d ds e s. binding s is_row is_count is_body
 
     pub body_ready : {u : List ℕ} → Bound t u row count → Placing u body defs count
     body_ready h = unroll p l λ w ts f a b d ds e s.
-        record { w = w; ts = ts; f = f; a = _; b = _; job = body_job s is_row is-count is_IsBody h }
+        record { w = w; ts = ts; f = f; a = _; b = _; job = body_job s is_row is_count is_body h }
 
     pub rest_ready : {u v : List ℕ} → Bound t u row count → Places u v body defs count → Resolving v (k + 1) defs root
     rest_ready h q = unroll p l λ w ts f a b d ds e s.
@@ -95,7 +95,7 @@ module _ {t : List ℕ} {k defs root : ℕ} (p : Resolving t k defs root) (l : k
           b = _;
           ds = ds;
           e = e;
-          suite = rest_suite s is_row is-count is_IsBody h (q w ts f _ _ (body_job s is_row is-count is_IsBody h));
+          suite = rest_suite s is_row is_count is_body h (q w ts f _ _ (body_job s is_row is_count is_body h));
         }
 
 pub function_done : {t u v x : List ℕ} {k defs root row count body : ℕ} → k < defs → row ≡ function_row t k → count ≡ row_word t row ARITY

@@ -7,7 +7,7 @@ pub mod sight;
 use numbers::Reason;
 
 // A type's number, or why there is no type and the ordinal of the token that this is told at.
-#[derive(Drop)]
+#[derive(Clone, Copy)]
 pub enum Typing {
     Type(u32),
     Fault(Reason, u32),

@@ -8,7 +8,7 @@ ghost use Rattle.rules.specs.Sight.{find_variable, found, callee_in, Rowed, want
 use layout::{PUTCHAR, functions, rows, types, variables};
 
 // A variable, by its type's number.
-#[derive(Drop)]
+#[derive(Clone, Copy)]
 pub enum Found {
     Is(u32),
     Nowhere,

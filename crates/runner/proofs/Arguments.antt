@@ -88,12 +88,12 @@ module _ {q : Run} {t w o : List ℕ} {node : ℕ} {p : Spot} {s : Tally} (b : S
     (few : count es ≤ PARAMETERS)
     (room : p.base + length b.L + WAITING * suc b.d ≤ WAITING * ACTIVE)
     (means : then (arguments q.fs (eval q.fs b.d) es b.env (memory w o s) done) b.κ ≡ q.whole)
-    (row : ℕ) (is : row ≡ row_word t node FIRST) (some-there : row ≡ 0 → ⊥) where
+    (row : ℕ) (is : row ≡ row_word t node FIRST) (some_there : row ≡ 0 → ⊥) where
   abbrev σ : M.State
   σ = memory w o s
 
   argued : Argued q t b.L row es
-  argued = some_left q (subst (λ (r : ℕ). Args q.ts t q.defs b.L r es) (sym is) args) some-there
+  argued = some_left q (subst (λ (r : ℕ). Args q.ts t q.defs b.L r es) (sym is) args) some_there
 
   pub first_inside : row < NODES
   first_inside = argued.inside

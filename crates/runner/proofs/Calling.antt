@@ -177,11 +177,11 @@ module _ {q : Run} {t w o : List ℕ} {node : ℕ} {p : Spot} {s : Tally} (b : S
   unfolding step
   all_means = call_means
 
-  module _ (row : ℕ) (is : row ≡ row_word t node FIRST) (some-there : row ≡ 0 → ⊥) where
+  module _ (row : ℕ) (is : row ≡ row_word t node FIRST) (some_there : row ≡ 0 → ⊥) where
     pub argument_inside : row < NODES
-    argument_inside = first_inside b doing does calling.args calling.few call_room all_means row is some-there
+    argument_inside = first_inside b doing does calling.args calling.few call_room all_means row is some_there
 
     -- it begins
     pub start_pass : Begins q t (put_frame w p.height node ARGUMENT p.base p.size (TAGS * row + 0)) o (row_word t row EXPRESSION)
         (spot p.base (p.size + 0) (p.height + 1)) s
-    start_pass = first_begins_at b doing does calling.args calling.few call_room all_means row is some-there
+    start_pass = first_begins_at b doing does calling.args calling.few call_room all_means row is some_there

@@ -214,11 +214,11 @@ module _ {q : Run} {t w o : List ℕ} {v : Value} {row phase : ℕ} {p : Spot} {
 
   -- ---- another argument
 
-  module _ (next : ℕ) (is : next ≡ row_word t (M1 / TAGS) NEXT) (some-there : next ≡ 0 → ⊥) where
+  module _ (next : ℕ) (is : next ≡ row_word t (M1 / TAGS) NEXT) (some_there : next ≡ 0 → ⊥) where
     argued : Argued q t (helds (suc K) r.L) next waiting.es
     argued =
         some_left q (subst (λ (j : ℕ). Args q.ts t q.defs (helds (suc K) r.L) j waiting.es)
-        (sym (is ∙ ap (λ (m : ℕ). row_word t m NEXT) row_is)) waiting.rest) some-there
+        (sym (is ∙ ap (λ (m : ℕ). row_word t m NEXT) row_is)) waiting.rest) some_there
 
     pub next_inside : next < NODES
     next_inside = argued.inside

@@ -15,7 +15,7 @@ use Rattle.language.specs.Trees.{Literal, whole, truth, trivial, decimal, Exp, E
 use Rattle.layout.specs.Table.{KIND, OWN, FIRST, SECOND, THIRD, EXPRESSION, NEXT, token_value, row_word}
 use Rattle.layout.specs.Names.{value_word, Stand}
 use Rattle.layout.specs.Rows.{literal_kind}
-use Rattle.layout.specs.Decode.{Shape, a_name, a_number, a_float, a_follow, a_group, a_Block, a_call, a_let, an_if, a_while, a_constant}
+use Rattle.layout.specs.Decode.{Shape, a_name, a_number, a_float, a_follow, a_group, a_block, a_call, a_let, an_if, a_while, a_constant}
 use Rattle.layout.specs.Decode.{a_unary, a_binary, a_for, counts, shape_of, children, build, build_if, tree_at, args_at, Node, Right, RightArgs}
 use Rattle.layout.specs.Slots.{HELD}
 use Rattle.layout.specs.Resolved.{counting, Placed, PlacedAll}
@@ -187,7 +187,7 @@ module _ (ts : List Token) (w : List ℕ) (defs : ℕ) (long : TABLE ≤ length 
       by_shape (a_constant l) e f = constant l e
       by_shape (a_unary o) e f = at_unary (head (a_unary o) e) (first_part (a_unary o) e (omega arith) f)
       by_shape a_group e f = at_group (head a_group e) (first_part a_group e (omega arith) f)
-      by_shape a_Block e f = at_block (head a_Block e) (first_part a_Block e (omega arith) f)
+      by_shape a_block e f = at_block (head a_block e) (first_part a_block e (omega arith) f)
       by_shape (a_binary o) e (f, p) =
           at_binary (head (a_binary o) e) (first_part (a_binary o) e (omega arith) (f.0, p.0))
           (second_part (a_binary o) e (omega arith) (HELD ∷ L) (f.1, p.1))

@@ -93,7 +93,7 @@ module _ {q : Run} {t w o : List ℕ} {node : ℕ} {z to by : Value} {p : Spot} 
   pub turn_slots : B + p.size + 2 < SLOTS
   turn_slots = omega (arith, c.frame.sized, inside)
 
-  module _ (back-z : Survives z) (back_to : Survives to) (back_by : Survives by) where
+  module _ (back_z : Survives z) (back_to : Survives to) (back_by : Survives by) where
     abbrev W : List ℕ
     W = put_phase (put_bound w (B + N) z to by) H COUNTED
 
@@ -102,7 +102,7 @@ module _ {q : Run} {t w o : List ℕ} {node : ℕ} {z to by : Value} {p : Spot} 
         let low = frame_low c.frame in
         let long = c.frame.fair.room.long in
         binds_held (binds_held (binds_name c.loop.named.named
-        (bound_value w (B + N) z to by H inside low long back-z ∙ c.counter_is)
+        (bound_value w (B + N) z to by H inside low long back_z ∙ c.counter_is)
         (binds_kept (bound_stored w (B + N) z to by H inside low long).slots (omega arith) c.frame.binds)))
 
     abbrev Passing : ℕ → Type 0
@@ -122,7 +122,7 @@ module _ {q : Run} {t w o : List ℕ} {node : ℕ} {z to by : Value} {p : Spot} 
           z = c.n;
           room = c.room;
           used = refl;
-          counter = bound_value w (B + N) z to by H inside low long back-z ∙ c.counter_is;
+          counter = bound_value w (B + N) z to by H inside low long back_z ∙ c.counter_is;
           end = end_value w (B + N) z to by H inside low long back_to ∙ c.end_is;
           step = step_value w (B + N) z to by H inside low long back_by ∙ c.step_is;
           goes = λ v s. refl;

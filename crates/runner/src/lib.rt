@@ -22,14 +22,14 @@ use machine::state::Tally;
 use numbers::Stop;
 
 // The units that are left of the allowance, and how many bytes were printed.
-#[derive(Drop)]
+#[derive(Clone, Copy)]
 pub struct Spent {
     pub left: u32,
     pub printed: usize,
 }
 
 // A value, or why and at which token the run stopped.
-#[derive(Drop)]
+#[derive(Clone, Copy)]
 pub enum Done {
     Value(Value, Spent),
     Stop(Stop, u32, Spent),

@@ -26,14 +26,14 @@ use tokens::view::{View, len};
 
 // What becomes of tokens: a program, as the table holds it, with its type's number; or why they are none,
 // and the ordinal of the token at which this is told.
-#[derive(Drop)]
+#[derive(Clone, Copy)]
 pub enum Verdict {
     Proper { program: Held, type_number: u32 },
     Denied(Refusal, usize),
 }
 
 // What becomes of a source: the same, with a byte for a place.
-#[derive(Drop)]
+#[derive(Clone, Copy)]
 pub enum Seen {
     Passes { program: Held, type_number: u32 },
     Refused(Refusal, usize),

@@ -49,20 +49,20 @@ pub enum Admission {
 }
 
 // The state stands beside what is told, since it holds an array: after a refusal it is as it was.
-#[derive(Drop)]
+#[derive(Clone, Copy)]
 pub struct Answer {
     pub told: Admission,
     pub state: State,
 }
 
 // What is told in the end: a report, and whether there was a line too many; or a refusal, and no sums.
-#[derive(Drop)]
+#[derive(Clone, Copy)]
 pub enum Ending {
     Report { over: bool },
     Refused(Refusal),
 }
 
-#[derive(Drop)]
+#[derive(Clone, Copy)]
 pub struct Finished {
     pub told: Ending,
     pub sums: Sums,

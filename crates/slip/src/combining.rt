@@ -11,7 +11,7 @@ use shift::{Ending, Finished};
 use tally::sums;
 
 // What the reports so far come to, and whether all could be read; where one could not, that was told.
-#[derive(Drop)]
+#[derive(Clone, Copy)]
 struct Total {
     read: bool,
     all: Finished,

@@ -56,7 +56,7 @@ fn judge(edition: u32, sheet: &[u8], call: &[u8]) -> End {
 }
 
 // What is done with a rate sheet and the call under it, if they pass.
-#[derive(Drop)]
+#[derive(Clone, Copy)]
 pub enum Called {
     Checked,
     Counted,

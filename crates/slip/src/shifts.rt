@@ -31,7 +31,7 @@ enum Reading {
     Refused(Why, Spot),
 }
 
-#[derive(Drop)]
+#[derive(Clone, Copy)]
 struct Fed {
     reading: Reading,
     state: State,

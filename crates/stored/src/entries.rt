@@ -10,7 +10,7 @@ use tokens::edition::Edition;
 use tokens::pieces::{Piece, piece_at};
 use tokens::view::{View, len};
 
-#[derive(Drop)]
+#[derive(Clone, Copy)]
 pub enum Entry {
     // A token, what it is worth, and the LF that ends its line.
     Token { kind: u32, worth: u64, end: usize },

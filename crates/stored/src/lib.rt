@@ -21,7 +21,7 @@ use tokens::edition::Edition;
 use tokens::forks::begin;
 
 // What comes of a stored sheet.
-#[derive(Drop)]
+#[derive(Clone, Copy)]
 pub enum Stored {
     // So many tokens, and all is well.
     Tokens(usize),

@@ -5,7 +5,7 @@ ghost use Rattle.stored.specs.Lines.{IsLine, IsCount};
 use tokens::bytes::{Class, run_end};
 use tokens::view::{View, byte};
 
-#[derive(Drop)]
+#[derive(Clone, Copy)]
 pub enum Line {
     // Two digits for each byte, up to the LF at this place.
     Digits(usize),
@@ -30,7 +30,7 @@ pub fn line_at(stored: &[u8], at: usize) -> Line
     Line::Digits(end)
 }
 
-#[derive(Drop)]
+#[derive(Clone, Copy)]
 pub enum Count {
     Is(usize),
     None,

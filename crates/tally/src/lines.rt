@@ -16,7 +16,7 @@ pub struct Part {
 }
 
 // What a line asks to be paid.
-#[derive(Drop)]
+#[derive(Clone, Copy)]
 pub enum Job {
     Good { picks: u32, rate: u32 },
     Bad,

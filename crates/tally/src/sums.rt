@@ -29,7 +29,7 @@ pub struct Sums {
 }
 
 // What a line comes to.
-#[derive(Drop)]
+#[derive(Clone, Copy)]
 pub enum Outcome {
     Bad,
     Stopped(Stop),

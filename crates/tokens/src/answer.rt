@@ -2,7 +2,7 @@
 
 use numbers::Flaw;
 
-#[derive(Drop)]
+#[derive(Clone, Copy)]
 pub enum Split {
     // The whole text is split into so many tokens.
     Tokens(usize),

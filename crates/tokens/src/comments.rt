@@ -6,7 +6,7 @@ ghost use Rattle.tokens.specs.Shown.{text_of};
 
 use crate::view::{View, byte, len};
 
-#[derive(Drop)]
+#[derive(Clone, Copy)]
 pub enum Pair {
     Opens,
     Closes,
@@ -34,7 +34,7 @@ pub fn pair_at(first: &[u8], second: &[u8], view: View, at: usize) -> Pair
     Pair::Neither
 }
 
-#[derive(Drop)]
+#[derive(Clone, Copy)]
 pub enum Close {
     At(usize),
     Never,

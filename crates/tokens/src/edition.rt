@@ -8,7 +8,7 @@ pub enum Edition {
     Two,
 }
 
-#[derive(Drop)]
+#[derive(Clone, Copy)]
 pub enum Known {
     Is(Edition),
     None,

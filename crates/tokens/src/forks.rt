@@ -97,7 +97,7 @@ pub fn way_end(
     at
 }
 
-#[derive(Drop)]
+#[derive(Clone, Copy)]
 pub enum Parting {
     // The spellings are the same.
     Same,

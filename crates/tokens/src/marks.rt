@@ -13,7 +13,7 @@ use crate::edition::Edition;
 use crate::view::{View, byte};
 use language::kinds;
 
-#[derive(Drop)]
+#[derive(Clone, Copy)]
 pub enum Mark {
     // Its kind, and the number of its bytes.
     Is(u32, usize),

@@ -17,7 +17,7 @@ use crate::worth::number;
 use language::kinds;
 use numbers::Flaw;
 
-#[derive(Drop)]
+#[derive(Clone, Copy)]
 pub enum Piece {
     // A blank or a comment, up to this place.
     Space(usize),

@@ -18,7 +18,7 @@ use language::{DIGITS, LARGEST, kinds};
 use numbers::Flaw;
 
 // Where the digits of a number begin, and their base.
-#[derive(Drop)]
+#[derive(Clone, Copy)]
 pub struct Digits {
     from: usize,
     base: u64,

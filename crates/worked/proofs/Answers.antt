@@ -193,14 +193,14 @@ worked_right e low =
 
 -- what is worked out with just the memories that are asked for is what run answers with any that are long enough
 run_is : (e : Example) → e.allowance ≤ ALLOWANCE → figures (worked e).report ≡ e.report → (worked e).printed ≡ e.printed → Answered e
-run_is e low same-figures same_bytes = record {
+run_is e low same_figures same_bytes = record {
   right = λ {table} {work} {output} long wide roomy a.
       let full : number (worked e).report.told ≡ 57 → length output ≡ length e.printed =
-      λ q. roomy.full (sym (ap (λ (x : Figures). x.number) same-figures) ∙ q) in
+      λ q. roomy.full (sym (ap (λ (x : Figures). x.number) same_figures) ∙ q) in
       let enough : Enough (lent e.edition e.allowance (length e.printed)) = record { table = omega arith; work = omega arith } in
       let x = ran_longer enough long wide roomy.long full (worked_right e low) in
       let z = one_ran (text_in_lawful e.edition (spell e.source)) _ a.answer x in
-      (ap figures z.0 ∙ same-figures, a.output_left ∙ ap (λ (bs : List ℕ). bs ++ drop (length bs) output) (z.1 ∙ same_bytes));
+      (ap figures z.0 ∙ same_figures, a.output_left ∙ ap (λ (bs : List ℕ). bs ++ drop (length bs) output) (z.1 ∙ same_bytes));
 }
 
 -- where the two are the same, the table is right

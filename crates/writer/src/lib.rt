@@ -14,7 +14,7 @@ pub mod storing;
 use language::SOURCE;
 use layout::token;
 
-#[derive(Drop)]
+#[derive(Clone, Copy)]
 pub enum Text {
     // It was written, with so many bytes.
     Written(usize),

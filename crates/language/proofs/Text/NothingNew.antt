@@ -219,18 +219,18 @@ module _ {σ : Sizes} {t : List ℕ} (old : NothingNew σ t) where
       }
 
 -- it is so of a text in whose bytes they do not occur
-module _ {t : List ℕ} (no_for : (m : ℕ) → Stands t m (spell "for") → ⊥) (no-by : (m : ℕ) → Stands t m (spell "by") → ⊥) where
+module _ {t : List ℕ} (no_for : (m : ℕ) → Stands t m (spell "for") → ⊥) (no_by : (m : ℕ) → Stands t m (spell "by") → ⊥) where
   bytes_words : {p : ℕ} {ts : List Token} → Reaches EDITION_1 t p ts → Every OldWord ts
   bytes_words start = every_none
   bytes_words (skip r x) = bytes_words r
   bytes_words (next {p = p} {q = q} {k = k} {v = v} {ts = ts} r x h e) =
       let b = form_bounds t p q (token k v) x.form in
       let stands : (w : Spelling) → slice p q t ≡ w → Stands t p w = λ w s. slice_stands t p w q (omega (arith, b.0)) b.1 s in
-      let n : OldWord (token_of t p q k v) = record { not_for = λ s. no_for p (stands (spell "for") s); not_by = λ s. no-by p (stands (spell "by") s) } in
+      let n : OldWord (token_of t p q k v) = record { not_for = λ s. no_for p (stands (spell "for") s); not_by = λ s. no_by p (stands (spell "by") s) } in
       subst (Every OldWord) (sym e) (every_with (bytes_words r) n)
 
   pub nothing_in_bytes : {σ : Sizes} → ((m : ℕ) → Stands t m (spell "..") → ⊥) → NothingNew σ t
-  nothing_in_bytes no-points = record { words = bytes_words; marks = λ x m h z. no-points m (z.0, (z.1, tt)) }
+  nothing_in_bytes no_points = record { words = bytes_words; marks = λ x m h z. no_points m (z.0, (z.1, tt)) }
 
 -- of one that splits by edition 1 into tokens without the new words
 later_front : {voc : Vocabulary} {t : List ℕ} {q : ℕ} {us : List Token} {p : ℕ} {ts : List Token} → Later voc t q us p ts → (vs : List Token) × (us ≡ ts ++ vs)
