@@ -7,14 +7,14 @@ ghost use Rattle.std.specs.Prelude.{◌≡◌};
 ghost use Rattle.language.specs.Numbers.{flaw_number, reason_number, refusal_number, stop_number};
 ghost use Rattle.numbers.specs.Meanings.{flaw_meant, reason_meant, refusal_meant, stop_meant};
 
-// What stops the split of a text.
+// What stops the split of a text, with its number.
 #[derive(Clone, Copy)]
 pub enum Flaw {
-    StrangeByte,
-    OpenComment,
-    LargeNumber,
-    LongFloat,
-    ManyTokens,
+    StrangeByte = 11,
+    OpenComment = 12,
+    LargeNumber = 13,
+    LongFloat = 15,
+    ManyTokens = 14,
 }
 
 // Why a reading has no type.
@@ -59,52 +59,45 @@ pub enum Refusal {
     ManyUnits,
 }
 
-// Why a run stops before it has a value.
+// Why a run stops before it has a value, with its number.
 #[derive(Clone, Copy)]
 pub enum Stop {
-    NoUnit,
-    TooDeep,
-    OutOfRange,
-    ZeroDivisor,
-    CellFreed,
-    CellsFull,
-    NotAByte,
-    OutputFull,
-    ZeroStep,
+    NoUnit = 50,
+    TooDeep = 51,
+    OutOfRange = 52,
+    ZeroDivisor = 53,
+    CellFreed = 54,
+    CellsFull = 55,
+    NotAByte = 56,
+    OutputFull = 57,
+    ZeroStep = 58,
 }
 
 pub fn of_flaw(flaw: Flaw) -> u32
     ensures { result ≡ flaw_number (flaw_meant flaw) }
 {
-    match flaw {
-        Flaw::StrangeByte => 11,
-        Flaw::OpenComment => 12,
-        Flaw::LargeNumber => 13,
-        Flaw::LongFloat => 15,
-        Flaw::ManyTokens => 14,
-    }
+    flaw as u32
 }
 
 pub fn of_reason(reason: Reason) -> u32
     ensures { result ≡ reason_number (reason_meant reason) }
 {
     match reason {
-        Reason::TooManyFunctions => 30,
-        Reason::TooManyParameters => 30,
+        Reason::TooManyFunctions | Reason::TooManyParameters => 30,
         Reason::FunctionTwice => 31,
         Reason::ParameterTwice => 32,
+        Reason::WrongArgument
+        | Reason::WrongOperand
+        | Reason::WrongOperands
+        | Reason::NotUnit
+        | Reason::NotBool
+        | Reason::NotInt
+        | Reason::BranchesDiffer
+        | Reason::WrongBody => 33,
+        Reason::TooManyRefs => 34,
         Reason::NoBinding => 35,
         Reason::NoFunction => 36,
         Reason::WrongNumber => 37,
-        Reason::WrongArgument => 33,
-        Reason::WrongOperand => 33,
-        Reason::WrongOperands => 33,
-        Reason::NotUnit => 33,
-        Reason::NotBool => 33,
-        Reason::NotInt => 33,
-        Reason::BranchesDiffer => 33,
-        Reason::WrongBody => 33,
-        Reason::TooManyRefs => 34,
     }
 }
 
@@ -131,15 +124,5 @@ pub fn of_refusal(refusal: Refusal) -> u32
 pub fn of_stop(stop: Stop) -> u32
     ensures { result ≡ stop_number (stop_meant stop) }
 {
-    match stop {
-        Stop::NoUnit => 50,
-        Stop::TooDeep => 51,
-        Stop::OutOfRange => 52,
-        Stop::ZeroDivisor => 53,
-        Stop::CellFreed => 54,
-        Stop::CellsFull => 55,
-        Stop::NotAByte => 56,
-        Stop::OutputFull => 57,
-        Stop::ZeroStep => 58,
-    }
+    stop as u32
 }
