@@ -1,4 +1,4 @@
--- Parts of a sheet, where there is one and where not; the sheet that a spot names; and that no two parts are shown at one spot.
+-- No two parts are shown at one spot.
 use borrow.Author.Tests.{eqb-true, eqb-false}
 use denote.Ref.{Bor}
 use lib.Dec.{eqb}
@@ -6,30 +6,10 @@ use lib.ListN.{length}
 use mathlib.Core.List.{List}
 use mathlib.Core.Logic.{⊎_elim}
 use mathlib.Core.Path.{◌≡◌, sym, ◌∙◌}
-use native.Mathlib.Omega.{arith}
-use Prim.Native.Nat.{ℕ, ◌≤◌, ◌<◌}
+use Prim.Native.Nat.{ℕ}
 use Rattle.language.proofs.Text.Choices.{either, outcome}
 use Rattle.pairs.specs.Spots.{Part, Cut, Shows}
 use Rattle.pairs.specs.declared.Spot.{Spot}
-
-module _ (sheet : Bor (List ℕ)) (a e : ℕ) (r : Bor (List ℕ)) where
-  pub cut_crossed : e < a → Part sheet 0 0 r → Cut sheet a e r
-  cut_crossed h p = record { whole = λ x y. absurd (omega arith); crossed = λ x. p; past = λ x. p }
-
-  pub cut_past : length sheet.now < e → Part sheet 0 0 r → Cut sheet a e r
-  cut_past h p = record { whole = λ x y. absurd (omega arith); crossed = λ x. p; past = λ x. p }
-
-  pub cut_whole : a ≤ e → e ≤ length sheet.now → Part sheet a e r → Cut sheet a e r
-  cut_whole h l p = record { whole = λ x y. p; crossed = λ x. absurd (omega arith); past = λ x. absurd (omega arith) }
-
-module _ (first second : Bor (List ℕ)) (s : Spot) (r : Bor (List ℕ)) where
-  pub shows_second : s.sheet ≡ 2 → Cut second s.begin s.end r → Shows first second s r
-  shows_second e c = record { in_second = λ x. c; in_first = λ n. absurd (n e) }
-
-  pub shows_first : (s.sheet ≡ 2 → ⊥) → Cut first s.begin s.end r → Shows first second s r
-  shows_first n c = record { in_second = λ x. absurd (n x); in_first = λ x. c }
-
--- ---- one line
 
 -- the same bytes in the same place
 abbrev Same : Bor (List ℕ) → Bor (List ℕ) → Type 0

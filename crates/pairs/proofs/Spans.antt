@@ -2,7 +2,7 @@
 use lib.ListN.{length}
 use mathlib.Core.Bool.{true, false}
 use mathlib.Core.List.{List}
-use mathlib.Core.Path.{◌≡◌, refl, sym, ◌∙◌, ap}
+use mathlib.Core.Path.{◌≡◌, sym, ◌∙◌, ap}
 use borrow.Author.Tests.{eq-eqb, ne_eqb}
 use native.Mathlib.Numerals.{add-one}
 use native.Mathlib.Omega.{arith}
@@ -28,9 +28,6 @@ pub record Back (sheet : List ℕ) (at i : ℕ) : Type 0 where
   pub low : i ≤ at
   pub same : line_begin sheet i ≡ line_begin sheet at
 
-pub back_none : (sheet : List ℕ) (at : ℕ) → Back sheet at at
-back_none sheet at = record { low = omega arith; same = refl }
-
 module _ {sheet : List ℕ} {at i k : ℕ} (g : Back sheet at i) (e : suc k ≡ i) where
   -- behind an LF
   pub back_here : byte sheet k ≡ 10 → i ≡ line_begin sheet at
@@ -54,9 +51,6 @@ back_all {sheet} {at} {i} g e = e ∙ ap (line_begin sheet) (sym e) ∙ g.same
 pub record On (sheet : List ℕ) (at i : ℕ) : Type 0 where
   pub inside : i ≤ length sheet
   pub same : line_end sheet i ≡ line_end sheet at
-
-pub on_none : {sheet : List ℕ} {at : ℕ} → at ≤ length sheet → On sheet at at
-on_none h = record { inside = h; same = refl }
 
 module _ {sheet : List ℕ} {at i : ℕ} (g : On sheet at i) where
   -- at an LF

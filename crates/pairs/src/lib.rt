@@ -33,15 +33,12 @@ pub fn begin_of(sheet: &[u8], at: usize) -> usize
     requires { at ≤ length sheet.now }
     ensures { result ≡ line_begin sheet.now at }
 {
-    let mut i = at;
-    while 0 < i {
-        let k = i - 1;
-        if sheet[k] == b'\n' {
-            return i;
+    for i in (0..at).rev() {
+        if sheet[i] == b'\n' {
+            return i + 1;
         }
-        i = k;
     }
-    i
+    0
 }
 
 // Where it ends: at its LF, which does not belong to it, or with the sheet.
@@ -49,35 +46,28 @@ pub fn end_of(sheet: &[u8], at: usize) -> usize
     requires { at ≤ length sheet.now }
     ensures { result ≡ line_end sheet.now at }
 {
-    let mut j = at;
-    while j < sheet.len() {
+    for j in at..sheet.len() {
         if sheet[j] == b'\n' {
             return j;
         }
-        j += 1;
     }
-    j
+    sheet.len()
 }
 
 // A byte of the sheet with this number.
 fn of_sheet(number: u32, sheet: &[u8], at: usize) -> Spot
     ensures { meant result ≡ in_sheet number sheet.now at }
 {
-    if at < sheet.len() {
-        let begin = begin_of(sheet, at);
-        let end = end_of(sheet, at);
-        return Spot {
-            sheet: number,
-            at,
-            begin,
-            end,
-        };
-    }
+    let (begin, end) = if at < sheet.len() {
+        (begin_of(sheet, at), end_of(sheet, at))
+    } else {
+        (at, at)
+    };
     Spot {
         sheet: number,
         at,
-        begin: at,
-        end: at,
+        begin,
+        end,
     }
 }
 
@@ -97,24 +87,18 @@ pub fn spot_at(first: &[u8], second: &[u8], at: usize) -> Spot
 fn part(sheet: &[u8], begin: usize, end: usize) -> &[u8]
     ensures { Cut sheet.entry begin end result }
 {
-    if end < begin {
-        return &sheet[0..0];
+    // `get(begin..end)` answers the same bytes, but does not promise where they lie, as `Cut` does.
+    if begin <= end && end <= sheet.len() {
+        &sheet[begin..end]
+    } else {
+        &sheet[..0]
     }
-    if sheet.len() < end {
-        return &sheet[0..0];
-    }
-    &sheet[begin..end]
 }
 
 // The line that a spot shows.
 pub fn line<'a>(first: &'a [u8], second: &'a [u8], spot: Spot) -> &'a [u8]
     ensures { Shows first.entry second.entry spot result }
 {
-    let begin = spot.begin;
-    let end = spot.end;
-    let sheet = spot.sheet;
-    if sheet == 2 {
-        return part(second, begin, end);
-    }
-    part(first, begin, end)
+    let sheet = if spot.sheet == 2 { second } else { first };
+    part(sheet, spot.begin, spot.end)
 }

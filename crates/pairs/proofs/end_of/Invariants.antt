@@ -1,11 +1,6 @@
 -- `end_of` goes on byte for byte: the line stays the same until an LF or the sheet's end.
-use lib.ListN.{length}
-use Prim.Native.Nat.{◌-◌}
 use Rattle.pairs.proofs.Spans.{On}
 use Rattle.pairs.proofs.end_of.Given as goal
 
 abbrev pub invariant-loop-j : goal.invariant-loop-j
 invariant-loop-j l = On l.sheet l.at l.j
-
-abbrev pub decreases-loop-j : goal.decreases-loop-j
-decreases-loop-j l = length l.sheet - l.j

@@ -7,8 +7,8 @@ use Rattle.pairs.proofs.of_sheet.Goals as goal
 pub returns-then-at-sheet : goal.returns-then-at-sheet
 returns-then-at-sheet c =
     let a = c.args in
-    spot_line a.number a.sheet.now a.at _ _ c.begin_of-begin.ensures c.end_of-end.ensures c.if-at-sheet.true
+    spot_line a.number a.sheet.now a.at _ _ c.begin_of.ensures c.end_of.ensures c.if-at-sheet.true
 
-pub returns : goal.returns
-returns c =
+pub returns-else-at-sheet : goal.returns-else-at-sheet
+returns-else-at-sheet c =
     let a = c.args in sym (sheet_end a.number a.sheet.now a.at c.if-at-sheet.false)
