@@ -7,19 +7,29 @@ use native.Mathlib.Decide.{ℕ_discrete}
 use native.Mathlib.Omega.{arith}
 use lib.Dec.{eqb}
 use lib.ListN.{length, get_or, set, length-set}
+use Rattle.std.proofs.Common.{take, drop, ◌++◌, append_assoc, add-one}
+use Rattle.std.proofs.Math.ListN.{replicate}
+use Rattle.std.proofs.Math.Seq.{take-suc-set}
+use Rattle.std.proofs.lemmas.List.{take-append-drop, drop-drop, drop-set-lt}
+use borrow.Rule.Slice.PartMut.{put_mid}
 use lib.Seq.{set-set, set_comm, get_or-set_other, ext_get_or}
 use borrow.Author.Tests.{eqb-true, eqb-false}
 use Rattle.layout.specs.Table.{zeros}
 
--- the first word becomes 0, then the others
-pub zeros_step : (w : List ℕ) (a n m : ℕ) → n ≡ suc m → zeros w a n ≡ zeros (set w a 0) (a + 1) m
+-- words that are filled with 0
+pub zeros_filled : (n a : ℕ) (w : List ℕ) → a + n ≤ length w → put_mid a n w (replicate n 0) ≡ zeros w a n
 unfolding zeros
-zeros_step w a n m e = ap (λ (z : ℕ). zeros w a z) e
+zeros_filled zero a w h = take-append-drop a w
+zeros_filled (suc n) a w h = step ∙ zeros_filled n (a + 1) (set w a 0) (omega (arith, length-set w a 0))
+  where
+    front : take (a + 1) (set w a 0) ≡ take a w ++ (0 ∷ [])
+    front = rw add-one (take-suc-set w a 0 (omega arith))
 
--- no word
-pub zeros_none : (w : List ℕ) (a n : ℕ) → n ≡ 0 → zeros w a n ≡ w
-unfolding zeros
-zeros_none w a n e = ap (λ (z : ℕ). zeros w a z) e
+    rest : drop n (drop (a + 1) (set w a 0)) ≡ drop (suc n) (drop a w)
+    rest = rw (drop-set-lt (a + 1) w a 0 (omega arith), drop-drop n (a + 1) w, drop-drop (suc n) a w) (ap (λ k. drop k w) (omega arith))
+
+    step : put_mid a (suc n) w (replicate (suc n) 0) ≡ put_mid (a + 1) n (set w a 0) (replicate n 0)
+    step = rw (front, rest, append_assoc) refl
 
 -- what was written among the words that become 0 is lost
 pub zeros_set : (n : ℕ) (w : List ℕ) (a j x : ℕ) → a ≤ j → j < a + n → zeros (set w j x) a n ≡ zeros w a n

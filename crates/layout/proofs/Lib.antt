@@ -1,6 +1,5 @@
 pub mod Signed
 pub mod Clearing
-pub mod Nans
 pub mod Packed
 pub mod Shapes
 pub mod TableLaws

@@ -33,30 +33,22 @@ pub fn link(work: &[u32], height: usize, k: usize) -> usize
 // A size and a mark share a word.
 const SIZES: u32 = 4096;
 
-fn pack(mark: usize, size: usize) -> u32
-    requires { (mark ≤ WORK) × (size < SIZES) }
-    ensures { result ≡ SIZES * mark + size }
-{
-    SIZES * (mark as u32) + size as u32
-}
-
 // How many slots the frame sees.
 pub fn size(work: &[u32], height: usize) -> usize
     requires { (WORK ≤ length work.now) × (height < FRAMES) }
     ensures { result ≡ frame_size work.now height }
 {
-    let both = word(work, height, MARK);
-    (both % SIZES) as usize
+    (word(work, height, MARK) % SIZES) as usize
 }
 
 pub fn mark(work: &[u32], height: usize) -> usize
     requires { (WORK ≤ length work.now) × (height < FRAMES) }
     ensures { result ≡ frame_mark work.now height }
 {
-    let both = word(work, height, MARK);
-    (both / SIZES) as usize
+    (word(work, height, MARK) / SIZES) as usize
 }
 
+#[tactic(auto, unfolding(crate::specs::Frames::put_frame))]
 pub fn put(
     work: &mut [u32],
     height: usize,
@@ -71,14 +63,14 @@ pub fn put(
     ensures { work.new ≡ put_frame work.old height node phase base size mark }
 {
     let at = FRAMES_AT + 4 * height;
-    let both = pack(mark, size);
     work[at] = node as u32;
     work[at + PHASE] = phase;
     work[at + BASE] = base as u32;
-    work[at + MARK] = both;
+    work[at + MARK] = SIZES * (mark as u32) + size as u32;
 }
 
 // The frame waits for another part.
+#[tactic(auto, unfolding(crate::specs::Frames::put_phase))]
 pub fn turn(work: &mut [u32], height: usize, phase: u32)
     requires { (WORK ≤ length work.old) × (height < FRAMES) }
     ensures { work.new ≡ put_phase work.old height phase }

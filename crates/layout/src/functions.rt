@@ -28,6 +28,7 @@ pub fn row(table: &[u32], k: usize) -> usize
     word(table, k) as usize
 }
 
+#[tactic(auto, unfolding(crate::specs::Table::put_function))]
 pub fn put(table: &mut [u32], k: usize, row: u32)
     requires { (TABLE ≤ length table.old) × (k < TOKENS) }
     ensures { table.new ≡ put_function table.old k row }

@@ -7,9 +7,5 @@ pub fn clear(words: &mut [u32], from: usize, to: usize)
     requires { (from ≤ to) × (to ≤ length words.old) }
     ensures { words.new ≡ zeros words.old from (to - from) }
 {
-    let mut i = from;
-    while i < to {
-        words[i] = 0;
-        i += 1;
-    }
+    words[from..to].fill(0);
 }

@@ -65,6 +65,7 @@ pub fn link(table: &[u32], row: usize, k: usize) -> usize
     word(table, row, k) as usize
 }
 
+#[tactic(auto, unfolding(crate::specs::Table::put_row))]
 pub fn put(table: &mut [u32], row: usize, kind: u32, own: u32, first: u32, second: u32, third: u32)
     requires { (TABLE ≤ length table.old) × (row < NODES) }
     ensures { table.new ≡ put_row table.old row kind own first second third }

@@ -7,14 +7,8 @@ ghost use Rattle.layout.specs.Table.{kind_of, put_token};
 // Where a token begins and where it ends share a word.
 const SPANS: u32 = 65536;
 
-fn pack(place: u32, end: u32) -> u32
-    requires { (place < SPANS) × (end < SPANS) }
-    ensures { result ≡ SPANS * end + place }
-{
-    SPANS * end + place
-}
-
 // The kind of a token, PAST where there is none.
+#[tactic(auto, unfolding(crate::specs::Table::kind_of))]
 pub fn kind(table: &[u32], count: usize, at: usize) -> u32
     requires { (TABLE ≤ length table.now) × (count ≤ TOKENS) }
     ensures { result ≡ kind_of table.now count at }
@@ -27,8 +21,7 @@ pub fn place(table: &[u32], at: usize) -> u32
     requires { (TABLE ≤ length table.now) × (at < TOKENS) }
     ensures { result ≡ token_place table.now at }
 {
-    let both = table[4 * at + 1];
-    both % SPANS
+    table[4 * at + 1] % SPANS
 }
 
 // The byte behind a token's last.
@@ -36,8 +29,7 @@ pub fn end(table: &[u32], at: usize) -> u32
     requires { (TABLE ≤ length table.now) × (at < TOKENS) }
     ensures { result ≡ token_end table.now at }
 {
-    let both = table[4 * at + 1];
-    both / SPANS
+    table[4 * at + 1] / SPANS
 }
 
 // A number's value, a name's number, or the low half of a float number's bits.
@@ -56,14 +48,14 @@ pub fn high(table: &[u32], at: usize) -> u32
     table[4 * at + 2]
 }
 
+#[tactic(auto, unfolding(crate::specs::Table::put_token))]
 pub fn put(table: &mut [u32], at: usize, kind: u32, place: u32, end: u32, high: u32, value: u32)
     requires { (TABLE ≤ length table.old) × (at < TOKENS) × (place < SPANS) × (end < SPANS) }
     ensures { table.new ≡ put_token table.old at kind place end high value }
 {
     let w = 4 * at;
-    let both = pack(place, end);
     table[w] = kind;
-    table[w + 1] = both;
+    table[w + 1] = SPANS * end + place;
     table[w + 2] = high;
     table[w + 3] = value;
 }

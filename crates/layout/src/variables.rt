@@ -21,6 +21,7 @@ pub fn type_number(table: &[u32], at: usize) -> u32
     table[VARIABLES_AT + 2 * at + 1]
 }
 
+#[tactic(auto, unfolding(crate::specs::Table::put_variable))]
 pub fn put(table: &mut [u32], at: usize, name: u32, number: u32)
     requires { (TABLE ≤ length table.old) × (at < TOKENS) }
     ensures { table.new ≡ put_variable table.old at name number }

@@ -15,7 +15,7 @@ returns-in-Float c =
     let t : T (fits binary64 x) = search rules in
     let b = c.bits-n.ensures in (
       ap tag_of (sym e),
-      c.low-low.ensures ∙ ap (λ (n : ℕ). n % HALF) b ∙ ap low_of (sym e),
-      c.high-high.ensures ∙ ap (λ (n : ℕ). n / HALF) b ∙ ap high_of (sym e),
+      c.low.ensures ∙ ap (λ (n : ℕ). n % HALF) b ∙ ap low_of (sym e),
+      c.high.ensures ∙ ap (λ (n : ℕ). n / HALF) b ∙ ap high_of (sym e),
       rw e (ap float (float_back x t)),
     )
