@@ -15,7 +15,7 @@ use language::{TABLE, kinds};
 use layout::{functions, memory, rows, token};
 use numbers::Refusal;
 use sheets::Seen;
-use tokens::view::{View, byte};
+use tokens::view::{Text, View};
 
 // What is told of a sheet; where a refusal has its place is told by check.
 #[derive(Clone, Copy)]
@@ -34,9 +34,14 @@ fn spelled(first: &[u8], second: &[u8], at: usize, end: usize, name: &[u8]) -> b
     if end - at != name.len() {
         return false;
     }
+    let text = Text {
+        first,
+        second,
+        view: View::Joined,
+    };
     let mut i = 0;
     while i < name.len() {
-        if byte(first, second, View::Joined, at + i) != name[i] {
+        if text.byte(at + i) != name[i] {
             return false;
         }
         i += 1;

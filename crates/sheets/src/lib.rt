@@ -11,7 +11,7 @@ ghost use Rattle.language.specs.Stored.{from_stored};
 ghost use Rattle.checker.specs.Checked.{Checkable};
 ghost use Rattle.reader.specs.Findings.{Standing};
 ghost use Rattle.tokens.specs.Editions.{meant};
-ghost use Rattle.tokens.specs.Shown.{text_of};
+ghost use Rattle.tokens.specs.Shown.{shown};
 ghost use Rattle.sheets.specs.Sheets.{byte_of, Typed, Read, Placed, Near, lined_of, Examined};
 ghost use Rattle.sheets.specs.Forms.{origin_of, place_of};
 
@@ -22,7 +22,7 @@ use rules::Typing;
 use stored::Stored;
 use tokens::answer::Split;
 use tokens::edition::{Edition, Known, named};
-use tokens::view::{View, len};
+use tokens::view::{Text, View};
 
 // What becomes of tokens: a program, as the table holds it, with its type's number; or why they are none,
 // and the ordinal of the token at which this is told.
@@ -105,13 +105,18 @@ fn placed(table: &[u32], count: usize, end: usize, verdict: Verdict) -> Seen
 // What becomes of the source that a view shows, in an edition.
 fn examine_in(edition: Edition, first: &[u8], second: &[u8], view: View, table: &mut [u32]) -> Seen
     requires { TABLE ≤ length table.old }
-    ensures { Examined (from_text (meant edition) (text_of first.entry second.entry view)) table.old
+    ensures { Examined (from_text (meant edition) (shown first.now second.now view)) table.old
         table.new result }
 {
-    match tokens::split(edition, first, second, view, table) {
+    let text = Text {
+        first,
+        second,
+        view,
+    };
+    match tokens::split(edition, &text, table) {
         Split::Tokens(count) => {
             let verdict = read(table, count);
-            let end = len(first, second, view);
+            let end = text.len();
             placed(table, count, end, verdict)
         }
         Split::Stopped(flaw, at) => Seen::Refused(Refusal::Text(flaw), at),
@@ -122,7 +127,7 @@ fn examine_in(edition: Edition, first: &[u8], second: &[u8], view: View, table: 
 // In the edition that a number names; where it names none, that is told before all else.
 pub fn examine(edition: u32, first: &[u8], second: &[u8], view: View, table: &mut [u32]) -> Seen
     requires { TABLE ≤ length table.old }
-    ensures { Examined (text_in edition (text_of first.entry second.entry view)) table.old
+    ensures { Examined (text_in edition (shown first.now second.now view)) table.old
         table.new result }
 {
     match named(edition) {
@@ -207,8 +212,12 @@ pub fn place_in(
     let ordinal = at as usize;
     match form {
         Form::Text(view) => {
-            let end = len(first, second, view);
-            place(table, count, end, ordinal)
+            let text = Text {
+                first,
+                second,
+                view,
+            };
+            place(table, count, text.len(), ordinal)
         }
         Form::Lines => ordinal + 2,
     }

@@ -8,7 +8,7 @@ use crate::lines::{Line, line_at};
 use numbers::Refusal;
 use tokens::edition::Edition;
 use tokens::pieces::{Piece, piece_at};
-use tokens::view::{View, len};
+use tokens::view::{Text, View};
 
 #[derive(Clone, Copy)]
 pub enum Entry {
@@ -23,10 +23,14 @@ fn token_on(edition: Edition, stored: &[u8], at: usize, end: usize) -> Entry
     requires { LineTo stored.now at end }
     ensures { IsEntry (meant edition) stored.now at result }
 {
-    let view = View::Line { from: at, to: end };
-    match piece_at(edition, stored, stored, view, 0) {
+    let text = Text {
+        first: stored,
+        second: stored,
+        view: View::Line { from: at, to: end },
+    };
+    match piece_at(edition, &text, 0) {
         Piece::Token(kind, size, worth) => {
-            if size == len(stored, stored, view) {
+            if size == text.len() {
                 return Entry::Token { kind, worth, end };
             }
             Entry::Faulty(Refusal::NotOneToken)

@@ -3,7 +3,7 @@ ghost use Rattle.std.specs.Prelude.{◌≤◌, length};
 ghost use Rattle.stored.specs.Lines.{IsLine, IsCount};
 
 use tokens::bytes::{Class, run_end};
-use tokens::view::{View, byte};
+use tokens::view::{Text, View};
 
 #[derive(Clone, Copy)]
 pub enum Line {
@@ -17,14 +17,19 @@ pub fn line_at(stored: &[u8], at: usize) -> Line
     requires { at ≤ length stored.now }
     ensures { IsLine stored.now at result }
 {
-    let end = run_end(stored, stored, View::Plain, at, Class::Capital);
+    let text = Text {
+        first: stored,
+        second: stored,
+        view: View::Plain,
+    };
+    let end = run_end(&text, at, Class::Capital);
     if end == at {
         return Line::Faulty;
     }
     if (end - at) % 2 != 0 {
         return Line::Faulty;
     }
-    if byte(stored, stored, View::Plain, end) != b'\n' {
+    if text.byte(end) != b'\n' {
         return Line::Faulty;
     }
     Line::Digits(end)
@@ -45,9 +50,13 @@ pub fn count_of(stored: &[u8]) -> Count
             if end != 4 {
                 return Count::None;
             }
-            let view = View::Line { from: 0, to: 4 };
-            let high = byte(stored, stored, view, 0) as usize;
-            let low = byte(stored, stored, view, 1) as usize;
+            let text = Text {
+                first: stored,
+                second: stored,
+                view: View::Line { from: 0, to: 4 },
+            };
+            let high = text.byte(0) as usize;
+            let low = text.byte(1) as usize;
             Count::Is(high * 256 + low)
         }
         Line::Faulty => Count::None,

@@ -8,9 +8,8 @@ ghost use Rattle.stored.specs.Names.{Searchable, First, Numbered, TableWorth, di
 
 use language::kinds;
 use layout::{PUTCHAR, token};
-use tokens::bytes::spells;
 use tokens::forks::{STARTS_AT, hang, way_end};
-use tokens::view::{View, len};
+use tokens::view::{Text, View};
 
 // The ordinal of the first of the tokens in the table whose line has the digits from p up to q, which are to be the
 // next one; where none has, their count. Where the line of a token begins is told behind the forks.
@@ -23,22 +22,16 @@ fn first_alike(stored: &[u8], table: &mut [u32], count: usize, p: usize, q: usiz
     if count == 0 {
         return 0;
     }
-    let at = way_end(stored, stored, View::Plain, table, count, p, q);
+    let text = Text {
+        first: stored,
+        second: stored,
+        view: View::Plain,
+    };
+    let at = way_end(&text, table, count, p, q);
     let leaf = table[at] as usize;
     let from = table[STARTS_AT + leaf] as usize;
     let to = from + token::end(table, leaf) as usize * 2;
-    if hang(
-        stored,
-        stored,
-        View::Plain,
-        table,
-        at,
-        count,
-        from,
-        to,
-        p,
-        q,
-    ) {
+    if hang(&text, table, at, count, from, to, p, q) {
         return leaf;
     }
     count
@@ -52,9 +45,13 @@ fn name_number(stored: &[u8], table: &mut [u32], count: usize, p: usize, q: usiz
         (slice p q stored.now) }
 {
     let ordinal = first_alike(stored, table, count, p, q);
-    let view = View::Line { from: p, to: q };
-    let size = len(stored, stored, view);
-    if spells(stored, stored, view, 0, size, b"putchar") {
+    let text = Text {
+        first: stored,
+        second: stored,
+        view: View::Line { from: p, to: q },
+    };
+    let size = text.len();
+    if text.spells(0, size, b"putchar") {
         return PUTCHAR;
     }
     ordinal as u32

@@ -13,7 +13,8 @@ use Rattle.language.proofs.Pairs.Joined.{joined_length}
 use Rattle.language.proofs.Text.Choices.{either}
 use Rattle.language.specs.Pairs.{joined}
 use Rattle.language.specs.Text.{byte}
-use Rattle.tokens.specs.Shown.{two, told, shown}
+use Rattle.tokens.specs.Shown.{two, told, shown, text_of}
+use Rattle.tokens.specs.declared.view.Text as text
 use Rattle.tokens.specs.declared.view.View as view
 use Rattle.tokens.specs.declared.view.View.TheVariants.{Plain, Joined, Line}
 
@@ -69,11 +70,14 @@ module _ (t : List ℕ) (from to i : ℕ) {n : ℕ} (e : n ≡ length (told (sli
 -- ---- any view
 
 -- no longer than both sheets and a byte between them
-pub shown_long : (first second : List ℕ) (v : view.View) → length (shown first second v) ≤ length first + 1 + length second
+shown_long : (first second : List ℕ) (v : view.View) → length (shown first second v) ≤ length first + 1 + length second
 shown_long first second Plain = omega arith
 shown_long first second Joined = omega (arith, joined_length first second)
 shown_long first second (Line from to) =
     omega (arith, told_long (slice from to first), (slice_long first from to).1)
+
+pub text_long : (t : text.Text) → length (text_of t) ≤ length t.first.now + 1 + length t.second.now
+text_long t = shown_long t.first.now t.second.now t.view
 
 -- ---- two sheets against a limit, of which no sum is made
 

@@ -1,9 +1,9 @@
 -- The bytes that a view shows of two sheets, and those that hexadecimal digits tell.
-use Rattle.std.specs.Borrow.{Bor}
 use Rattle.std.specs.Prelude.{ltb, Bool, List, [], ◌∷◌, ℕ, ◌+◌, ◌*◌, ◌%◌}
 use Rattle.std.proofs.Math.Seq.{slice}
 use Rattle.language.proofs.Stored.Hex.{digit_worth}
 use Rattle.language.specs.Pairs.{joined}
+use Rattle.tokens.specs.declared.view.Text as text
 use Rattle.tokens.specs.declared.view.View as view
 use Rattle.tokens.specs.declared.view.View.TheVariants.{Plain, Joined, Line}
 
@@ -30,6 +30,6 @@ shown first second Plain = first
 shown first second Joined = joined first second
 shown first second (Line from to) = told (slice from to first)
 
--- the text of two sheets that are lent
-abbrev pub text_of : Bor (List ℕ) → Bor (List ℕ) → view.View → List ℕ
-text_of first second v = shown first.now second.now v
+-- the bytes of a text
+abbrev pub text_of : text.Text → List ℕ
+text_of t = shown t.first.now t.second.now t.view

@@ -2,7 +2,7 @@
 // ends.
 ghost use Rattle.std.specs.Prelude.{true, ◌≡◌, ◌+◌, ◌≤◌, length};
 ghost use Rattle.std.proofs.Math.Seq.{slice};
-ghost use Rattle.language.specs.Text as Text;
+ghost use Rattle.language.specs.Text.{worth};
 ghost use Rattle.language.specs.Text.{is_blank, is_letter, is_digit, is_hex_digit, is_digit_of};
 ghost use Rattle.language.specs.Text.{is_name_byte, is_in_line};
 ghost use Rattle.language.proofs.Text.Runs.{Run};
@@ -12,7 +12,7 @@ ghost use Rattle.tokens.specs.Found.{is_of};
 ghost use Rattle.tokens.specs.Shown.{text_of};
 
 use crate::hexadecimal::is_capital;
-use crate::view::{View, ahead, byte, len};
+use crate::view::Text;
 
 pub fn is_letter(b: u8) -> bool
     ensures { result ≡ is_letter b }
@@ -59,7 +59,7 @@ pub fn is_hex_digit(b: u8) -> bool
 // What such a digit is worth.
 pub fn worth(b: u8) -> u64
     requires { is_hex_digit b ≡ true }
-    ensures { result ≡ Text.worth b }
+    ensures { result ≡ worth b }
 {
     if b <= b'9' {
         return (b - b'0') as u64;
@@ -143,14 +143,14 @@ pub fn is_of(class: Class, b: u8) -> bool
 }
 
 // Where the run of bytes of a class from a place on ends.
-pub fn run_end(first: &[u8], second: &[u8], view: View, at: usize, class: Class) -> usize
-    requires { at ≤ length (text_of first second view) }
-    ensures { Run (is_of class) (text_of first.entry second.entry view) at result }
+pub fn run_end(text: &Text, at: usize, class: Class) -> usize
+    requires { at ≤ length (text_of text.now) }
+    ensures { Run (is_of class) (text_of text.now) at result }
 {
-    let size = len(first, second, view);
+    let size = text.len();
     let mut i = at;
     while i < size {
-        if !is_of(class, byte(first, second, view, i)) {
+        if !is_of(class, text.byte(i)) {
             return i;
         }
         i += 1;
@@ -160,14 +160,14 @@ pub fn run_end(first: &[u8], second: &[u8], view: View, at: usize, class: Class)
 
 // Where the name that goes on at a place ends. Names, digits and lines are most of a text, so each has a loop of its
 // own, which need not ask for its class at each byte.
-pub fn name_end(first: &[u8], second: &[u8], view: View, at: usize) -> usize
-    requires { at ≤ length (text_of first second view) }
-    ensures { Run is_name_byte (text_of first.entry second.entry view) at result }
+pub fn name_end(text: &Text, at: usize) -> usize
+    requires { at ≤ length (text_of text.now) }
+    ensures { Run is_name_byte (text_of text.now) at result }
 {
-    let size = len(first, second, view);
+    let size = text.len();
     let mut i = at;
     while i < size {
-        if !is_name_byte(byte(first, second, view, i)) {
+        if !is_name_byte(text.byte(i)) {
             return i;
         }
         i += 1;
@@ -176,22 +176,22 @@ pub fn name_end(first: &[u8], second: &[u8], view: View, at: usize) -> usize
 }
 
 // Where the digits of a base that go on at a place end.
-pub fn digits_end(first: &[u8], second: &[u8], view: View, at: usize, base: u64) -> usize
-    requires { at ≤ length (text_of first second view) }
-    ensures { Run (is_digit_of base) (text_of first.entry second.entry view) at result }
+pub fn digits_end(text: &Text, at: usize, base: u64) -> usize
+    requires { at ≤ length (text_of text.now) }
+    ensures { Run (is_digit_of base) (text_of text.now) at result }
 {
-    run_end(first, second, view, at, Class::DigitOf(base))
+    run_end(text, at, Class::DigitOf(base))
 }
 
 // The same of those of base 10.
-pub fn decimal_end(first: &[u8], second: &[u8], view: View, at: usize) -> usize
-    requires { at ≤ length (text_of first second view) }
-    ensures { Run is_digit (text_of first.entry second.entry view) at result }
+pub fn decimal_end(text: &Text, at: usize) -> usize
+    requires { at ≤ length (text_of text.now) }
+    ensures { Run is_digit (text_of text.now) at result }
 {
-    let size = len(first, second, view);
+    let size = text.len();
     let mut i = at;
     while i < size {
-        if !is_digit(byte(first, second, view, i)) {
+        if !is_digit(text.byte(i)) {
             return i;
         }
         i += 1;
@@ -200,14 +200,14 @@ pub fn decimal_end(first: &[u8], second: &[u8], view: View, at: usize) -> usize
 }
 
 // Where the line that goes on at a place ends: at its LF, which is not among its bytes, or with the text.
-pub fn line_end(first: &[u8], second: &[u8], view: View, at: usize) -> usize
-    requires { at ≤ length (text_of first second view) }
-    ensures { Run is_in_line (text_of first.entry second.entry view) at result }
+pub fn line_end(text: &Text, at: usize) -> usize
+    requires { at ≤ length (text_of text.now) }
+    ensures { Run is_in_line (text_of text.now) at result }
 {
-    let size = len(first, second, view);
+    let size = text.len();
     let mut i = at;
     while i < size {
-        if !is_in_line(byte(first, second, view, i)) {
+        if !is_in_line(text.byte(i)) {
             return i;
         }
         i += 1;
@@ -215,43 +215,45 @@ pub fn line_end(first: &[u8], second: &[u8], view: View, at: usize) -> usize
     i
 }
 
-// Do these bytes stand at a place?
-pub fn stands_at(first: &[u8], second: &[u8], view: View, at: usize, bytes: &[u8]) -> bool
-    requires { at ≤ length (text_of first second view) }
-    ensures { result ≡ stands (text_of first.entry second.entry view) at bytes.now }
-{
-    let mut i = 0;
-    while i < bytes.len() {
-        if ahead(first, second, view, at, i) != bytes[i] {
+impl<'a> Text<'a> {
+    // Do these bytes stand at a place?
+    pub fn stands_at(&self, at: usize, bytes: &[u8]) -> bool
+        requires { at ≤ length (text_of self.now) }
+        ensures { result ≡ stands (text_of self.now) at bytes.now }
+    {
+        let mut i = 0;
+        while i < bytes.len() {
+            if self.ahead(at, i) != bytes[i] {
+                return false;
+            }
+            i += 1;
+        }
+        true
+    }
+
+    // The same where the text has as many bytes from there on.
+    pub fn stands_within(&self, at: usize, bytes: &[u8]) -> bool
+        requires { at + length bytes.now ≤ length (text_of self.now) }
+        ensures { result ≡ stands (text_of self.now) at bytes.now }
+    {
+        let mut i = 0;
+        while i < bytes.len() {
+            if self.byte(at + i) != bytes[i] {
+                return false;
+            }
+            i += 1;
+        }
+        true
+    }
+
+    // Do the bytes from p up to q spell this?
+    pub fn spells(&self, p: usize, q: usize, bytes: &[u8]) -> bool
+        requires { (p ≤ q) × (q ≤ length (text_of self.now)) }
+        ensures { result ≡ same bytes.now (slice p q (text_of self.now)) }
+    {
+        if bytes.len() != q - p {
             return false;
         }
-        i += 1;
+        self.stands_at(p, bytes)
     }
-    true
-}
-
-// The same where the text has as many bytes from there on.
-pub fn stands_within(first: &[u8], second: &[u8], view: View, at: usize, bytes: &[u8]) -> bool
-    requires { at + length bytes.now ≤ length (text_of first second view) }
-    ensures { result ≡ stands (text_of first.entry second.entry view) at bytes.now }
-{
-    let mut i = 0;
-    while i < bytes.len() {
-        if byte(first, second, view, at + i) != bytes[i] {
-            return false;
-        }
-        i += 1;
-    }
-    true
-}
-
-// Do the bytes from p up to q spell this?
-pub fn spells(first: &[u8], second: &[u8], view: View, p: usize, q: usize, bytes: &[u8]) -> bool
-    requires { (p ≤ q) × (q ≤ length (text_of first second view)) }
-    ensures { result ≡ same bytes.now (slice p q (text_of first.entry second.entry view)) }
-{
-    if bytes.len() != q - p {
-        return false;
-    }
-    stands_at(first, second, view, p, bytes)
 }

@@ -1,10 +1,10 @@
 // Comments within comments.
 ghost use Rattle.std.specs.Prelude.{◌<◌, length};
-ghost use Rattle.language.specs.Text as Text;
+ghost use Rattle.language.specs.Text.{Opens};
 ghost use Rattle.tokens.specs.Found.{IsPair, IsClose};
 ghost use Rattle.tokens.specs.Shown.{text_of};
 
-use crate::view::{View, byte, len};
+use crate::view::Text;
 
 #[derive(Clone, Copy)]
 pub enum Pair {
@@ -14,13 +14,13 @@ pub enum Pair {
 }
 
 // Whether `/*` or `*/` stands at a place.
-pub fn pair_at(first: &[u8], second: &[u8], view: View, at: usize) -> Pair
-    requires { at < length (text_of first second view) }
-    ensures { IsPair (text_of first.entry second.entry view) at result }
+pub fn pair_at(text: &Text, at: usize) -> Pair
+    requires { at < length (text_of text.now) }
+    ensures { IsPair (text_of text.now) at result }
 {
-    let here = byte(first, second, view, at);
+    let here = text.byte(at);
     if here == b'/' {
-        if byte(first, second, view, at + 1) == b'*' {
+        if text.byte(at + 1) == b'*' {
             return Pair::Opens;
         }
         return Pair::Neither;
@@ -28,7 +28,7 @@ pub fn pair_at(first: &[u8], second: &[u8], view: View, at: usize) -> Pair
     if here != b'*' {
         return Pair::Neither;
     }
-    if byte(first, second, view, at + 1) == b'/' {
+    if text.byte(at + 1) == b'/' {
         return Pair::Closes;
     }
     Pair::Neither
@@ -42,18 +42,18 @@ pub enum Close {
 
 // Where the comment that opens at a place ends. Each mark takes its two bytes, so the inside begins
 // behind both bytes of `/*`, and `/*/` is not closed.
-pub fn comment_end(first: &[u8], second: &[u8], view: View, at: usize) -> Close
-    requires { Text.Opens (text_of first second view) at }
-    ensures { IsClose (text_of first.entry second.entry view) at result }
+pub fn comment_end(text: &Text, at: usize) -> Close
+    requires { Opens (text_of text.now) at }
+    ensures { IsClose (text_of text.now) at result }
 {
-    let size = len(first, second, view);
+    let size = text.len();
     let mut depth: usize = 1;
     let mut i = at + 2;
     while 0 < depth {
         if size <= i {
             return Close::Never;
         }
-        match pair_at(first, second, view, i) {
+        match pair_at(text, i) {
             Pair::Opens => {
                 depth += 1;
                 i += 2;

@@ -7,18 +7,18 @@ ghost use Rattle.layout.specs.Names.{float_bits};
 ghost use Rattle.tokens.specs.Found.{Decimal};
 ghost use Rattle.tokens.specs.Shown.{text_of};
 
-use crate::view::{View, byte};
+use crate::view::Text;
 
 // The whole number of all its digits. They are few, so no product can wrap.
-fn all_digits(first: &[u8], second: &[u8], view: View, at: usize, point: usize, end: usize) -> u64
-    requires { Decimal (text_of first second view) at point end }
-    ensures { (result ≡ digits_from 0 (slice at end (text_of first.entry second.entry view))) × (result ≤ 10 ^ DIGITS) }
+fn all_digits(text: &Text, at: usize, point: usize, end: usize) -> u64
+    requires { Decimal (text_of text.now) at point end }
+    ensures { (result ≡ digits_from 0 (slice at end (text_of text.now))) × (result ≤ 10 ^ DIGITS) }
 {
     let mut value: u64 = 0;
     let mut i = at;
     while i < end {
         if i != point {
-            value = value * 10 + (byte(first, second, view, i) - b'0') as u64;
+            value = value * 10 + (text.byte(i) - b'0') as u64;
         }
         i += 1;
     }
@@ -40,11 +40,11 @@ fn power_of_ten(n: usize) -> u64
 
 // The bits of the float number from one place up to another, with its point between them. Both whole
 // numbers are floats with nothing lost, so it is rounded once, by the division.
-pub fn bits(first: &[u8], second: &[u8], view: View, at: usize, point: usize, end: usize) -> u64
-    requires { Decimal (text_of first second view) at point end }
-    ensures { result ≡ float_bits (slice at end (text_of first.entry second.entry view)) }
+pub fn bits(text: &Text, at: usize, point: usize, end: usize) -> u64
+    requires { Decimal (text_of text.now) at point end }
+    ensures { result ≡ float_bits (slice at end (text_of text.now)) }
 {
-    let all = all_digits(first, second, view, at, point, end);
+    let all = all_digits(text, at, point, end);
     let power = power_of_ten(end - (point + 1));
     layout::floats::bits((all as f64) / (power as f64))
 }

@@ -12,7 +12,7 @@ ghost use Rattle.tokens.specs.Forks.{start_at, letter_at, Askable, Seekable, End
 ghost use Rattle.tokens.specs.Forks.{Forkable, Forked, Hangable, Hung, Begun};
 ghost use Rattle.tokens.specs.Shown.{text_of};
 
-use crate::view::{View, byte};
+use crate::view::Text;
 use language::TOKENS;
 use layout::ROWS_AT;
 use layout::memory::clear;
@@ -45,53 +45,37 @@ fn start(size: usize) -> usize
 }
 
 // One more than a byte of those from p up to q; 0 past the last.
-fn letter(first: &[u8], second: &[u8], view: View, p: usize, q: usize, i: usize) -> u32
-    requires { (p ≤ q) × (q ≤ length (text_of first second view)) }
-    ensures { (result ≡ letter_at (slice p q (text_of first.entry second.entry view)) i) × (result ≤ 256) }
+fn letter(text: &Text, p: usize, q: usize, i: usize) -> u32
+    requires { (p ≤ q) × (q ≤ length (text_of text.now)) }
+    ensures { (result ≡ letter_at (slice p q (text_of text.now)) i) × (result ≤ 256) }
 {
     if q - p <= i {
         return 0;
     }
-    byte(first, second, view, p + i) as u32 + 1
+    text.byte(p + i) as u32 + 1
 }
 
 // The word with the link of a fork that the bytes from p up to q take.
-fn link(
-    first: &[u8],
-    second: &[u8],
-    view: View,
-    table: &[u32],
-    fork: usize,
-    p: usize,
-    q: usize,
-) -> usize
-    requires { Askable (text_of first second view) table.now fork p q }
-    ensures { result ≡ Forks.link table.now (slice p q (text_of first.entry second.entry view)) fork }
+fn link(text: &Text, table: &[u32], fork: usize, p: usize, q: usize) -> usize
+    requires { Askable (text_of text.now) table.now fork p q }
+    ensures { result ≡ Forks.link table.now (slice p q (text_of text.now)) fork }
 {
     let place = table[4 * fork] as usize;
     let bit = table[4 * fork + 1];
-    let asked = letter(first, second, view, p, q, place);
+    let asked = letter(text, p, q, place);
     let turn = asked / bit % 2;
     4 * fork + 2 + turn as usize
 }
 
 // The word with the link at which the way of the bytes from p up to q ends.
-pub fn way_end(
-    first: &[u8],
-    second: &[u8],
-    view: View,
-    table: &[u32],
-    count: usize,
-    p: usize,
-    q: usize,
-) -> usize
-    requires { Seekable (text_of first second view) table.now count p q }
-    ensures { Ends table.now (slice p q (text_of first.entry second.entry view)) result }
+pub fn way_end(text: &Text, table: &[u32], count: usize, p: usize, q: usize) -> usize
+    requires { Seekable (text_of text.now) table.now count p q }
+    ensures { Ends table.now (slice p q (text_of text.now)) result }
 {
     let mut at = start(q - p);
     let mut to = table[at] as usize;
     while TOKENS <= to {
-        at = link(first, second, view, table, to, p, q);
+        at = link(text, table, to, p, q);
         to = table[at] as usize;
     }
     at
@@ -106,19 +90,11 @@ pub enum Parting {
 }
 
 // A letter that tells the bytes from a up to b from those from p up to q.
-fn compare(
-    first: &[u8],
-    second: &[u8],
-    view: View,
-    a: usize,
-    b: usize,
-    p: usize,
-    q: usize,
-) -> Parting
-    requires { (a ≤ b) × (b ≤ length (text_of first second view))
-        × (p ≤ q) × (q ≤ length (text_of first second view)) }
-    ensures { IsParting (slice a b (text_of first.entry second.entry view))
-        (slice p q (text_of first.entry second.entry view)) result }
+fn compare(text: &Text, a: usize, b: usize, p: usize, q: usize) -> Parting
+    requires { (a ≤ b) × (b ≤ length (text_of text.now))
+        × (p ≤ q) × (q ≤ length (text_of text.now)) }
+    ensures { IsParting (slice a b (text_of text.now))
+        (slice p q (text_of text.now)) result }
 {
     if b - a < q - p {
         return Parting::At(b - a);
@@ -128,7 +104,7 @@ fn compare(
     }
     let mut i = 0;
     while i < b - a {
-        if byte(first, second, view, a + i) != byte(first, second, view, p + i) {
+        if text.byte(a + i) != text.byte(p + i) {
             return Parting::At(i);
         }
         i += 1;
@@ -190,9 +166,7 @@ fn fork(table: &mut [u32], at: usize, count: usize, place: usize, old: u32, new:
 // Is the token from p up to q, which is to be token `count`, spelled like the one from a up to b, at which its way
 // ends? If not, it gets a fork there.
 pub fn hang(
-    first: &[u8],
-    second: &[u8],
-    view: View,
+    text: &Text,
     table: &mut [u32],
     at: usize,
     count: usize,
@@ -201,16 +175,16 @@ pub fn hang(
     p: usize,
     q: usize,
 ) -> bool
-    requires { Hangable (text_of first second view) table.old at count a b p q }
+    requires { Hangable (text_of text.now) table.old at count a b p q }
     ensures { Hung table.old table.new at count
-        (slice a b (text_of first.entry second.entry view))
-        (slice p q (text_of first.entry second.entry view)) result }
+        (slice a b (text_of text.now))
+        (slice p q (text_of text.now)) result }
 {
-    match compare(first, second, view, a, b, p, q) {
+    match compare(text, a, b, p, q) {
         Parting::Same => true,
         Parting::At(i) => {
-            let old = letter(first, second, view, a, b, i);
-            let new = letter(first, second, view, p, q, i);
+            let old = letter(text, a, b, i);
+            let new = letter(text, p, q, i);
             fork(table, at, count, i, old, new);
             false
         }

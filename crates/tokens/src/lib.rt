@@ -29,15 +29,13 @@ mod worth;
 use crate::answer::Split;
 use crate::edition::Edition;
 use crate::pieces::Piece;
-use crate::view::{View, len, longer};
+use crate::view::Text;
 use language::{SOURCE, TOKENS, kinds};
 use numbers::Flaw;
 
 // What a token is worth in the table whose next one it is to be: a name its number.
 fn table_worth(
-    first: &[u8],
-    second: &[u8],
-    view: View,
+    text: &Text,
     table: &mut [u32],
     count: usize,
     kind: u32,
@@ -45,39 +43,39 @@ fn table_worth(
     q: usize,
     worth: u64,
 ) -> u64
-    requires { kind ≡ NAME → Searchable (text_of first second view) table.old count p q }
-    ensures { TableWorth (text_of first.entry second.entry view) table.old count kind
-        (slice p q (text_of first.entry second.entry view)) worth result
-        × Foretold (bytes_of (text_of first.entry second.entry view) table.old) table.old
-        table.new count kind (slice p q (text_of first.entry second.entry view)) }
+    requires { kind ≡ NAME → Searchable (text_of text.now) table.old count p q }
+    ensures { TableWorth (text_of text.now) table.old count kind
+        (slice p q (text_of text.now)) worth result
+        × Foretold (bytes_of (text_of text.now) table.old) table.old
+        table.new count kind (slice p q (text_of text.now)) }
 {
     if kind == kinds::NAME {
-        return names::name_number(first, second, view, table, count, p, q) as u64;
+        return names::name_number(text, table, count, p, q) as u64;
     }
     worth
 }
 
 // Splits the text into the tokens of an edition and writes them into the table, as far as the first flaw. The words of
 // rows and functions are used for it and left anyhow; all others stay as they were.
-pub fn split(edition: Edition, first: &[u8], second: &[u8], view: View, table: &mut [u32]) -> Split
+pub fn split(edition: Edition, text: &Text, table: &mut [u32]) -> Split
     requires { TABLE ≤ length table.old }
-    ensures { IsSplit (meant edition) (text_of first.entry second.entry view) table.old
+    ensures { IsSplit (meant edition) (text_of text.now) table.old
         table.new result }
 {
-    if longer(first, second, view, SOURCE) {
+    if text.longer(SOURCE) {
         return Split::TooLong;
     }
-    let size = len(first, second, view);
+    let size = text.len();
     forks::begin(table);
     let mut at = 0;
     let mut count = 0;
     while at < size {
-        let here = view::byte(first, second, view, at);
+        let here = text.byte(at);
         if bytes::is_blank(here) {
             at += 1;
             continue;
         }
-        match pieces::piece_of(edition, first, second, view, at, here) {
+        match pieces::piece_of(edition, text, at, here) {
             Piece::Space(end) => {
                 at = end;
             }
@@ -85,7 +83,7 @@ pub fn split(edition: Edition, first: &[u8], second: &[u8], view: View, table: &
                 if count == TOKENS {
                     return Split::Stopped(Flaw::ManyTokens, at);
                 }
-                let both = table_worth(first, second, view, table, count, kind, at, end, worth);
+                let both = table_worth(text, table, count, kind, at, end, worth);
                 let high = layout::floats::high(both);
                 let low = layout::floats::low(both);
                 layout::token::put(table, count, kind, at as u32, end as u32, high, low);

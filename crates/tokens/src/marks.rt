@@ -2,15 +2,14 @@
 ghost use Rattle.std.specs.Prelude.{cond, [], ◌∷◌, ◌≡◌, ◌+◌, ◌<◌, length};
 ghost use Rattle.language.proofs.Text.Places.{Begins};
 ghost use Rattle.language.proofs.Text.Places.Sort.{others};
-ghost use Rattle.language.specs.Text as Text;
+ghost use Rattle.language.specs.Text.{byte};
 ghost use Rattle.language.specs.Tokens.{EDITION_1, EDITION_2, PAST};
 ghost use Rattle.tokens.specs.Editions.{meant};
 ghost use Rattle.tokens.specs.Found.{IsMark, POINT, mark_kind};
 ghost use Rattle.tokens.specs.Shown.{text_of};
 
-use crate::bytes::stands_at;
 use crate::edition::Edition;
-use crate::view::{View, byte};
+use crate::view::Text;
 use language::kinds;
 
 #[derive(Clone, Copy)]
@@ -22,58 +21,51 @@ pub enum Mark {
 
 // The mark at a place where no blank, name, number or comment begins, and this byte stands: of those that stand there
 // the longest. Only with a point begin marks that edition 1 has not.
-pub fn mark_at(
-    edition: Edition,
-    first: &[u8],
-    second: &[u8],
-    view: View,
-    at: usize,
-    here: u8,
-) -> Mark
-    requires { (at < length (text_of first second view)) × Begins (text_of first second view) at others
-        × (here ≡ Text.byte (text_of first second view) at) }
-    ensures { IsMark (meant edition) (text_of first.entry second.entry view) at result }
+pub fn mark_at(edition: Edition, text: &Text, at: usize, here: u8) -> Mark
+    requires { (at < length (text_of text.now)) × Begins (text_of text.now) at others
+        × (here ≡ byte (text_of text.now) at) }
+    ensures { IsMark (meant edition) (text_of text.now) at result }
 {
     if here == b'.' {
-        return pointed(edition, first, second, view, at);
+        return pointed(edition, text, at);
     }
-    plain(first, second, view, at, here)
+    plain(text, at, here)
 }
 
 // With a point begins no mark of edition 1.
-fn pointed(edition: Edition, first: &[u8], second: &[u8], view: View, at: usize) -> Mark
-    requires { (at < length (text_of first second view)) × Begins (text_of first second view) at others
-        × (Text.byte (text_of first second view) at ≡ POINT) }
-    ensures { IsMark (meant edition) (text_of first.entry second.entry view) at result }
+fn pointed(edition: Edition, text: &Text, at: usize) -> Mark
+    requires { (at < length (text_of text.now)) × Begins (text_of text.now) at others
+        × (byte (text_of text.now) at ≡ POINT) }
+    ensures { IsMark (meant edition) (text_of text.now) at result }
 {
     match edition {
         Edition::One => Mark::None,
-        Edition::Two => points(first, second, view, at),
+        Edition::Two => points(text, at),
     }
 }
 
 // Edition 2 has two, of two points and of three bytes.
-fn points(first: &[u8], second: &[u8], view: View, at: usize) -> Mark
-    requires { (at < length (text_of first second view)) × Begins (text_of first second view) at others
-        × (Text.byte (text_of first second view) at ≡ POINT) }
-    ensures { IsMark EDITION_2 (text_of first.entry second.entry view) at result }
+fn points(text: &Text, at: usize) -> Mark
+    requires { (at < length (text_of text.now)) × Begins (text_of text.now) at others
+        × (byte (text_of text.now) at ≡ POINT) }
+    ensures { IsMark EDITION_2 (text_of text.now) at result }
 {
-    if stands_at(first, second, view, at, b"..=") {
+    if text.stands_at(at, b"..=") {
         return Mark::Is(kinds::THROUGH, 3);
     }
-    if stands_at(first, second, view, at, b"..") {
+    if text.stands_at(at, b"..") {
         return Mark::Is(kinds::UPTO, 2);
     }
     Mark::None
 }
 
 // The mark of edition 1 that begins with this byte.
-fn plain(first: &[u8], second: &[u8], view: View, at: usize, here: u8) -> Mark
-    requires { (at < length (text_of first second view)) × Begins (text_of first second view) at others
-        × (here ≡ Text.byte (text_of first second view) at) }
-    ensures { IsMark EDITION_1 (text_of first.entry second.entry view) at result }
+fn plain(text: &Text, at: usize, here: u8) -> Mark
+    requires { (at < length (text_of text.now)) × Begins (text_of text.now) at others
+        × (here ≡ byte (text_of text.now) at) }
+    ensures { IsMark EDITION_1 (text_of text.now) at result }
 {
-    let two = doubled(first, second, view, at, here);
+    let two = doubled(text, at, here);
     if two != kinds::PAST {
         return Mark::Is(two, 2);
     }
@@ -86,12 +78,12 @@ fn plain(first: &[u8], second: &[u8], view: View, at: usize, here: u8) -> Mark
 
 // The kind of the mark of this byte and the one behind a place, PAST where they are none. That byte is read only where
 // some mark of two bytes begins so.
-fn doubled(first: &[u8], second: &[u8], view: View, at: usize, here: u8) -> u32
-    requires { at < length (text_of first second view) }
-    ensures { result ≡ mark_kind (here ∷ Text.byte (text_of first.entry second.entry view) (at + 1) ∷ []) }
+fn doubled(text: &Text, at: usize, here: u8) -> u32
+    requires { at < length (text_of text.now) }
+    ensures { result ≡ mark_kind (here ∷ byte (text_of text.now) (at + 1) ∷ []) }
 {
     match here {
-        b'=' | b':' | b'&' | b'|' => double(here, byte(first, second, view, at + 1)),
+        b'=' | b':' | b'&' | b'|' => double(here, text.byte(at + 1)),
         _ => kinds::PAST,
     }
 }

@@ -1,6 +1,6 @@
 // What stands at a place of a text.
 ghost use Rattle.std.specs.Prelude.{false, ◌≡◌, ◌<◌, length};
-ghost use Rattle.language.specs.Text as Text;
+ghost use Rattle.language.specs.Text.{byte};
 ghost use Rattle.language.specs.Text.{is_blank};
 ghost use Rattle.tokens.specs.Editions.{meant};
 ghost use Rattle.tokens.specs.Found.{IsPiece, STROKE};
@@ -11,7 +11,7 @@ use crate::bytes::{is_blank, is_digit, is_letter, line_end, name_end};
 use crate::comments::{Close, comment_end};
 use crate::edition::Edition;
 use crate::marks::{Mark, mark_at};
-use crate::view::{View, byte};
+use crate::view::Text;
 use crate::words::word;
 use crate::worth::number;
 use language::kinds;
@@ -28,42 +28,35 @@ pub enum Piece {
 }
 
 // The longest piece at a place. What begins there is settled by its first two bytes.
-pub fn piece_at(edition: Edition, first: &[u8], second: &[u8], view: View, at: usize) -> Piece
-    requires { at < length (text_of first second view) }
-    ensures { IsPiece (meant edition) (text_of first.entry second.entry view) at result }
+pub fn piece_at(edition: Edition, text: &Text, at: usize) -> Piece
+    requires { at < length (text_of text.now) }
+    ensures { IsPiece (meant edition) (text_of text.now) at result }
 {
-    let here = byte(first, second, view, at);
+    let here = text.byte(at);
     if is_blank(here) {
         let next = at + 1;
         return Piece::Space(next);
     }
-    piece_of(edition, first, second, view, at, here)
+    piece_of(edition, text, at, here)
 }
 
 // The same where this byte stands, which is no blank.
-pub fn piece_of(
-    edition: Edition,
-    first: &[u8],
-    second: &[u8],
-    view: View,
-    at: usize,
-    here: u8,
-) -> Piece
-    requires { (at < length (text_of first second view)) × (here ≡ Text.byte (text_of first second view) at)
+pub fn piece_of(edition: Edition, text: &Text, at: usize, here: u8) -> Piece
+    requires { (at < length (text_of text.now)) × (here ≡ byte (text_of text.now) at)
         × (is_blank here ≡ false) }
-    ensures { IsPiece (meant edition) (text_of first.entry second.entry view) at result }
+    ensures { IsPiece (meant edition) (text_of text.now) at result }
 {
     if is_letter(here) {
-        let end = name_end(first, second, view, at);
-        return Piece::Token(word(edition, first, second, view, at, end), end, 0);
+        let end = name_end(text, at);
+        return Piece::Token(word(edition, text, at, end), end, 0);
     }
     if is_digit(here) {
-        return number(edition, first, second, view, at, here);
+        return number(edition, text, at, here);
     }
     if here == b'/' {
-        return slash(first, second, view, at);
+        return slash(text, at);
     }
-    match mark_at(edition, first, second, view, at, here) {
+    match mark_at(edition, text, at, here) {
         Mark::Is(kind, size) => {
             let next = at + size;
             Piece::Token(kind, next, 0)
@@ -73,16 +66,16 @@ pub fn piece_of(
 }
 
 // The same where a `/` stands, in either edition: a comment or a mark.
-fn slash(first: &[u8], second: &[u8], view: View, at: usize) -> Piece
-    requires { Text.byte (text_of first second view) at ≡ STROKE }
-    ensures { (e : Edition) → IsPiece (meant e) (text_of first.entry second.entry view) at result }
+fn slash(text: &Text, at: usize) -> Piece
+    requires { byte (text_of text.now) at ≡ STROKE }
+    ensures { (e : Edition) → IsPiece (meant e) (text_of text.now) at result }
 {
-    let behind = byte(first, second, view, at + 1);
+    let behind = text.byte(at + 1);
     if behind == b'/' {
-        return Piece::Space(line_end(first, second, view, at + 2));
+        return Piece::Space(line_end(text, at + 2));
     }
     if behind == b'*' {
-        return match comment_end(first, second, view, at) {
+        return match comment_end(text, at) {
             Close::At(end) => Piece::Space(end),
             Close::Never => Piece::Wrong(Flaw::OpenComment),
         };

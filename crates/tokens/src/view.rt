@@ -4,7 +4,7 @@
 ghost use Rattle.std.specs.Prelude.{◌∷◌, ◌≡◌, ◌+◌, ◌-◌, ◌/◌, ◌≤◌, ltb, length};
 ghost use Rattle.std.proofs.Math.Seq.{slice};
 ghost use Rattle.language.specs.Pairs.{joined};
-ghost use Rattle.language.specs.Text as Text;
+ghost use Rattle.language.specs.Text.{byte};
 ghost use Rattle.tokens.specs.Shown.{told, text_of};
 
 use crate::hexadecimal::two;
@@ -17,6 +17,14 @@ pub enum View {
     Joined,
     // The bytes that the digits of the first tell, from one place up to another.
     Line { from: usize, to: usize },
+}
+
+// A text: the bytes that a view shows of two sheets, which stay where they are.
+#[derive(Clone, Copy)]
+pub struct Text<'a> {
+    pub first: &'a [u8],
+    pub second: &'a [u8],
+    pub view: View,
 }
 
 // Half of what lies between two places.
@@ -40,17 +48,6 @@ fn len_of_line(sheet: &[u8], from: usize, to: usize) -> usize
     half(from, to)
 }
 
-// How many bytes the text has.
-pub fn len(first: &[u8], second: &[u8], view: View) -> usize
-    ensures { result ≡ length (text_of first.entry second.entry view) }
-{
-    match view {
-        View::Plain => first.len(),
-        View::Joined => first.len() + 1 + second.len(),
-        View::Line { from, to } => len_of_line(first, from, to),
-    }
-}
-
 // Have two sheets, with the LF between them, more bytes than this? Their lengths are compared and never added: what
 // a caller in C tells for one may be any number, and no sum of two may wrap to a small one.
 fn longer_both(first: &[u8], second: &[u8], most: usize) -> bool
@@ -63,27 +60,16 @@ fn longer_both(first: &[u8], second: &[u8], most: usize) -> bool
     most - size <= second.len()
 }
 
-// Has the text more bytes than this? Who has asked may add up lengths.
-pub fn longer(first: &[u8], second: &[u8], view: View, most: usize) -> bool
-    ensures { result ≡ ltb most (length (text_of first.entry second.entry view)) }
-{
-    match view {
-        View::Plain => most < first.len(),
-        View::Joined => longer_both(first, second, most),
-        View::Line { from, to } => most < len_of_line(first, from, to),
-    }
-}
-
 // The byte of one sheet at a place, 0 past the end.
 fn of_sheet(sheet: &[u8], at: usize) -> u8
-    ensures { result ≡ Text.byte sheet.now at }
+    ensures { result ≡ byte sheet.now at }
 {
     if at < sheet.len() { sheet[at] } else { 0 }
 }
 
 // The same of the LF and the sheet behind it.
 fn of_rest(sheet: &[u8], at: usize) -> u8
-    ensures { result ≡ Text.byte (10 ∷ sheet.now) at }
+    ensures { result ≡ byte (10 ∷ sheet.now) at }
 {
     if at == 0 {
         return b'\n';
@@ -93,7 +79,7 @@ fn of_rest(sheet: &[u8], at: usize) -> u8
 
 // The same of two sheets.
 fn of_both(first: &[u8], second: &[u8], at: usize) -> u8
-    ensures { result ≡ Text.byte (joined first.now second.now) at }
+    ensures { result ≡ byte (joined first.now second.now) at }
 {
     let size = first.len();
     if at < size {
@@ -104,7 +90,7 @@ fn of_both(first: &[u8], second: &[u8], at: usize) -> u8
 
 // The same of a line of digits.
 fn of_line(sheet: &[u8], from: usize, to: usize, at: usize) -> u8
-    ensures { result ≡ Text.byte (told (slice from to sheet.now)) at }
+    ensures { result ≡ byte (told (slice from to sheet.now)) at }
 {
     if len_of_line(sheet, from, to) <= at {
         return 0;
@@ -113,25 +99,49 @@ fn of_line(sheet: &[u8], from: usize, to: usize, at: usize) -> u8
     two(sheet[digit], sheet[digit + 1])
 }
 
-// The same of the text.
-pub fn byte(first: &[u8], second: &[u8], view: View, at: usize) -> u8
-    ensures { result ≡ Text.byte (text_of first.entry second.entry view) at }
-{
-    match view {
-        View::Plain => of_sheet(first, at),
-        View::Joined => of_both(first, second, at),
-        View::Line { from, to } => of_line(first, from, to, at),
+impl<'a> Text<'a> {
+    // How many bytes the text has.
+    pub fn len(&self) -> usize
+        ensures { result ≡ length (text_of self.now) }
+    {
+        match self.view {
+            View::Plain => self.first.len(),
+            View::Joined => self.first.len() + 1 + self.second.len(),
+            View::Line { from, to } => len_of_line(self.first, from, to),
+        }
     }
-}
 
-// The byte so many behind a place of the text. The sum need not be a place.
-pub fn ahead(first: &[u8], second: &[u8], view: View, at: usize, n: usize) -> u8
-    requires { at ≤ length (text_of first second view) }
-    ensures { result ≡ Text.byte (text_of first.entry second.entry view) (at + n) }
-{
-    let left = len(first, second, view) - at;
-    if left <= n {
-        return 0;
+    // Has the text more bytes than this? Who has asked may add up lengths.
+    pub fn longer(&self, most: usize) -> bool
+        ensures { result ≡ ltb most (length (text_of self.now)) }
+    {
+        match self.view {
+            View::Plain => most < self.first.len(),
+            View::Joined => longer_both(self.first, self.second, most),
+            View::Line { from, to } => most < len_of_line(self.first, from, to),
+        }
     }
-    byte(first, second, view, at + n)
+
+    // The byte of the text at a place, 0 past its end.
+    pub fn byte(&self, at: usize) -> u8
+        ensures { result ≡ byte (text_of self.now) at }
+    {
+        match self.view {
+            View::Plain => of_sheet(self.first, at),
+            View::Joined => of_both(self.first, self.second, at),
+            View::Line { from, to } => of_line(self.first, from, to, at),
+        }
+    }
+
+    // The byte so many behind a place of the text. The sum need not be a place.
+    pub fn ahead(&self, at: usize, n: usize) -> u8
+        requires { at ≤ length (text_of self.now) }
+        ensures { result ≡ byte (text_of self.now) (at + n) }
+    {
+        let left = self.len() - at;
+        if left <= n {
+            return 0;
+        }
+        self.byte(at + n)
+    }
 }

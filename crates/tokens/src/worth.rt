@@ -2,7 +2,7 @@
 ghost use Rattle.std.specs.Prelude.{◌<◌, ◌≤◌, true, [], ◌∷◌, ◌≡◌, length};
 ghost use Rattle.language.proofs.Text.Bases as Bases;
 ghost use Rattle.language.proofs.Text.Bases.{base_told};
-ghost use Rattle.language.specs.Text as Text;
+ghost use Rattle.language.specs.Text.{byte};
 ghost use Rattle.language.proofs.Text.Runs.{Run};
 ghost use Rattle.language.specs.Text.{is_digit, is_digit_of};
 ghost use Rattle.tokens.specs.Editions.{meant};
@@ -13,7 +13,7 @@ use crate::bytes::{decimal_end, digits_end, is_digit_of, worth};
 use crate::edition::Edition;
 use crate::floats;
 use crate::pieces::Piece;
-use crate::view::{View, ahead, byte};
+use crate::view::Text;
 use language::{DIGITS, LARGEST, kinds};
 use numbers::Flaw;
 
@@ -40,17 +40,14 @@ fn base_of(a: u8, b: u8) -> u64
 
 // How the number that begins with the digit at a place is written. Without a digit of its own a base is
 // none, and the number is the digits that stand there.
-fn based_at(edition: Edition, first: &[u8], second: &[u8], view: View, at: usize) -> Digits
-    requires { (at < length (text_of first second view))
-        × (is_digit (Text.byte (text_of first second view) at) ≡ true) }
-    ensures { Bases.Digits (meant edition) (text_of first.entry second.entry view) at result.from result.base
+fn based_at(edition: Edition, text: &Text, at: usize) -> Digits
+    requires { (at < length (text_of text.now))
+        × (is_digit (byte (text_of text.now) at) ≡ true) }
+    ensures { Bases.Digits (meant edition) (text_of text.now) at result.from result.base
         × (result.from ≡ at → result.base ≡ 10) }
 {
-    let base = base_of(
-        byte(first, second, view, at),
-        ahead(first, second, view, at, 1),
-    );
-    if is_digit_of(base, ahead(first, second, view, at, 2)) {
+    let base = base_of(text.byte(at), text.ahead(at, 1));
+    if is_digit_of(base, text.ahead(at, 2)) {
         return Digits {
             from: at + 2,
             base: base,
@@ -60,34 +57,27 @@ fn based_at(edition: Edition, first: &[u8], second: &[u8], view: View, at: usize
 }
 
 // The same where that digit is known: only a 0 begins a base.
-fn digits_at(
-    edition: Edition,
-    first: &[u8],
-    second: &[u8],
-    view: View,
-    at: usize,
-    here: u8,
-) -> Digits
-    requires { (at < length (text_of first second view)) × (is_digit here ≡ true)
-        × (here ≡ Text.byte (text_of first second view) at) }
-    ensures { Bases.Digits (meant edition) (text_of first.entry second.entry view) at result.from result.base
+fn digits_at(edition: Edition, text: &Text, at: usize, here: u8) -> Digits
+    requires { (at < length (text_of text.now)) × (is_digit here ≡ true)
+        × (here ≡ byte (text_of text.now) at) }
+    ensures { Bases.Digits (meant edition) (text_of text.now) at result.from result.base
         × (result.from ≡ at → result.base ≡ 10) }
 {
     if here == b'0' {
-        return based_at(edition, first, second, view, at);
+        return based_at(edition, text, at);
     }
     Digits { from: at, base: 10 }
 }
 
 // Where the digits of a base that go on at a place end.
-fn ends(first: &[u8], second: &[u8], view: View, at: usize, base: u64) -> usize
-    requires { at ≤ length (text_of first second view) }
-    ensures { Run (is_digit_of base) (text_of first.entry second.entry view) at result }
+fn ends(text: &Text, at: usize, base: u64) -> usize
+    requires { at ≤ length (text_of text.now) }
+    ensures { Run (is_digit_of base) (text_of text.now) at result }
 {
     if base == 10 {
-        return decimal_end(first, second, view, at);
+        return decimal_end(text, at);
     }
-    digits_end(first, second, view, at, base)
+    digits_end(text, at, base)
 }
 
 // May a point that this byte follows belong to a number? In edition 2 the points of `..` may not.
@@ -102,72 +92,50 @@ fn points(edition: Edition, b: u8) -> bool
 
 // Whether the number at a place goes on with a point of its own where its digits end. Those behind a base
 // take none.
-fn takes_point(
-    edition: Edition,
-    first: &[u8],
-    second: &[u8],
-    view: View,
-    at: usize,
-    from: usize,
-    end: usize,
-) -> bool
-    requires { end ≤ length (text_of first second view) }
-    ensures { result ≡ has_point (meant edition) (text_of first.entry second.entry view) at from end }
+fn takes_point(edition: Edition, text: &Text, at: usize, from: usize, end: usize) -> bool
+    requires { end ≤ length (text_of text.now) }
+    ensures { result ≡ has_point (meant edition) (text_of text.now) at from end }
 {
     if from != at {
         return false;
     }
-    if byte(first, second, view, end) != b'.' {
+    if text.byte(end) != b'.' {
         return false;
     }
-    points(edition, byte(first, second, view, end + 1))
+    points(edition, text.byte(end + 1))
 }
 
 // The float number at a place, with its point where the digits there end.
-fn float_number(
-    edition: Edition,
-    first: &[u8],
-    second: &[u8],
-    view: View,
-    at: usize,
-    point: usize,
-) -> Piece
-    requires { PointAt (meant edition) (text_of first second view) at point }
-    ensures { IsPiece (meant edition) (text_of first.entry second.entry view) at result }
+fn float_number(edition: Edition, text: &Text, at: usize, point: usize) -> Piece
+    requires { PointAt (meant edition) (text_of text.now) at point }
+    ensures { IsPiece (meant edition) (text_of text.now) at result }
 {
-    let end = digits_end(first, second, view, point + 1, 10);
+    let end = digits_end(text, point + 1, 10);
     if DIGITS + 1 < end - at {
         return Piece::Wrong(Flaw::LongFloat);
     }
-    let bits = floats::bits(first, second, view, at, point, end);
+    let bits = floats::bits(text, at, point, end);
     Piece::Token(kinds::FLOAT_NUMBER, end, bits)
 }
 
 // The number that begins with this digit at a place. No digit is read once the value is too large, and
 // so no product can wrap.
-pub fn number(
-    edition: Edition,
-    first: &[u8],
-    second: &[u8],
-    view: View,
-    at: usize,
-    here: u8,
-) -> Piece
-    requires { (at < length (text_of first second view)) × (is_digit here ≡ true)
-        × (here ≡ Text.byte (text_of first second view) at) }
-    ensures { IsPiece (meant edition) (text_of first.entry second.entry view) at result }
+pub fn number(edition: Edition, text: &Text, at: usize, here: u8) -> Piece
+    requires { (at < length (text_of text.now)) × (is_digit here ≡ true)
+        × (here ≡ byte (text_of text.now) at) }
+    ensures { IsPiece (meant edition) (text_of text.now) at result }
 {
-    let digits = digits_at(edition, first, second, view, at, here);
+    let digits = digits_at(edition, text, at, here);
     let from = digits.from;
     let base = digits.base;
-    let end = ends(first, second, view, from, base);
-    if takes_point(edition, first, second, view, at, from, end) {
-        return float_number(edition, first, second, view, at, end);
+    let end = ends(text, from, base);
+    if takes_point(edition, text, at, from, end) {
+        return float_number(edition, text, at, end);
     }
     let mut value: u64 = 0;
     let mut i = from;
     while i < end {
-        value = value * base + worth(byte(first, second, view, i));
+        value = value * base + worth(text.byte(i));
         if LARGEST < value {
             return Piece::Wrong(Flaw::LargeNumber);
         }

@@ -16,19 +16,19 @@ use Rattle.tokens.proofs.Splitting.{reached_broken, reached_whole, reached_searc
 use Rattle.tokens.proofs.Editions.{laws_of}
 use Rattle.tokens.specs.Editions.{meant}
 use Rattle.tokens.specs.Found.{IsPiece}
-use Rattle.tokens.specs.Shown.{shown}
+use Rattle.tokens.specs.Shown.{text_of}
 use Rattle.tokens.proofs.split.Goals as goal
 
 pub loop-at-init : goal.loop-at-init
 loop-at-init c =
     let a = c.args in
-    reached_none (shown a.first.now a.second.now a.view) _ (omega (arith, c.begin.ensures.rest.long, c.requires))
+    reached_none (text_of a.text.now) _ (omega (arith, c.begin.ensures.rest.long, c.requires))
     c.begin.ensures.shape
 
 pub loop-at-preserved-then-is_blank : goal.loop-at-preserved-then-is_blank
 loop-at-preserved-then-is_blank c =
     let a = c.args in
-    let text = shown a.first.now a.second.now a.view in
+    let text = text_of a.text.now in
     let inside = subst (λ n. c.loop-at.at < n) c.len-size.ensures c.loop-at-test.true in
     let seen = sym (c.is_blank.ensures ∙ ap is_blank c.byte-here.ensures) ∙ c.if-is_blank.true in
     reached_skip c.loop-at.invariant (blank_piece (laws_of c.args.edition) text c.loop-at.at inside seen)
@@ -36,7 +36,7 @@ loop-at-preserved-then-is_blank c =
 pub loop-at-smaller-in-Space : goal.loop-at-smaller-in-Space
 loop-at-smaller-in-Space c =
     let a = c.args in
-    let text = shown a.first.now a.second.now a.view in
+    let text = text_of a.text.now in
     let t = text in
     let l = c.loop-at in
     let piece = c.piece_of.ensures in
@@ -46,7 +46,7 @@ loop-at-smaller-in-Space c =
 pub loop-at-preserved-in-Space : goal.loop-at-preserved-in-Space
 loop-at-preserved-in-Space c =
     let a = c.args in
-    let text = shown a.first.now a.second.now a.view in
+    let text = text_of a.text.now in
     let t = text in
     let l = c.loop-at in
     let piece = c.piece_of.ensures in
@@ -56,7 +56,7 @@ loop-at-preserved-in-Space c =
 pub returns-then-count-eq-TOKENS : goal.returns-then-count-eq-TOKENS
 returns-then-count-eq-TOKENS c =
     let a = c.args in
-    let text = shown a.first.now a.second.now a.view in
+    let text = text_of a.text.now in
     let held = subst (IsPiece (meant a.edition) text c.loop-at.at) c.in-Token.is c.piece_of.ensures in
     let short = ltb-false SOURCE (length text) (sym c.longer.ensures ∙ c.if-longer.false) in
     let x = held in
@@ -66,7 +66,7 @@ returns-then-count-eq-TOKENS c =
 pub table_worth-both-requires : goal.table_worth-both-requires
 table_worth-both-requires c =
     let a = c.args in
-    let text = shown a.first.now a.second.now a.view in
+    let text = text_of a.text.now in
     let held = subst (IsPiece (meant a.edition) text c.loop-at.at) c.in-Token.is c.piece_of.ensures in
     let short = ltb-false SOURCE (length text) (sym c.longer.ensures ∙ c.if-longer.false) in
     reached_searchable c.loop-at.invariant short (omega (arith, c.loop-at.invariant.few, c.if-count-eq-TOKENS.false)) held
@@ -75,7 +75,7 @@ table_worth-both-requires c =
 pub overflow_cast-end : goal.overflow_cast-end
 overflow_cast-end c =
     let a = c.args in
-    let text = shown a.first.now a.second.now a.view in
+    let text = text_of a.text.now in
     let held = subst (IsPiece (meant a.edition) text c.loop-at.at) c.in-Token.is c.piece_of.ensures in
     let bounds = form_bounds text c.loop-at.at _ _ held.piece.form in
     let short = ltb-false SOURCE (length text) (sym c.longer.ensures ∙ c.if-longer.false) in
@@ -84,7 +84,7 @@ overflow_cast-end c =
 pub loop-at-smaller : goal.loop-at-smaller
 loop-at-smaller c =
     let a = c.args in
-    let text = shown a.first.now a.second.now a.view in
+    let text = text_of a.text.now in
     let held = subst (IsPiece (meant a.edition) text c.loop-at.at) c.in-Token.is c.piece_of.ensures in
     let bounds = form_bounds text c.loop-at.at _ _ held.piece.form in
     omega (arith, bounds.0, c.loop-at-test.true)
@@ -92,7 +92,7 @@ loop-at-smaller c =
 pub loop-at-preserved : goal.loop-at-preserved
 loop-at-preserved c =
     let a = c.args in
-    let text = shown a.first.now a.second.now a.view in
+    let text = text_of a.text.now in
     let held = subst (IsPiece (meant a.edition) text c.loop-at.at) c.in-Token.is c.piece_of.ensures in
     let short = ltb-false SOURCE (length text) (sym c.longer.ensures ∙ c.if-longer.false) in
     let l = c.loop-at in
@@ -102,7 +102,7 @@ loop-at-preserved c =
 pub returns-in-Wrong : goal.returns-in-Wrong
 returns-in-Wrong c =
     let a = c.args in
-    let text = shown a.first.now a.second.now a.view in
+    let text = text_of a.text.now in
     let short = ltb-false SOURCE (length text) (sym c.longer.ensures ∙ c.if-longer.false) in
     let l = c.loop-at in
     let wrong = subst (IsPiece (meant c.args.edition) text l.at) c.in-Wrong.is c.piece_of.ensures in
@@ -111,7 +111,7 @@ returns-in-Wrong c =
 pub returns : goal.returns
 returns c =
     let a = c.args in
-    let text = shown a.first.now a.second.now a.view in
+    let text = text_of a.text.now in
     let short = ltb-false SOURCE (length text) (sym c.longer.ensures ∙ c.if-longer.false) in
     let l = c.loop-at in
     reached_whole l.invariant c.begin.ensures.rest short

@@ -5,13 +5,13 @@ use Prim.Native.Nat.{suc, ◌+◌, ◌-◌, ◌≤◌, ◌<◌}
 use Rattle.language.proofs.Text.Comments.{open_inside, close_inside, depth_open}
 use Rattle.language.proofs.Text.Comments.{depth_close, depth_byte, depth_end}
 use Rattle.tokens.specs.Found.{IsPair}
-use Rattle.tokens.specs.Shown.{shown}
+use Rattle.tokens.specs.Shown.{text_of}
 use Rattle.tokens.proofs.comments.comment_end.Goals as goal
 
 pub returns-then-size-i : goal.returns-then-size-i
 returns-then-size-i c =
     let a = c.args in
-    let t = shown a.first.now a.second.now a.view in
+    let t = text_of a.text.now in
     let l = c.loop-depth in
     let e : l.depth ≡ suc (l.depth - 1) = omega arith in
     depth_end t a.at (l.depth - 1) l.i (subst (λ n. n ≤ l.i) c.len-size.ensures c.if-size-i.true) (rw e at l.invariant.2)
@@ -19,7 +19,7 @@ returns-then-size-i c =
 pub loop-depth-preserved-in-Opens : goal.loop-depth-preserved-in-Opens
 loop-depth-preserved-in-Opens c =
     let a = c.args in
-    let t = shown a.first.now a.second.now a.view in
+    let t = text_of a.text.now in
     let l = c.loop-depth in
     let s = subst (IsPair t l.i) c.in-Opens.is c.pair_at.ensures in
     let e : l.depth ≡ suc (l.depth - 1) = omega arith in
@@ -30,7 +30,7 @@ loop-depth-preserved-in-Opens c =
 pub loop-depth-preserved-in-Closes : goal.loop-depth-preserved-in-Closes
 loop-depth-preserved-in-Closes c =
     let a = c.args in
-    let t = shown a.first.now a.second.now a.view in
+    let t = text_of a.text.now in
     let l = c.loop-depth in
     let s = subst (IsPair t l.i) c.in-Closes.is c.pair_at.ensures in
     let e : l.depth ≡ suc (l.depth - 1) = omega arith in
@@ -40,7 +40,7 @@ loop-depth-preserved-in-Closes c =
 pub loop-depth-preserved : goal.loop-depth-preserved
 loop-depth-preserved c =
     let a = c.args in
-    let t = shown a.first.now a.second.now a.view in
+    let t = text_of a.text.now in
     let l = c.loop-depth in
     let s = subst (IsPair t l.i) c.in-Neither.is c.pair_at.ensures in
     let e : l.depth ≡ suc (l.depth - 1) = omega arith in

@@ -4,7 +4,7 @@ use native.Mathlib.Omega.{arith}
 use Prim.Native.Nat.{◌+◌, ◌^◌, ◌≤◌, ◌<◌}
 use Rattle.language.specs.Sizes.{DIGITS}
 use Rattle.tokens.proofs.Decimals.{Read, read_none, read_small, read_digit, read_past, read_more, read_all}
-use Rattle.tokens.specs.Shown.{shown}
+use Rattle.tokens.specs.Shown.{text_of}
 use Rattle.tokens.proofs.floats.all_digits.Goals as goal
 use Rattle.tokens.proofs.floats.all_digits.Goals.{After-byte, In-loop-i, then-i-point, else-i-point}
 
@@ -39,7 +39,7 @@ loop-i-preserved c =
     let a = c.args in
     let l = c.loop-i in
     let test = c.loop-i-test.true in
-    let t = shown a.first.now a.second.now a.view in
+    let t = text_of a.text.now in
     elim c.if-i-point.branch [
       | then-i-point w ↦
           subst (λ v. Read t a.at a.point a.end (l.i + 1) v) (sym w.value-is) (read_more c.requires l.invariant test w.byte.ensures w.if-i-point.true)

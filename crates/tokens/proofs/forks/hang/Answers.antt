@@ -3,12 +3,12 @@ use lib.Seq.{slice}
 use mathlib.Core.Path.{subst}
 use Rattle.tokens.proofs.Seeking.{hung_fork}
 use Rattle.tokens.specs.Forks.{IsParting}
-use Rattle.tokens.specs.Shown.{shown}
+use Rattle.tokens.specs.Shown.{text_of}
 use Rattle.tokens.proofs.forks.hang.Goals as goal
 
 pub returns-in-At : goal.returns-in-At
 returns-in-At c =
     let a = c.args in
-    let t = shown a.first.now a.second.now a.view in
+    let t = text_of a.text.now in
     let x = subst (IsParting (slice a.a a.b t) (slice a.p a.q t)) c.in-At.is c.compare.ensures in
     hung_fork x c.letter-old.ensures.0 c.letter-new.ensures.0 c.fork.ensures

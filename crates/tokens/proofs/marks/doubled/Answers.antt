@@ -6,14 +6,14 @@ use native.Mathlib.Omega.{arith}
 use Rattle.language.proofs.Text.Tables.{every}
 use Rattle.language.specs.Tokens.{spell, marks}
 use Rattle.tokens.proofs.FirstBytes.{begins_so, other_first}
-use Rattle.tokens.proofs.Views.{shown_long}
+use Rattle.tokens.proofs.Views.{text_long}
 use Rattle.tokens.specs.Found.{or_past, mark_kind}
 use Rattle.tokens.proofs.marks.doubled.Goals as goal
 
 pub overflow_add-at : goal.overflow_add-at
 overflow_add-at c =
     let a = c.args in
-    omega (arith, c.requires, shown_long a.first.now a.second.now a.view, c.well_formed)
+    omega (arith, c.requires, text_long a.text.now, c.well_formed)
 
 pub returns-in_default : goal.returns-in_default
 unfolding mark_kind every begins_so

@@ -5,16 +5,16 @@ use Prim.Native.Nat.{◌+◌}
 use Rattle.language.specs.Text.{byte}
 use Rattle.tokens.proofs.MarkBytes.{ahead, two_most, marked, unmarked, markless}
 use Rattle.tokens.specs.Found.{mark_kind}
-use Rattle.tokens.specs.Shown.{shown}
+use Rattle.tokens.specs.Shown.{text_of}
 use Rattle.tokens.proofs.marks.plain.Goals as goal
 use Rattle.tokens.proofs.marks.plain.Goals.{After-doubled-two, After-single-one}
 
-two : (c : After-doubled-two) → c.doubled-two.result ≡ mark_kind (ahead ((shown c.args.first.now c.args.second.now c.args.view)) c.args.at 2)
+two : (c : After-doubled-two) → c.doubled-two.result ≡ mark_kind (ahead ((text_of c.args.text.now)) c.args.at 2)
 two c =
-    c.doubled-two.ensures ∙ ap (λ a. mark_kind (a ∷ byte ((shown c.args.first.now c.args.second.now c.args.view)) (c.args.at + 1) ∷ [])) c.requires.2
+    c.doubled-two.ensures ∙ ap (λ a. mark_kind (a ∷ byte ((text_of c.args.text.now)) (c.args.at + 1) ∷ [])) c.requires.2
 
 one : (c : After-single-one)
-    → c.single-one.result ≡ mark_kind (ahead ((shown c.args.first.now c.args.second.now c.args.view)) c.args.at 1)
+    → c.single-one.result ≡ mark_kind (ahead ((text_of c.args.text.now)) c.args.at 1)
 one c =
     c.single-one.ensures ∙ ap (λ a. mark_kind (a ∷ [])) c.requires.2
 

@@ -1,22 +1,22 @@
 -- `points` looks for the longer of the marks that edition 2 adds, then for the other; edition 1 has none with a point.
 use mathlib.Core.Path.{sym, ◌∙◌}
 use Rattle.tokens.proofs.PointMarks.{through, upto, as_before, point_alone}
-use Rattle.tokens.specs.Shown.{shown}
+use Rattle.tokens.specs.Shown.{text_of}
 use Rattle.tokens.specs.declared.marks.Mark.{Mark}
 use Rattle.tokens.proofs.marks.points.Goals as goal
 
 pub returns-then-stands_at : goal.returns-then-stands_at
 returns-then-stands_at c =
-    through ((shown c.args.first.now c.args.second.now c.args.view)) c.args.at c.requires.0 c.requires.1 (sym c.stands_at.ensures ∙ c.if-stands_at.true)
+    through ((text_of c.args.text.now)) c.args.at c.requires.0 c.requires.1 (sym c.stands_at.ensures ∙ c.if-stands_at.true)
 
 pub returns-then-stands_at-2 : goal.returns-then-stands_at-2
 returns-then-stands_at-2 c =
     let longer = sym c.stands_at.ensures ∙ c.if-stands_at.false in
-    upto ((shown c.args.first.now c.args.second.now c.args.view)) c.args.at c.requires.0 c.requires.1 longer (sym c.stands_at-2.ensures ∙ c.if-stands_at-2.true)
+    upto ((text_of c.args.text.now)) c.args.at c.requires.0 c.requires.1 longer (sym c.stands_at-2.ensures ∙ c.if-stands_at-2.true)
 
 pub returns : goal.returns
 returns c =
-    let t = (shown c.args.first.now c.args.second.now c.args.view) in
+    let t = (text_of c.args.text.now) in
     let p = c.args.at in
     let clear = sym c.stands_at-2.ensures ∙ c.if-stands_at-2.false in
     as_before t p c.requires.0 c.requires.1 clear Mark.None (point_alone c.requires.0 c.requires.1 c.requires.2)

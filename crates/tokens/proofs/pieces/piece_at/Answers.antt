@@ -4,19 +4,19 @@ use native.Mathlib.Omega.{arith}
 use Rattle.language.proofs.Text.Pieces.{blank_piece}
 use Rattle.language.specs.Text.{is_blank}
 use Rattle.tokens.proofs.Editions.{laws_of}
-use Rattle.tokens.proofs.Views.{shown_long}
-use Rattle.tokens.specs.Shown.{shown}
+use Rattle.tokens.proofs.Views.{text_long}
+use Rattle.tokens.specs.Shown.{text_of}
 use Rattle.tokens.proofs.pieces.piece_at.Goals as goal
 
 pub overflow_add-next : goal.overflow_add-next
 overflow_add-next c =
     let a = c.args in
-    let long = shown_long a.first.now a.second.now a.view in
+    let long = text_long a.text.now in
     omega (arith, c.requires, long, c.well_formed)
 
 pub returns-then-is_blank : goal.returns-then-is_blank
 returns-then-is_blank c =
     let a = c.args in
-    let t = shown a.first.now a.second.now a.view in
+    let t = text_of a.text.now in
     let seen = sym (c.is_blank.ensures ∙ ap is_blank c.byte-here.ensures) ∙ c.if-is_blank.true in
     blank_piece (laws_of a.edition) t a.at c.requires seen

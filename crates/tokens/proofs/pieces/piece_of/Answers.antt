@@ -13,19 +13,19 @@ use Rattle.tokens.proofs.Editions.{laws_of}
 use Rattle.tokens.proofs.FoundTokens.{plain_token}
 use Rattle.tokens.specs.Editions.{meant}
 use Rattle.tokens.specs.Found.{IsMark}
-use Rattle.tokens.proofs.Views.{shown_long}
-use Rattle.tokens.specs.Shown.{shown}
+use Rattle.tokens.proofs.Views.{text_long}
+use Rattle.tokens.specs.Shown.{text_of}
 use Rattle.tokens.proofs.pieces.piece_of.Goals as goal
 use Rattle.tokens.proofs.pieces.piece_of.Goals.{Start}
 
 -- a test of the byte there, said of the byte of the text
-known : (s : Start) (f : ℕ → Bool) {r x : Bool} → r ≡ f s.args.here → r ≡ x → f (byte (shown s.args.first.now s.args.second.now s.args.view) s.args.at) ≡ x
+known : (s : Start) (f : ℕ → Bool) {r x : Bool} → r ≡ f s.args.here → r ≡ x → f (byte (text_of s.args.text.now) s.args.at) ≡ x
 known s f g h =
     sym (g ∙ ap f s.requires.1) ∙ h
 
 pub returns-then-is_letter : goal.returns-then-is_letter
 returns-then-is_letter c =
-    let t = shown c.args.first.now c.args.second.now c.args.view in
+    let t = text_of c.args.text.now in
     let p = c.args.at in
     let q = c.name_end-end.result in
     let letter = known (goal.at.returns-then-is_letter c).Start is_letter c.is_letter.ensures c.if-is_letter.true in
@@ -38,18 +38,18 @@ returns-then-here-eq47 c =
 
 pub overflow_add-next : goal.overflow_add-next
 overflow_add-next c =
-    let t = shown c.args.first.now c.args.second.now c.args.view in
+    let t = text_of c.args.text.now in
     let p = c.args.at in
     let m = subst (IsMark (meant c.args.edition) t p) c.in-Is.is c.mark_at.ensures in
     let a = c.args in
-    omega (arith, form_bounds t p _ _ m.form, shown_long a.first.now a.second.now a.view, c.well_formed)
+    omega (arith, form_bounds t p _ _ m.form, text_long a.text.now, c.well_formed)
 
 pub returns-in-Is : goal.returns-in-Is
 returns-in-Is c =
-    let piece = subst (IsMark (meant c.args.edition) (shown c.args.first.now c.args.second.now c.args.view) c.args.at) c.in-Is.is c.mark_at.ensures in
+    let piece = subst (IsMark (meant c.args.edition) (text_of c.args.text.now) c.args.at) c.in-Is.is c.mark_at.ensures in
     plain_token c.args.edition (known (goal.at.returns-in-Is c).Start is_digit c.is_digit.ensures c.if-is_digit.false) piece
 
 pub returns-in-None : goal.returns-in-None
 returns-in-None c =
-    let formless = subst (IsMark (meant c.args.edition) (shown c.args.first.now c.args.second.now c.args.view) c.args.at) c.in-None.is c.mark_at.ensures in
+    let formless = subst (IsMark (meant c.args.edition) (text_of c.args.text.now) c.args.at) c.in-None.is c.mark_at.ensures in
     λ ts. strange c.requires.0 formless

@@ -1,8 +1,8 @@
 -- `word` goes by the length of the name.
 use Rattle.tokens.proofs.WordRows.{no_length}
-use Rattle.tokens.specs.Shown.{shown}
+use Rattle.tokens.specs.Shown.{text_of}
 use Rattle.tokens.proofs.words.word.Goals as goal
 
 pub returns-in_default : goal.returns-in_default
 returns-in_default c =
-    no_length ((shown c.args.first.now c.args.second.now c.args.view)) c.args.p c.args.q c.requires.1 c.in_default.in_default-own.rest c.args.edition
+    no_length ((text_of c.args.text.now)) c.args.p c.args.q c.requires.1 c.in_default.in_default-own.rest c.args.edition

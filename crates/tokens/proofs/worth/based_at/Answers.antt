@@ -7,25 +7,25 @@ use Rattle.language.specs.Text.{is_digit_of}
 use Prim.Native.Nat.{◌+◌}
 use Rattle.tokens.proofs.Editions.{laws_of, shared_bases}
 use Rattle.tokens.specs.Editions.{meant}
-use Rattle.tokens.proofs.Views.{shown_long}
-use Rattle.tokens.specs.Shown.{shown}
+use Rattle.tokens.proofs.Views.{text_long}
+use Rattle.tokens.specs.Shown.{text_of}
 use Rattle.tokens.proofs.worth.based_at.Goals as goal
 use Rattle.tokens.proofs.worth.based_at.Goals.{Then-is_digit_of}
 
 -- a base is told by the two bytes, and a digit of it stands behind them
 found : (c : Then-is_digit_of)
-    → Digits (meant c.args.edition) (shown c.args.first.now c.args.second.now c.args.view) c.args.at (c.args.at + 2) c.base_of-base.result
+    → Digits (meant c.args.edition) (text_of c.args.text.now) c.args.at (c.args.at + 2) c.base_of-base.result
 found c =
     let a = c.args in
     let base = c.base_of-base.ensures ∙ ap₂ (λ a b. base_told (a ∷ b ∷ [])) c.byte.ensures c.ahead.ensures in
     let digit = c.is_digit_of.ensures ∙ ap (is_digit_of c.base_of-base.result) c.ahead-2.ensures in
-    told_digits (laws_of a.edition) (shared_bases a.edition) (shown a.first.now a.second.now a.view) a.at c.base_of-base.result base
+    told_digits (laws_of a.edition) (shared_bases a.edition) (text_of a.text.now) a.at c.base_of-base.result base
     (sym digit ∙ c.if-is_digit_of.true)
 
 pub overflow_add-result : goal.overflow_add-result
 overflow_add-result c =
     let a = c.args in
-    let long = shown_long a.first.now a.second.now a.view in
+    let long = text_long a.text.now in
     omega (arith, (found (goal.at.overflow_add-result c).Then-is_digit_of).within, long, c.well_formed)
 
 pub returns-then-is_digit_of : goal.returns-then-is_digit_of
@@ -37,7 +37,7 @@ returns c =
     let base = c.base_of-base.ensures ∙ ap₂ (λ a b. base_told (a ∷ b ∷ [])) c.byte.ensures c.ahead.ensures in
     let digit = c.is_digit_of.ensures ∙ ap (is_digit_of c.base_of-base.result) c.ahead-2.ensures in
     let none = sym digit ∙ c.if-is_digit_of.false in
-    let text = shown a.first.now a.second.now a.view in (
+    let text = text_of a.text.now in (
       untold_digits (laws_of a.edition) (shared_bases a.edition) text a.at c.base_of-base.result base c.requires.0 c.requires.1 none,
       λ e. refl,
     )

@@ -3,11 +3,11 @@ use mathlib.Core.Path.{sym, subst}
 use Rattle.language.proofs.Text.Runs.{Run}
 use Rattle.language.specs.Text.{is_digit_of}
 use Rattle.tokens.proofs.FoundTokens.{run_decimal}
-use Rattle.tokens.specs.Shown.{shown}
+use Rattle.tokens.specs.Shown.{text_of}
 use Rattle.tokens.proofs.worth.ends.Goals as goal
 
 pub returns-then-base-eq10 : goal.returns-then-base-eq10
 returns-then-base-eq10 c =
     let a = c.args in
-    let t = shown a.first.now a.second.now a.view in
+    let t = text_of a.text.now in
     subst (λ n. Run (is_digit_of n) t a.at c.decimal_end.result) (sym c.if-base-eq10.true) (run_decimal c.decimal_end.ensures)

@@ -2,13 +2,13 @@
 use native.Mathlib.Omega.{arith}
 use Rattle.tokens.proofs.Editions.{laws_of}
 use Rattle.tokens.proofs.FoundTokens.{point_inside, float_long, float_decimal, float_token}
-use Rattle.tokens.proofs.Views.{shown_long}
+use Rattle.tokens.proofs.Views.{text_long}
 use Rattle.tokens.proofs.worth.float_number.Goals as goal
 
 pub overflow_add-point : goal.overflow_add-point
 overflow_add-point c =
     let a = c.args in
-    omega (arith, point_inside c.requires, shown_long a.first.now a.second.now a.view, c.well_formed)
+    omega (arith, point_inside c.requires, text_long a.text.now, c.well_formed)
 
 pub returns-then-end-at : goal.returns-then-end-at
 returns-then-end-at c =

@@ -7,7 +7,7 @@ use Rattle.language.specs.Tokens.{NUMBER}
 use Rattle.tokens.proofs.Digits.{product, read_none, read_hex, read_worth, read_more, read_large, read_all}
 use Rattle.tokens.proofs.FoundTokens.{number_token, point_no, pointed}
 use Rattle.tokens.specs.Editions.{meant}
-use Rattle.tokens.specs.Shown.{shown}
+use Rattle.tokens.specs.Shown.{text_of}
 use Rattle.tokens.proofs.worth.number.Goals as goal
 
 pub float_number-requires : goal.float_number-requires
@@ -35,7 +35,7 @@ overflow_add-value c =
 pub returns-then-value-gt-LARGEST : goal.returns-then-value-gt-LARGEST
 returns-then-value-gt-LARGEST c =
     let a = c.args in
-    let t = shown a.first.now a.second.now a.view in
+    let t = text_of a.text.now in
     let q = c.ends-end.result in
     let d = c.digits_at-digits in
     let run = c.ends-end.ensures in
@@ -54,7 +54,7 @@ pub returns : goal.returns
 returns c =
     let a = c.args in
     let p = a.at in
-    let t = shown a.first.now a.second.now a.view in
+    let t = text_of a.text.now in
     let q = c.ends-end.result in
     let d = c.digits_at-digits in
     let none = point_no (meant a.edition) t p d.result.from q (sym c.takes_point.ensures ∙ c.if-takes_point.false) in

@@ -4,8 +4,8 @@ use mathlib.Core.Path.{sym, ◌∙◌}
 use native.Mathlib.Omega.{arith}
 use Rattle.language.proofs.Text.Spellings.{byte_inside}
 use Rattle.tokens.proofs.FoundTokens.{point_none, point_other, point_some}
-use Rattle.tokens.proofs.Views.{shown_long}
-use Rattle.tokens.specs.Shown.{shown}
+use Rattle.tokens.proofs.Views.{text_long}
+use Rattle.tokens.specs.Shown.{text_of}
 use Rattle.tokens.proofs.worth.takes_point.Goals as goal
 
 pub returns-then-from-at : goal.returns-then-from-at
@@ -19,9 +19,9 @@ returns-then-byte-ne46 c =
 pub overflow_add-end : goal.overflow_add-end
 overflow_add-end c =
     let a = c.args in
-    let t = shown a.first.now a.second.now a.view in
+    let t = text_of a.text.now in
     let inside = byte_inside t a.end 46 (sym c.byte.ensures ∙ c.if-byte-ne46.false) (lit< tt) in
-    omega (arith, inside, shown_long a.first.now a.second.now a.view, c.well_formed)
+    omega (arith, inside, text_long a.text.now, c.well_formed)
 
 pub returns : goal.returns
 returns c =

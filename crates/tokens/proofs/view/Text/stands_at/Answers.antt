@@ -1,6 +1,6 @@
 -- `stands_at` compares bytes with the text, one after the other.
 use Rattle.tokens.proofs.Compared.{agrees_more, agrees_less, agrees_all}
-use Rattle.tokens.proofs.bytes.stands_at.Goals as goal
+use Rattle.tokens.proofs.view.Text.stands_at.Goals as goal
 
 pub returns-then-ahead-bytes : goal.returns-then-ahead-bytes
 returns-then-ahead-bytes c =

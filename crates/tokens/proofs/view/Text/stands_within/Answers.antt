@@ -1,13 +1,13 @@
 -- `stands_within` compares bytes with the text, one after the other.
 use native.Mathlib.Omega.{arith}
 use Rattle.tokens.proofs.Compared.{agrees_more, agrees_less, agrees_all}
-use Rattle.tokens.proofs.Views.{shown_long}
-use Rattle.tokens.proofs.bytes.stands_within.Goals as goal
+use Rattle.tokens.proofs.Views.{text_long}
+use Rattle.tokens.proofs.view.Text.stands_within.Goals as goal
 
 pub overflow_add-at : goal.overflow_add-at
 overflow_add-at c =
     let a = c.args in
-    omega (arith, c.requires, c.loop-i-test.true, shown_long a.first.now a.second.now a.view, c.well_formed)
+    omega (arith, c.requires, c.loop-i-test.true, text_long a.self.now, c.well_formed)
 
 pub returns-then-byte-bytes : goal.returns-then-byte-bytes
 returns-then-byte-bytes c =
