@@ -1,6 +1,6 @@
 -- How a function is found by its name, the newest first, and what its head says of the name.
 use mathlib.Core.List.{List}
-use mathlib.Core.Option.{none, some}
+use Rattle.std.specs.Prelude.{None, Some}
 use mathlib.Core.Path.{◌≡◌, refl, sym, ap, subst, ◌∙◌}
 use Prim.Native.Nat.{ℕ, suc, ◌+◌, ◌<◌}
 use native.Mathlib.Omega.{arith}
@@ -18,7 +18,7 @@ use Rattle.layout.proofs.NameLaws.{name_inside, named_at}
 
 module _ (w : List ℕ) (x : ℕ) {i k : ℕ} (last : i ≡ suc k) where
   -- the last function is the one
-  pub function_here : function_name w k ≡ x → find_function w x i ≡ some (function_row w k)
+  pub function_here : function_name w k ≡ x → find_function w x i ≡ Some (function_row w k)
   unfolding find_function
   function_here e = rw (last, eq-eqb _ _ (sym e)) refl
 
@@ -28,7 +28,7 @@ module _ (w : List ℕ) (x : ℕ) {i k : ℕ} (last : i ≡ suc k) where
   function_past h = rw (last, ne_eqb _ _ (λ e. h (sym e))) refl
 
 -- no function is left
-pub function_none : (w : List ℕ) (x : ℕ) {i : ℕ} → i ≡ 0 → find_function w x i ≡ none
+pub function_none : (w : List ℕ) (x : ℕ) {i : ℕ} → i ≡ 0 → find_function w x i ≡ None
 unfolding find_function
 function_none w x over = rw over refl
 

@@ -1,10 +1,7 @@
 -- Functions by their names: where each name stands, and the newest function that has one.
-use Rattle.std.specs.Prelude.{cond, List, ℕ, zero, suc, ◌+◌, ◌<◌, eqb}
-use Rattle.std.proofs.Math.Option.{Option, none, some}
+use Rattle.std.specs.Prelude.{Option, None, Some, cond, List, ℕ, zero, suc, ◌+◌, ◌<◌, eqb}
 use Rattle.language.specs.Sizes.{TOKENS, NODES}
 use Rattle.layout.specs.Table.{OWN, token_value, row_word, function_row}
-use Rattle.layout.specs.declared.functions.Found.{Found}
-use Rattle.layout.specs.declared.functions.Found.TheVariants.{At, Nowhere}
 
 -- function k's name is the token behind its `def`
 abbrev pub function_name : List ℕ → ℕ → ℕ
@@ -18,10 +15,5 @@ pub record Headed (w : List ℕ) (k : ℕ) : Type 0 where
 
 -- the row of the newest of the first n functions whose name has the number x
 unfoldable pub find_function : List ℕ → ℕ → ℕ → Option ℕ
-find_function w x zero = none
-find_function w x (suc n) = cond (eqb x (function_name w n)) (some (function_row w n)) (find_function w x n)
-
--- what the search says
-abbrev pub found : Found → Option ℕ
-found (At row) = some row
-found Nowhere = none
+find_function w x zero = None
+find_function w x (suc n) = cond (eqb x (function_name w n)) (Some (function_row w n)) (find_function w x n)

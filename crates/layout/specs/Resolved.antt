@@ -1,8 +1,7 @@
 -- Names and calls resolved before a run: of the own token of each name the slot of its frame that it means is noted,
 -- and of that of each call the row of the function that it calls. A frame's slots are a list, the newest first: of each
 -- the number of the name that is bound there, or HELD where an operand, an argument, an end or a step waits.
-use Rattle.std.specs.Prelude.{cond, List, [], ◌∷◌, ◌≡◌, ℕ, zero, suc, ◌+◌, eqb, length}
-use Rattle.std.proofs.Math.Option.{Option, none, some}
+use Rattle.std.specs.Prelude.{Option, None, Some, cond, List, [], ◌∷◌, ◌≡◌, ℕ, zero, suc, ◌+◌, eqb, length}
 use Rattle.language.specs.Trees.{Exp, name, literal, unary, binary, follow, group, block, call, bind, branch, loop}
 use Rattle.language.specs.Trees.{counted, Exps, last, more, Def, Program}
 use Rattle.layout.specs.Table.{OWN, token_value, row_word, function_row}
@@ -17,8 +16,8 @@ slot_of x (y ∷ L) = cond (eqb x y) (length L) (slot_of x L)
 
 -- the row of the newest function with the name x; of all names that no function has only `putchar` can be called
 abbrev pub row_or_nobody : Option ℕ → ℕ
-row_or_nobody none = NOBODY
-row_or_nobody (some row) = row
+row_or_nobody None = NOBODY
+row_or_nobody (Some row) = row
 
 unfoldable pub callee_row : List ℕ → ℕ → ℕ → ℕ
 callee_row w defs x = row_or_nobody (find_function w x defs)

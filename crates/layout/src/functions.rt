@@ -2,16 +2,9 @@
 ghost use Rattle.std.specs.Prelude.{◌≡◌, ℕ, ◌≤◌, ◌<◌, length};
 ghost use Rattle.language.specs.Sizes.{TOKENS, TABLE};
 ghost use Rattle.layout.specs.Table.{function_row, put_function};
-ghost use Rattle.layout.specs.Functions.{function_name, Headed, find_function, found};
+ghost use Rattle.layout.specs.Functions.{function_name, Headed, find_function};
 
 use crate::{FUNCTIONS_AT, rows, token};
-
-// A function, by its row.
-#[derive(Clone, Copy)]
-pub enum Found {
-    At(usize),
-    Nowhere,
-}
 
 fn word(table: &[u32], k: usize) -> u32
     requires { (TABLE ≤ length table.now) × (k < TOKENS) }
@@ -46,18 +39,15 @@ pub fn name(table: &[u32], k: usize) -> u32
     token::value(table, def + 1)
 }
 
-// The newest of the first `seen` functions whose name has this number.
-pub fn find(table: &[u32], seen: usize, number: u32) -> Found
+// The row of the newest of the first `seen` functions whose name has this number.
+pub fn find(table: &[u32], seen: usize, number: u32) -> Option<usize>
     requires { (TABLE ≤ length table.now) × ((k : ℕ) → k < seen → Headed table.now k) }
-    ensures { found result ≡ find_function table.now number seen }
+    ensures { result ≡ find_function table.now number seen }
 {
-    let mut i = seen;
-    while 0 < i {
-        let k = i - 1;
+    for k in (0..seen).rev() {
         if name(table, k) == number {
-            return Found::At(row(table, k));
+            return Some(row(table, k));
         }
-        i = k;
     }
-    Found::Nowhere
+    None
 }

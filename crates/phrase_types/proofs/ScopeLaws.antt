@@ -3,6 +3,7 @@ use mathlib.Core.Bool.{Bool, true, false, cond}
 use mathlib.Core.List.{List, [], ◌∷◌}
 use mathlib.Core.Option.{Option, none, some}
 use mathlib.Core.Path.{◌≡◌, refl, sym, subst}
+use Rattle.std.specs.Prelude as P
 use Prim.Native.Nat.{ℕ, ◌≤◌, ◌<◌}
 use native.Mathlib.Decide.{ℕ_discrete}
 use native.Mathlib.Omega.{arith}
@@ -56,9 +57,9 @@ module _ {ts : List Token} {f : ℕ} {w : List ℕ} {count : ℕ} (stand : Stand
       go (yes q) ih = subst (λ (j : ℕ). Headed w j) (sym q) (function_headed stand n a (omega arith))
       go (no q) ih = ih (omega arith)
 
-means_step : {f : ℕ} {ts : List Token} {w : List ℕ} (x : ℕ) (b : Bool) (r : ℕ) (d : Def) (c : Option ℕ) (o : Option Sig) → FunctionAt f ts w r d
+means_step : {f : ℕ} {ts : List Token} {w : List ℕ} (x : ℕ) (b : Bool) (r : ℕ) (d : Def) (c : P.Option ℕ) (o : Option Sig) → FunctionAt f ts w r d
     → Means f ts w (callee_by x c) o
-    → Means f ts w (callee_by x (cond b (some r) c)) (cond b (some (sig d)) o)
+    → Means f ts w (callee_by x (cond b (P.Some r) c)) (cond b (some (sig d)) o)
 means_step x true r d c o a h = (d, a, refl)
 means_step x false r d c o a h = h
 

@@ -2,7 +2,8 @@
 -- a function.
 use mathlib.Core.Bool.{Bool, true, false, cond}
 use mathlib.Core.List.{List, ◌∷◌}
-use mathlib.Core.Option.{some}
+use Rattle.std.specs.Prelude.{Some}
+use Rattle.std.proofs.lemmas.Option.{same_Some}
 use mathlib.Core.Path.{◌≡◌, refl, sym, ap, ap₂, subst, ◌∙◌}
 use Prim.Native.Nat.{ℕ, zero, suc, ◌+◌, ◌≤◌, ◌<◌}
 use native.Mathlib.Numerals.{add-one}
@@ -12,14 +13,11 @@ use lib.Dec.{eqb}
 use lib.ListN.{length}
 use Rattle.language.specs.Sizes.{TOKENS, NODES, TABLE}
 use Rattle.language.specs.Tokens.{LET, SEMI, WHILE, IF}
-use Rattle.language.proofs.Meaning.CellTypes.{none_some, some_one}
 use Rattle.layout.specs.Table.{OWN, token_value, row_word, function_row}
-use Rattle.layout.specs.Functions.{function_name, Headed, find_function, found}
+use Rattle.layout.specs.Functions.{function_name, Headed, find_function}
 use Rattle.layout.specs.Slots.{HELD}
-use Rattle.layout.specs.Notes.{NOBODY, put_name, put_note, names_in}
-use Rattle.layout.specs.Resolved.{slot_of, parameters_in, callee_row, row_or_nobody}
-use Rattle.layout.specs.declared.functions.Found.{Found}
-use Rattle.layout.specs.declared.functions.Found.TheVariants.{At, Nowhere}
+use Rattle.layout.specs.Notes.{put_name, put_note, names_in}
+use Rattle.layout.specs.Resolved.{slot_of, parameters_in}
 use Rattle.resolver.specs.Resolves.{Wrote, sees, Between, Entered, Binding, Bound}
 use Rattle.resolver.proofs.Writing.{wrote_none, wrote_then, wrote_name, names_put, row_alike, token_alike}
 
@@ -168,26 +166,14 @@ taken_all {t} {u} {row} {count} {i} h l =
 
 -- ---- the function that a call means
 
-pub found_inside : (t : List ℕ) (x defs : ℕ) {r : ℕ} → ((k : ℕ) → k < defs → Headed t k) → find_function t x defs ≡ some r → r < NODES
+pub found_inside : (t : List ℕ) (x defs : ℕ) {r : ℕ} → ((k : ℕ) → k < defs → Headed t k) → find_function t x defs ≡ Some r → r < NODES
 unfolding find_function
-found_inside t x zero h e = absurd (none_some e)
+found_inside t x zero h e = cc
 found_inside t x (suc n) {r} h e = go (eqb x (function_name t n)) e (λ d. found_inside t x n (λ k l. h k (omega arith)) d)
   where
-    go : (b : Bool) → cond b (some (function_row t n)) (find_function t x n) ≡ some r → (find_function t x n ≡ some r → r < NODES) → r < NODES
-    go true d before = omega (arith, (h n (omega arith)).row, some_one d)
+    go : (b : Bool) → cond b (Some (function_row t n)) (find_function t x n) ≡ Some r → (find_function t x n ≡ Some r → r < NODES) → r < NODES
+    go true d before = omega (arith, (h n (omega arith)).row, same_Some _ _ d)
     go false d before = before d
-
-module _ (t : List ℕ) (defs x : ℕ) (o : Found) (e : found o ≡ find_function t x defs) where
-  pub at_row : (r : ℕ) → o ≡ At r → r ≡ callee_row t defs x
-  unfolding callee_row
-  at_row r d = ap row_or_nobody (sym (ap found d) ∙ e)
-
-  pub at_inside : (r : ℕ) → o ≡ At r → ((k : ℕ) → k < defs → Headed t k) → r < NODES
-  at_inside r d h = found_inside t x defs h (sym e ∙ ap found d)
-
-  pub nowhere : o ≡ Nowhere → NOBODY ≡ callee_row t defs x
-  unfolding callee_row
-  nowhere d = ap row_or_nobody (sym (ap found d) ∙ e)
 
 -- ---- a name
 

@@ -11,7 +11,6 @@ ghost use Rattle.layout.specs.Resolved.{slot_of, callee_row};
 ghost use Rattle.resolver.specs.Resolves.{Between, Entered, Placing, Places, PlacingAll, PlacesAll};
 
 use language::kinds;
-use layout::functions::Found;
 use layout::{HELD, NOBODY, functions, notes, rows, token};
 use rules::operators;
 
@@ -108,14 +107,14 @@ pub fn place(table: &mut [u32], node: usize, defs: usize, size: usize)
 }
 
 // The row of the function that a call of this name means.
+#[tactic(auto, unfolding(layout::specs::Resolved::callee_row))]
 fn callee(table: &[u32], defs: usize, number: u32) -> u32
     requires { (TABLE ≤ length table.now) × ((k : ℕ) → k < defs → Headed table.now k) }
     ensures { result ≡ callee_row table.now defs number }
 {
-    let found = functions::find(table, defs, number);
-    match found {
-        Found::At(row) => row as u32,
-        Found::Nowhere => NOBODY,
+    match functions::find(table, defs, number) {
+        Some(row) => row as u32,
+        None => NOBODY,
     }
 }
 

@@ -1,16 +1,14 @@
--- A variable is sought from the last to the first, step by step; whom a call means, and what a callee wants.
+-- A variable is sought from the last to the first, step by step; what a callee wants.
 use mathlib.Core.List.{List}
 use mathlib.Core.Option.{none, some}
 use mathlib.Core.Path.{◌≡◌, refl, sym, ap, subst, ◌∙◌}
 use Prim.Native.Nat.{ℕ, suc, ◌+◌, ◌≤◌, ◌<◌}
 use borrow.Author.Tests.{eq-eqb, ne_eqb, lt-ltb, le-ltb}
-use Rattle.language.specs.Sizes.{TOKENS, NODES}
+use Rattle.language.specs.Sizes.{NODES}
 use Rattle.language.specs.Trees.{int}
 use Rattle.language.specs.Meaning.{type_number}
 use Rattle.layout.specs.Table.{TYPE, ARITY, row_word, variable_name, variable_type}
-use Rattle.layout.specs.Functions.{find_function, found}
-use Rattle.layout.specs.declared.functions.Found.{Found}
-use Rattle.rules.specs.Sight.{find_variable, callee_by, callee_in, Rowed, wanted_in, Readable, expected_in}
+use Rattle.rules.specs.Sight.{find_variable, Rowed, wanted_in, Readable, expected_in}
 use Rattle.rules.specs.declared.sight.Callee.{Callee}
 use Rattle.rules.specs.declared.sight.Taker.{Taker}
 
@@ -29,24 +27,6 @@ module _ (w : List ℕ) (x : ℕ) {i k : ℕ} (last : i ≡ suc k) where
 pub variable_none : (w : List ℕ) (x : ℕ) {i : ℕ} → i ≡ 0 → find_variable w x i ≡ none
 unfolding find_variable
 variable_none w x over = rw over refl
-
--- ---- whom a call means, by the function that was found
-
-module _ (w : List ℕ) (x n : ℕ) {r : Found} (e : found r ≡ find_function w x n) where
-  -- that function
-  pub callee_function : {row : ℕ} → r ≡ Found.At row → callee_in w x n ≡ Callee.Function row
-  unfolding callee_in
-  callee_function h = ap (callee_by x) (sym e ∙ ap found h)
-
-  -- none, and the name is `putchar`
-  pub callee_putchar : r ≡ Found.Nowhere → x ≡ TOKENS → callee_in w x n ≡ Callee.Putchar
-  unfolding callee_in
-  callee_putchar h p = ap (callee_by x) (sym e ∙ ap found h) ∙ rw (eq-eqb _ _ p) refl
-
-  -- or another
-  pub callee_nobody : r ≡ Found.Nowhere → (x ≡ TOKENS → ⊥) → callee_in w x n ≡ Callee.Nobody
-  unfolding callee_in
-  callee_nobody h p = ap (callee_by x) (sym e ∙ ap found h) ∙ rw (ne_eqb _ _ p) refl
 
 -- ---- a callee, by its case
 

@@ -1,5 +1,6 @@
 -- What is in sight: the variables and functions that the words stand for, and how each is found by its name's number.
 use Rattle.std.specs.Prelude.{cond, List, [], ◌∷◌, ◌≡◌, ℕ, zero, suc, ◌+◌, ◌≤◌, ◌<◌, eqb, ltb}
+use Rattle.std.specs.Prelude as P
 use Rattle.std.proofs.Math.Option.{Option, none, some}
 use Rattle.language.specs.Sizes.{TOKENS, NODES}
 use Rattle.language.specs.Tokens.{Token}
@@ -50,9 +51,9 @@ pub record InSight (ts : List Token) (f : ℕ) (w : List ℕ) (seen : ℕ) (Δ :
   pub functions : Functions f ts w seen Δ
 
 -- whom a call of the name with the number x means, by the row of the function that was found
-abbrev pub callee_by : ℕ → Option ℕ → Callee
-callee_by x (some r) = Callee.Function r
-callee_by x none = cond (eqb x TOKENS) Callee.Putchar Callee.Nobody
+abbrev pub callee_by : ℕ → P.Option ℕ → Callee
+callee_by x (P.Some r) = Callee.Function r
+callee_by x P.None = cond (eqb x TOKENS) Callee.Putchar Callee.Nobody
 
 -- where the first n functions are in sight
 unfoldable pub callee_in : List ℕ → ℕ → ℕ → Callee

@@ -46,19 +46,15 @@ pub fn variable(table: &[u32], binds: usize, name: u32) -> Found
 }
 
 // The callee of this name: the newest of the first `seen` functions, or `putchar`.
+#[tactic(auto, unfolding(crate::specs::Sight::callee_in))]
 pub fn called(table: &[u32], seen: usize, name: u32) -> Callee
     requires { (TABLE ≤ length table.now) × ((k : ℕ) → k < seen → Headed table.now k) }
     ensures { result ≡ callee_in table.now name seen }
 {
-    let newest = functions::find(table, seen, name);
-    match newest {
-        functions::Found::At(row) => Callee::Function(row),
-        functions::Found::Nowhere => {
-            if name == PUTCHAR {
-                return Callee::Putchar;
-            }
-            Callee::Nobody
-        }
+    match functions::find(table, seen, name) {
+        Some(row) => Callee::Function(row),
+        None if name == PUTCHAR => Callee::Putchar,
+        None => Callee::Nobody,
     }
 }
 

@@ -2,7 +2,7 @@
 use mathlib.Core.Path.{◌≡◌, refl, sym, ap, subst, ◌∙◌}
 use mathlib.Core.Bool.{Bool, false}
 use mathlib.Core.List.{List}
-use mathlib.Core.Option.{none, some}
+use Rattle.std.specs.Prelude.{None, Some}
 use Prim.Native.Nat.{ℕ, ◌+◌, ◌*◌, ◌/◌, ◌%◌, ◌≤◌, ◌<◌}
 use native.Mathlib.Omega.{arith}
 use lib.ListN.{length}
@@ -106,7 +106,7 @@ module _ {t w o : List ℕ} {v : Value} {row : ℕ} {p : Spot} {s : Tally} where
     pub last_heads : Any (Arguing t w o v row p s) → Heads t row
     last_heads x = argument_heads x.holds refl l.last (is_call t row j f g)
 
-    pub last_prints : none ≡ callee t row → {o1 : List ℕ} {r : Next} → Printing (row_word t row OWN) v o o1 p s r
+    pub last_prints : None ≡ callee t row → {o1 : List ℕ} {r : Next} → Printing (row_word t row OWN) v o o1 p s r
         → Prints (Arguing t w o v row p s) t w o1 (3 * s.units + p.height + 3) r
     last_prints n {o1} {r} c = record {
       right = λ q b. argument_prints b refl l.last (is_call t row j f g) n c;
@@ -117,7 +117,7 @@ module _ {t w o : List ℕ} {v : Value} {row : ℕ} {p : Spot} {s : Tally} where
     pub last_slot : Any (Arguing t w o v row p s) → p.base + p.size + k < SLOTS
     last_slot x = omega (arith, l.number, argument_slot x.holds refl)
 
-    module _ {head : ℕ} (who : some head ≡ callee t row) where
+    module _ {head : ℕ} (who : Some head ≡ callee t row) where
       pub last_callable : Any (Arguing t w o v row p s) → Callable t head
       last_callable x = argument_callable x.holds refl l.last (is_call t row j f g) who
 

@@ -1,7 +1,7 @@
 -- Calls: who is called, the first argument begins, or the body of a function without parameters.
 use mathlib.Core.Path.{◌≡◌, refl, sym, ap, subst, ◌∙◌}
 use mathlib.Core.List.{List, []}
-use mathlib.Core.Option.{Option, none, some}
+use Rattle.std.specs.Prelude.{Option, None, Some}
 use Prim.Native.Nat.{ℕ, suc, ◌+◌, ◌*◌, ◌≤◌, ◌<◌}
 use native.Mathlib.Omega.{arith}
 use lib.ListN.{length}
@@ -111,16 +111,16 @@ module _ {q : Run} {t w o : List ℕ} {node : ℕ} {p : Spot} {s : Tally} (b : S
         (sym (none_left q calling.args empty)) ∙ call_means
 
     -- it is not `putchar`
-    pub start_nobody : {A : Type 0} → none ≡ callee t node → A
+    pub start_nobody : {A : Type 0} → None ≡ callee t node → A
     start_nobody e =
         call_empty q b.κ b.d calling.i calling.x σ
-        (callee_of q b.scene calling.head calling.named calling.calls none e) refl empty_means
+        (callee_of q b.scene calling.head calling.named calling.calls None e) refl empty_means
 
-    module _ {row : ℕ} (who : some row ≡ callee t node) where
+    module _ {row : ℕ} (who : Some row ≡ callee t node) where
       one : Called q t row b.d [] σ b.κ
       one =
           call_enters q b.κ b.d calling.i calling.x σ
-          (callee_of q b.scene calling.head calling.named calling.calls (some row) who) refl [] empty_means
+          (callee_of q b.scene calling.head calling.named calling.calls (Some row) who) refl [] empty_means
 
       pub start_callable : Callable t row
       start_callable = record { long = b.scene.long; inside = one.function.inside }

@@ -4,6 +4,7 @@ use mathlib.Core.Path.{◌≡◌, refl, sym, ap, subst, ◌∙◌}
 use mathlib.Core.Bool.{Bool, true, false, cond}
 use mathlib.Core.List.{List, ◌∷◌}
 use mathlib.Core.Option.{Option, none, some}
+use Rattle.std.specs.Prelude as P
 use Prim.Native.Nat.{ℕ, ◌+◌, ◌≤◌, ◌<◌}
 use native.Mathlib.Omega.{arith}
 use lib.Dec.{eqb}
@@ -72,18 +73,18 @@ noted_holds few n {w} {base} b p v e =
 -- ---- functions
 
 -- what the table says of the function that is called
-pub data Calls (ts : List Token) (t : List ℕ) (defs : ℕ) : Option ℕ → Option Fun → Type 0 where
-  calls_putchar : {o : Option Fun} → o ≡ some putchar → Calls ts t defs none o
-  calls_nobody : {o : Option Fun} → o ≡ none → Calls ts t defs none o
+pub data Calls (ts : List Token) (t : List ℕ) (defs : ℕ) : P.Option ℕ → Option Fun → Type 0 where
+  calls_putchar : {o : Option Fun} → o ≡ some putchar → Calls ts t defs P.None o
+  calls_nobody : {o : Option Fun} → o ≡ none → Calls ts t defs P.None o
   calls_function : {row : ℕ} {o : Option Fun} (f : Def) → Function ts t defs row f → o ≡ some (defined f.params f.body)
-      → Calls ts t defs (some row) o
+      → Calls ts t defs (P.Some row) o
 
 module _ {ts : List Token} {t : List ℕ} {defs : ℕ} (few : length ts ≤ TOKENS) {key : ℕ} {x : Name} (h : Named ts key x) where
-  first_calls : Calls ts t defs none (nearest x (push PUTCHAR putchar empty))
+  first_calls : Calls ts t defs P.None (nearest x (push PUTCHAR putchar empty))
   unfolding nearest
   first_calls = by (same x PUTCHAR) refl
     where
-      by : (b : Bool) → same x PUTCHAR ≡ b → Calls ts t defs none (cond (same x PUTCHAR) (some putchar) none)
+      by : (b : Bool) → same x PUTCHAR ≡ b → Calls ts t defs P.None (cond (same x PUTCHAR) (some putchar) none)
       by true e = calls_putchar {o = cond (same x PUTCHAR) (some putchar) none} (rw e refl)
       by false e = calls_nobody {o = cond (same x PUTCHAR) (some putchar) none} (rw e refl)
 
@@ -93,13 +94,13 @@ module _ {ts : List Token} {t : List ℕ} {defs : ℕ} (few : length ts ≤ TOKE
   calls_of (defines_more {n = n} {fs = fs} {f = f} hd m g rest) = by (eqb key (function_name t n)) refl (calls_of rest)
     where
       by : (b : Bool) → eqb key (function_name t n) ≡ b → Calls ts t defs (find_function t key n) (nearest x fs)
-          → Calls ts t defs (cond (eqb key (function_name t n)) (some (function_row t n)) (find_function t key n))
+          → Calls ts t defs (cond (eqb key (function_name t n)) (P.Some (function_row t n)) (find_function t key n))
           (cond (same x f.called) (some (defined f.params f.body)) (nearest x fs))
       by true e ih = rw (e, sym (named_same few h m) ∙ e) (calls_function f g refl)
       by false e ih = rw (e, sym (named_same few h m) ∙ e) ih
 
   -- what is noted of the call
-  row_back : {found : Option ℕ} {o : Option Fun} → Calls ts t defs found o → row_noted (row_or_nobody found) ≡ found
+  row_back : {found : P.Option ℕ} {o : Option Fun} → Calls ts t defs found o → row_noted (row_or_nobody found) ≡ found
   row_back (calls_putchar e) = refl
   row_back (calls_nobody e) = refl
   row_back (calls_function {row = row} f g e) = rw (ne_eqb row NOBODY (λ z. omega (arith, g.inside))) refl
@@ -108,15 +109,15 @@ module _ {ts : List Token} {t : List ℕ} {defs : ℕ} (few : length ts ≤ TOKE
   unfolding callee_row
   noted_calls {fs} def e =
       let c = calls_of def in
-      subst (λ (f : Option ℕ). Calls ts t defs f (nearest x fs)) (sym (ap row_noted e ∙ row_back c)) c
+      subst (λ (f : P.Option ℕ). Calls ts t defs f (nearest x fs)) (sym (ap row_noted e ∙ row_back c)) c
 
 -- ---- as the code reads it
 
 module _ (t : List ℕ) (node : ℕ) {own row : ℕ} (e : own ≡ row_word t node OWN) (f : row ≡ noted t own) where
-  pub nobody_noted : row ≡ NOBODY → none ≡ callee t node
+  pub nobody_noted : row ≡ NOBODY → P.None ≡ callee t node
   nobody_noted g = ap row_noted (sym g ∙ f ∙ ap (λ (n : ℕ). noted t n) e)
 
-  pub function_noted : (row ≡ NOBODY → ⊥) → some row ≡ callee t node
+  pub function_noted : (row ≡ NOBODY → ⊥) → P.Some row ≡ callee t node
   function_noted g =
-      let z : row_noted row ≡ some row = rw (ne_eqb row NOBODY g) refl in
+      let z : row_noted row ≡ P.Some row = rw (ne_eqb row NOBODY g) refl in
       sym z ∙ ap row_noted (f ∙ ap (λ (n : ℕ). noted t n) e)

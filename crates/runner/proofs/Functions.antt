@@ -1,7 +1,8 @@
 -- A function is entered: its body sees the arguments, which lie in the first slots of its frame.
 use mathlib.Core.Path.{◌≡◌, refl, sym, ap, subst, ◌∙◌}
 use mathlib.Core.List.{List, [], ◌∷◌, ◌++◌}
-use mathlib.Core.Option.{Option, none, some}
+use mathlib.Core.Option.{none, some}
+use Rattle.std.specs.Prelude as P
 use Prim.Native.Nat.{ℕ, zero, suc, ◌+◌}
 use native.Mathlib.Omega.{arith}
 use native.Mathlib.Numerals.{add-one}
@@ -21,7 +22,6 @@ use Rattle.machine.specs.Slots.{values_from}
 use Rattle.layout.specs.Resolved.{parameters_in}
 use Rattle.runner.specs.Trees.{Function}
 use Rattle.runner.specs.Waiting.{Run, Then, Binds, binds_none, binds_name, called}
-use Rattle.language.proofs.Meaning.CellTypes.{none_some, some_one}
 use Rattle.runner.proofs.Finding.{Calls, calls_putchar, calls_nobody, calls_function}
 
 -- ---- slots
@@ -156,26 +156,26 @@ function_enters q κ d i x s f g e vs means =
 
 module _ (q : Run) {t : List ℕ} (κ : Then) (d i : ℕ) (x : Name) (s : M.State) where
   -- it is `putchar`
-  pub call_prints : {found : Option ℕ} → Calls q.ts t q.defs found (nearest x q.fs) → found ≡ none → (us : List M.Value) (v : M.Value)
+  pub call_prints : {found : P.Option ℕ} → Calls q.ts t q.defs found (nearest x q.fs) → found ≡ P.None → (us : List M.Value) (v : M.Value)
       → then (called q.fs d i x (us ++ (v ∷ [])) s) κ ≡ q.whole → then (want (as_int v) λ z. put i z s) κ ≡ q.whole
   call_prints (calls_putchar f) e us v means = putchar_whole q κ d i x s f us v means
   call_prints (calls_nobody f) e us v means = nobody_whole q κ d i x s f (us ++ (v ∷ [])) means
-  call_prints (calls_function f g h) e us v means = absurd (none_some (sym e))
+  call_prints (calls_function f g h) e us v means = cc
 
   -- or a function
-  pub call_enters : {found : Option ℕ} {head : ℕ} → Calls q.ts t q.defs found (nearest x q.fs) → found ≡ some head → (vs : List M.Value)
+  pub call_enters : {found : P.Option ℕ} {head : ℕ} → Calls q.ts t q.defs found (nearest x q.fs) → found ≡ P.Some head → (vs : List M.Value)
       → then (called q.fs d i x vs s) κ ≡ q.whole → Called q t head d vs s κ
-  call_enters (calls_putchar f) e vs means = absurd (none_some e)
-  call_enters (calls_nobody f) e vs means = absurd (none_some e)
+  call_enters (calls_putchar f) e vs means = cc
+  call_enters (calls_nobody f) e vs means = cc
   call_enters (calls_function {row = row} f g h) e vs means =
-      function_enters q κ d i x s f (subst (λ (r : ℕ). Function q.ts t q.defs r f) (some_one e) g) h vs means
+      function_enters q κ d i x s f (subst (λ (r : ℕ). Function q.ts t q.defs r f) (cc) g) h vs means
 
   -- without arguments it is a function
-  pub call_empty : {A : Type 0} {found : Option ℕ} → Calls q.ts t q.defs found (nearest x q.fs) → found ≡ none
+  pub call_empty : {A : Type 0} {found : P.Option ℕ} → Calls q.ts t q.defs found (nearest x q.fs) → found ≡ P.None
       → then (called q.fs d i x [] s) κ ≡ q.whole → A
   call_empty (calls_putchar f) e means = putchar_none q κ d i x s f means
   call_empty (calls_nobody f) e means = nobody_whole q κ d i x s f [] means
-  call_empty (calls_function f g h) e means = absurd (none_some (sym e))
+  call_empty (calls_function f g h) e means = cc
 
 -- ---- the body
 

@@ -2,7 +2,7 @@
 use mathlib.Core.Path.{◌≡◌, refl, sym, ap, subst, ◌∙◌}
 use mathlib.Core.Bool.{false}
 use mathlib.Core.List.{List, [], ◌∷◌, ◌++◌, append_assoc}
-use mathlib.Core.Option.{none, some}
+use Rattle.std.specs.Prelude.{None, Some}
 use Prim.Native.Nat.{ℕ, suc, ◌+◌, ◌*◌, ◌/◌, ◌%◌, ◌≤◌, ◌<◌}
 use native.Mathlib.Omega.{arith}
 use lib.ListN.{length}
@@ -162,10 +162,10 @@ module _ {q : Run} {t w o : List ℕ} {v : Value} {row phase : ℕ} {p : Spot} {
     call_means = ap (λ (m : M.Outcome). then m r.κ) (sym (call_of.is (all end) σ)) ∙ last_means end
 
     -- `putchar` prints it
-    pub argument_prints : none ≡ callee t row → {o1 : List ℕ} {z : Next} → Printing (row_word t row OWN) v o o1 p s z → Good q t w o1 z
+    pub argument_prints : None ≡ callee t row → {o1 : List ℕ} {z : Next} → Printing (row_word t row OWN) v o o1 p s z → Good q t w o1 z
     argument_prints n {o1} {z} c =
         let m = call_prints q r.κ r.d call_of.i call_of.x σ
-        (callee_of q r.scene call_of.head call_of.named call_of.calls none n) refl waiting.vs (meant v) call_means in
+        (callee_of q r.scene call_of.head call_of.named call_of.calls None n) refl waiting.vs (meant v) call_means in
         let i = call_of.head.own_is in
         subst (λ (y : Next). Good q t w o1 y) (sym c.is)
         (onward_good (suc r.d) (B + N) p c.outcome (row_word t row OWN) v r.scene (fair_printed c.outcome r.fair c.printed) r.deep
@@ -173,11 +173,11 @@ module _ {q : Run} {t w o : List ℕ} {v : Value} {row phase : ℕ} {p : Spot} {
         (told_whole q r.κ (c.printed.right (row_word t row OWN) w)
         (ap (λ (j : ℕ). then (want (as_int (meant v)) λ z. put j z σ) r.κ) i ∙ m)))
 
-    module _ {head : ℕ} (who : some head ≡ callee t row) where
+    module _ {head : ℕ} (who : Some head ≡ callee t row) where
       one : Called q t head r.d (all end) σ r.κ
       one =
           call_enters q r.κ r.d call_of.i call_of.x σ
-          (callee_of q r.scene call_of.head call_of.named call_of.calls (some head) who) refl (all end) call_means
+          (callee_of q r.scene call_of.head call_of.named call_of.calls (Some head) who) refl (all end) call_means
 
       pub argument_callable : Callable t head
       argument_callable = record { long = r.scene.long; inside = one.function.inside }

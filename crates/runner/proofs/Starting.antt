@@ -2,7 +2,7 @@
 use mathlib.Core.Path.{◌≡◌, refl, sym, ap, subst, ◌∙◌}
 use mathlib.Core.Bool.{Bool, true, false}
 use mathlib.Core.List.{List}
-use mathlib.Core.Option.{none, some}
+use Rattle.std.specs.Prelude as P
 use Prim.Native.Nat.{ℕ, ◌+◌, ◌*◌, ◌≤◌, ◌<◌}
 use native.Mathlib.Omega.{arith}
 use Rattle.language.specs.Sizes.{TOKENS, NODES, ACTIVE}
@@ -125,7 +125,7 @@ module _ {t w : List ℕ} {node : ℕ} {p : Spot} {s : Tally} where
 
     module _ {row : ℕ} (f : row ≡ row_word t node FIRST) where
       module _ (e : row ≡ 0) where
-        module _ {head : ℕ} (who : some head ≡ callee t node) where
+        module _ {head : ℕ} (who : P.Some head ≡ callee t node) where
           pub calls_callable : Some (Started t w node p s) → Callable t head
           calls_callable x = start_callable x.holds k (sym f ∙ e) who
 
@@ -137,7 +137,7 @@ module _ {t w : List ℕ} {node : ℕ} {p : Spot} {s : Tally} where
               → Goes (Started t w node p s) t w1 (3 * s.units + p.height + 3) r
           calls_enters x = goes_to x.laid x.is (λ q o b. start_enters b k (sym f ∙ e) who) (omega arith)
 
-        pub calls_nobody : none ≡ callee t node → {v : Value} {r : Next} → r ≡ given v p s
+        pub calls_nobody : P.None ≡ callee t node → {v : Value} {r : Next} → r ≡ given v p s
             → Goes (Started t w node p s) t w (3 * s.units + p.height + 3) r
         calls_nobody who h = goes_to refl h (λ q o b. start_nobody b k (sym f ∙ e) who) (omega arith)
 

@@ -1,6 +1,6 @@
 -- Where a run stands between two steps, and what the functions of the steps ask and promise.
 use Rattle.std.specs.Prelude.{Bool, true, false, cond, List, ◌≡◌, ℕ, suc, ◌+◌, ◌-◌, ◌*◌, ◌/◌, ◌%◌, ◌≤◌, ◌<◌, eqb, length, get_or}
-use Rattle.std.proofs.Math.Option.{Option, none, some}
+use Rattle.std.specs.Prelude as P
 use Rattle.language.specs.Sizes.{TOKENS, NODES, ACTIVE, ALLOWANCE, TABLE, WORK}
 use Rattle.language.specs.Trees.{Exp}
 use Rattle.language.specs.State as M
@@ -226,10 +226,10 @@ pub record Heads (t : List ℕ) (node : ℕ) : Type 0 where
   pub token : row_word t node OWN < TOKENS
 
 -- the row of the function that it calls, by what is noted
-abbrev pub row_noted : ℕ → Option ℕ
-row_noted n = cond (eqb n NOBODY) none (some n)
+abbrev pub row_noted : ℕ → P.Option ℕ
+row_noted n = cond (eqb n NOBODY) P.None (P.Some n)
 
-abbrev pub callee : List ℕ → ℕ → Option ℕ
+abbrev pub callee : List ℕ → ℕ → P.Option ℕ
 callee t node = row_noted (noted t (row_word t node OWN))
 
 -- a function whose row can be read

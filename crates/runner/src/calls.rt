@@ -4,7 +4,6 @@ ghost use Rattle.std.specs.Prelude.{◌≡◌, ◌+◌, ◌*◌, ◌≤◌, ◌<
 ghost use Rattle.language.specs.Sizes.{NODES, PARAMETERS, TABLE, WORK};
 ghost use Rattle.layout.specs.Table.{KIND, OWN, ARITY, EXPRESSION, BODY, row_word};
 ghost use Rattle.layout.specs.Rows.{CALL};
-ghost use Rattle.layout.specs.Functions.{found};
 ghost use Rattle.layout.specs.Slots.{SLOTS, TAGS};
 ghost use Rattle.layout.specs.Frames.{FRAMES, SIZES, put_frame};
 ghost use Rattle.runner.specs.Phases.{ARGUMENT};
@@ -13,7 +12,6 @@ ghost use Rattle.runner.specs.Standing.{Printing, Callable, Enters, Heads, calle
 
 use crate::state::{Next, Spot};
 use crate::{loops, state};
-use layout::functions::Found;
 use layout::values::Value;
 use layout::{NOBODY, SLOTS_AT, frames, notes, rows, slots};
 use machine::output;
@@ -23,16 +21,16 @@ use machine::state::{Outcome, Tally};
 const NUMBERS: usize = 8;
 
 // The function that a call means, as it is noted of its token; `putchar` has no row.
-fn callee(table: &[u32], node: usize) -> Found
+fn callee(table: &[u32], node: usize) -> Option<usize>
     requires { Heads table.now node }
-    ensures { found result ≡ callee table.now node }
+    ensures { result ≡ callee table.now node }
 {
     let own = rows::link(table, node, rows::OWN);
     let row = notes::note(table, own);
     if row == NOBODY {
-        return Found::Nowhere;
+        return None;
     }
-    Found::At(row as usize)
+    Some(row as usize)
 }
 
 pub fn call(table: &[u32], work: &mut [u32], node: usize, v: Value, spot: Spot, s: Tally) -> Next
@@ -43,10 +41,9 @@ pub fn call(table: &[u32], work: &mut [u32], node: usize, v: Value, spot: Spot, 
 {
     let row = rows::link(table, node, rows::FIRST);
     if row == 0 {
-        let who = callee(table, node);
-        return match who {
-            Found::At(head) => enter(table, work, head, node, v, spot, s),
-            Found::Nowhere => state::gives(v, spot, s),
+        return match callee(table, node) {
+            Some(head) => enter(table, work, head, node, v, spot, s),
+            None => state::gives(v, spot, s),
         };
     }
     pass(table, work, node, row, 0, v, spot, s)
@@ -162,10 +159,9 @@ fn last_argument(
     if loops::counts(kind) {
         return loops::bounded(table, work, v, node, k, spot, s);
     }
-    let who = callee(table, node);
-    match who {
-        Found::Nowhere => print(table, out, v, node, spot, s),
-        Found::At(head) => {
+    match callee(table, node) {
+        None => print(table, out, v, node, spot, s),
+        Some(head) => {
             let at = spot.base + spot.size + k;
             slots::put(work, SLOTS_AT, at, state::NAMELESS, v);
             enter(table, work, head, node, v, spot, s)

@@ -2,7 +2,6 @@
 use mathlib.Core.Path.{sym, ap, ◌∙◌}
 use lib.Dec.{lit<, lit≤}
 use native.Mathlib.Omega.{arith}
-use Rattle.layout.specs.Functions.{found}
 use Rattle.layout.specs.Decode.{counts}
 use Rattle.runner.proofs.Promises.{some_of}
 use Rattle.runner.proofs.Arguing.{framed, last_heads, last_prints, last_slot, last_callable, last_fits, last_enters}
@@ -17,8 +16,8 @@ bounded-requires c =
     let k = ap counts (sym c.word-kind.ensures) ∙ sym c.counts.ensures ∙ c.if-counts.true in
     (some_of _ (λ q x. x) c.requires.0, c.requires.1, k)
 
-pub callee-who-requires : goal.callee-who-requires
-callee-who-requires c =
+pub callee-requires : goal.callee-requires
+callee-requires c =
     last_heads c.word-kind.ensures c.counts.ensures c.if-counts.false c.requires.1 c.requires.0
 
 pub print-requires : goal.print-requires
@@ -32,7 +31,7 @@ put-requires c =
 
 pub enter-requires : goal.enter-requires
 enter-requires c =
-    let who = sym (ap found c.in-At.is) ∙ c.callee-who.ensures in
+    let who = sym c.in-Some.is ∙ c.callee.ensures in
     let x = framed c.requires.0 in (
       last_callable c.word-kind.ensures c.counts.ensures c.if-counts.false c.requires.1 who c.requires.0,
       omega (arith, x.work, c.put.auto.work),
@@ -41,13 +40,13 @@ enter-requires c =
       last_fits c.word-kind.ensures c.counts.ensures c.if-counts.false c.requires.1 who c.requires.0,
     )
 
-pub returns-in-Nowhere : goal.returns-in-Nowhere
-returns-in-Nowhere c =
+pub returns-in-None : goal.returns-in-None
+returns-in-None c =
     last_prints c.word-kind.ensures c.counts.ensures c.if-counts.false c.requires.1
-    (sym (ap found c.in-Nowhere.is) ∙ c.callee-who.ensures) c.print.ensures
+    (sym c.in-None.is ∙ c.callee.ensures) c.print.ensures
 
-pub returns-in-At : goal.returns-in-At
-returns-in-At c =
+pub returns-in-Some : goal.returns-in-Some
+returns-in-Some c =
     last_enters c.word-kind.ensures c.counts.ensures c.if-counts.false c.requires.1
-    (sym (ap found c.in-At.is) ∙ c.callee-who.ensures) c.put.ensures.1 c.put.ensures.0
+    (sym c.in-Some.is ∙ c.callee.ensures) c.put.ensures.1 c.put.ensures.0
     c.enter.ensures
