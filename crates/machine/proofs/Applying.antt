@@ -18,8 +18,8 @@ use Rattle.layout.specs.declared.values.Value.TheVariants.{Flag}
 use Rattle.machine.specs.Rows.{unary_of, binary_of}
 use Rattle.machine.specs.Outcomes.{tells, memory, Fitted, Answered}
 use Rattle.machine.specs.declared.state.Tally.{Tally}
-use Rattle.machine.specs.declared.state.Outcome.{Outcome}
-use Rattle.machine.specs.declared.state.Outcome.TheVariants.{Gives}
+use Rattle.machine.specs.Outcomes.{Outcome}
+use Rattle.std.specs.Prelude.{Ok}
 use Rattle.machine.proofs.Telling.{tells_same, want_some, want_none}
 
 -- ---- one operand
@@ -55,13 +55,13 @@ module _ (op : ℕ) (v : M.Value) (w : List ℕ) (s : Tally) where
   unfolding unary_of
   is_not e = rw e refl
 
-  not_right : (b : Bool) → some b ≡ as_bool v → Answered (λ i σ. apply_unary i Unary.not v σ) w s (Gives (Flag (not b)))
+  not_right : (b : Bool) → some b ≡ as_bool v → Answered (λ i σ. apply_unary i Unary.not v σ) w s (Ok (Flag (not b)))
   unfolding apply_unary
   not_right b e i o = want_some (as_bool v) _ e tells
 
   -- not of a truth
-  pub applies_not : op ≡ PREFIX + NOT → (b : Bool) → some b ≡ as_bool v → Applies (Gives (Flag (not b)))
-  applies_not d b e = by_unary (is_not d) (Gives (Flag (not b))) (not_right b e)
+  pub applies_not : op ≡ PREFIX + NOT → (b : Bool) → some b ≡ as_bool v → Applies (Ok (Flag (not b)))
+  applies_not d b e = by_unary (is_not d) (Ok (Flag (not b))) (not_right b e)
 
   not_none : none ≡ as_bool v → (r : Outcome) → Answered (λ i σ. apply_unary i Unary.not v σ) w s r
   unfolding apply_unary

@@ -23,8 +23,8 @@ use Rattle.machine.specs.Slots.{slots, cells_of, Rising, Sought}
 use Rattle.machine.specs.Outcomes.{Tells, memory, told, Room, Kept, Means, Applied, born, Created}
 use Rattle.numbers.specs.declared.Stop.{Stop}
 use Rattle.machine.specs.declared.state.Tally.{Tally}
-use Rattle.machine.specs.declared.state.Outcome.{Outcome}
-use Rattle.machine.specs.declared.state.Outcome.TheVariants.{Gives, Halts}
+use Rattle.machine.specs.Outcomes.{Outcome}
+use Rattle.std.specs.Prelude.{Some, None, Ok, Err}
 use Rattle.machine.proofs.Telling.{tells_same, tells_by}
 use Rattle.machine.proofs.Slotted.{put_other, put_length, put_key, slots_put, held_slots, count_slots}
 use Rattle.machine.proofs.Keeping.{kept_self, rising_same}
@@ -38,21 +38,21 @@ applied_still m {w} {s} r room h = record { kept = kept_self w s; room = room; r
 
 -- ---- a cell read
 
-module _ (n : ℕ) (w : List ℕ) (s : Tally) {j : ℕ} (room : Room w s) (h : Sought w s.cells n j) (i : ℕ) (o : List ℕ) where
+module _ (n : ℕ) (w : List ℕ) (s : Tally) (i : ℕ) (o : List ℕ) where
   -- it is live
-  pub fetched : j < s.cells → (v : Value) → meant v ≡ value_at w CELLS_AT j
-      → told i (memory w o s) (Gives v) ≡ apply_unary i fetch (cell n) (memory w o s)
+  pub fetched : {j : ℕ} → Room w s → Sought w s.cells n (Some j) → (v : Value) → meant v ≡ value_at w CELLS_AT j
+      → told i (memory w o s) (Ok v) ≡ apply_unary i fetch (cell n) (memory w o s)
   unfolding apply_unary when_some
-  fetched l v e =
+  fetched room h v e =
       let q : held n (cells_of (slots w CELLS_AT s.cells)) ≡ some (meant v) =
-      held_slots n (slots w CELLS_AT s.cells) ∙ sought_some room.rising h l ∙ ap some (sym e) in
+      held_slots n (slots w CELLS_AT s.cells) ∙ sought_some room.rising h ∙ ap some (sym e) in
       rw q refl
 
   -- it is freed
-  pub unfetched : s.cells ≤ j → told i (memory w o s) (Halts Stop.CellFreed) ≡ apply_unary i fetch (cell n) (memory w o s)
+  pub unfetched : Sought w s.cells n None → told i (memory w o s) (Err Stop.CellFreed) ≡ apply_unary i fetch (cell n) (memory w o s)
   unfolding apply_unary when_some
-  unfetched l =
-      let q : held n (cells_of (slots w CELLS_AT s.cells)) ≡ none = held_slots n (slots w CELLS_AT s.cells) ∙ sought_none room.rising h l in
+  unfetched h =
+      let q : held n (cells_of (slots w CELLS_AT s.cells)) ≡ none = held_slots n (slots w CELLS_AT s.cells) ∙ sought_none h in
       rw q refl
 
 -- ---- a cell born
@@ -63,7 +63,7 @@ module _ {w : List ℕ} {s : Tally} (v : Value) (room : Room w s) where
   full_right h i o = tells_same (rw (count_slots w CELLS_AT s.cells, le-ltb s.cells CELLS h) refl)
 
   -- too many are live
-  pub create_full : CELLS ≤ s.cells → Created (meant v) w w s (Halts Stop.CellsFull)
+  pub create_full : CELLS ≤ s.cells → Created (meant v) w w s (Err Stop.CellsFull)
   create_full h = record { kept = kept_self w s; room = room; right = full_right h }
 
   module _ (h : s.cells < CELLS) (back : Survives v) (w1 : List ℕ) (ew : w1 ≡ put_slot w CELLS_AT s.cells (s.births + 1) v) where
@@ -118,7 +118,7 @@ module _ {w : List ℕ} {s : Tally} (v : Value) (room : Room w s) where
     length_is = ap (λ (x : List ℕ). length x) ew ∙ put_length w CELLS_AT s.cells (s.births + 1) v
 
     -- it is born
-    pub create_made : Created (meant v) w w1 s (Gives (Cell (s.births + 1)))
+    pub create_made : Created (meant v) w w1 s (Ok (Cell (s.births + 1)))
     create_made = record {
       kept = record {
         below = λ i l u. other i (λ a b. omega arith);
@@ -186,7 +186,7 @@ module _ (n : ℕ) {w w1 : List ℕ} {s : Tally} (v : Value) (room : Room w s) (
       (tells_same (ap (λ (cs : Cells). value nothing (with_cells cs (memory w o s))) st.now))
 
   -- it is live
-  assigned : r ≡ true → Applied (λ i σ. apply_binary i assign (cell n) (meant v) σ) w w1 s (Gives Nothing)
+  assigned : r ≡ true → Applied (λ i σ. apply_binary i assign (cell n) (meant v) σ) w w1 s (Ok Nothing)
   assigned e = record { kept = stored_kept; room = stored_room; right = assigned_right e }
 
   missed_right : r ≡ false → (i : ℕ) (o : List ℕ)
@@ -198,22 +198,19 @@ module _ (n : ℕ) {w w1 : List ℕ} {s : Tally} (v : Value) (room : Room w s) (
       (tells_same (ap (λ (cs : Cells). stop cell_freed i (with_cells cs (memory w o s))) (st.now ∙ store_miss n (meant v) old h)))
 
   -- it is freed
-  missed : r ≡ false → Applied (λ i σ. apply_binary i assign (cell n) (meant v) σ) w w1 s (Halts Stop.CellFreed)
+  missed : r ≡ false → Applied (λ i σ. apply_binary i assign (cell n) (meant v) σ) w w1 s (Err Stop.CellFreed)
   missed e = record { kept = stored_kept; room = stored_room; right = missed_right e }
 
 -- the same of a cell that was sought
-module _ (n : ℕ) {w : List ℕ} {s : Tally} (v : Value) (room : Room w s) {j : ℕ} (h : Sought w s.cells n j) where
+module _ (n : ℕ) {w : List ℕ} {s : Tally} (v : Value) (room : Room w s) where
   -- it is live
-  pub assigned_at : j < s.cells → Survives v → (w1 : List ℕ) → w1 ≡ put_slot w CELLS_AT j n v
-      → Applied (λ i σ. apply_binary i assign (cell n) (meant v) σ) w w1 s (Gives Nothing)
-  assigned_at l back w1 e =
+  pub assigned_at : {j : ℕ} → Sought w s.cells n (Some j) → Survives v → (w1 : List ℕ) → w1 ≡ put_slot w CELLS_AT j n v
+      → Applied (λ i σ. apply_binary i assign (cell n) (meant v) σ) w w1 s (Ok Nothing)
+  assigned_at {j} h back w1 e =
+      let l = h.found.0 in
       assigned n v room (ap (λ (x : List ℕ). length x) e ∙ put_length w CELLS_AT j n v)
-      (store_hit w CELLS_AT n v j (h.hit l) back s.cells l (omega (arith, room.long, room.few)) (passed_above room.rising h l) w1 e) refl
+      (store_hit w CELLS_AT n v j h.found.1 back s.cells l (omega (arith, room.long, room.few)) (passed_above room.rising h) w1 e) refl
 
   -- it is freed
-  pub missed_at : s.cells ≤ j → Applied (λ i σ. apply_binary i assign (cell n) (meant v) σ) w w s (Halts Stop.CellFreed)
-  missed_at l = missed n v room refl (store_none w CELLS_AT n v s.cells 0 (omega arith) (λ k a u. h.miss l k u)) refl
-
-  -- a live cell's key is its birth
-  pub key_small : j < s.cells → n ≤ s.births
-  key_small l = omega (arith, h.hit l, room.low j l)
+  pub missed_at : Sought w s.cells n None → Applied (λ i σ. apply_binary i assign (cell n) (meant v) σ) w w s (Err Stop.CellFreed)
+  missed_at h = missed n v room refl (store_none w CELLS_AT n v s.cells 0 (omega arith) (λ k a u. h.found k u)) refl

@@ -12,8 +12,8 @@ use Rattle.layout.specs.declared.values.Value.{Value}
 use Rattle.layout.specs.declared.values.Value.TheVariants.{Flag}
 use Rattle.machine.specs.Rows.{binary_of, OnNumbers}
 use Rattle.machine.specs.Outcomes.{anything, Judged}
-use Rattle.machine.specs.declared.state.Outcome.{Outcome}
-use Rattle.machine.specs.declared.state.Outcome.TheVariants.{Gives}
+use Rattle.machine.specs.Outcomes.{Outcome}
+use Rattle.std.specs.Prelude.{Ok}
 use Rattle.machine.proofs.Telling.{tells_same, want_none, alike_float, alike_neither}
 use Rattle.machine.proofs.Reckoning.{is_equal, all_numbers}
 
@@ -24,27 +24,27 @@ module _ (op : ℕ) (x y : Float) where
   Computes r = Judged (λ i σ. apply_binary i (binary_of op) (float x) (float y) σ) r
 
   -- +
-  pub computes_add : op ≡ PLUS → Computes (Gives (Value.Float (add binary64 x y)))
+  pub computes_add : op ≡ PLUS → Computes (Ok (Value.Float (add binary64 x y)))
   unfolding apply_binary alike when_some binary_of
   computes_add e = λ i σ. tells_same (rw e refl)
 
   -- -
-  pub computes_sub : op ≡ MINUS → Computes (Gives (Value.Float (sub binary64 x y)))
+  pub computes_sub : op ≡ MINUS → Computes (Ok (Value.Float (sub binary64 x y)))
   unfolding apply_binary alike when_some binary_of
   computes_sub e = λ i σ. tells_same (rw e refl)
 
   -- *
-  pub computes_mul : op ≡ STAR → Computes (Gives (Value.Float (mul binary64 x y)))
+  pub computes_mul : op ≡ STAR → Computes (Ok (Value.Float (mul binary64 x y)))
   unfolding apply_binary alike when_some binary_of
   computes_mul e = λ i σ. tells_same (rw e refl)
 
   -- /
-  pub computes_div : op ≡ SLASH → Computes (Gives (Value.Float (div binary64 x y)))
+  pub computes_div : op ≡ SLASH → Computes (Ok (Value.Float (div binary64 x y)))
   unfolding apply_binary alike when_some binary_of
   computes_div e = λ i σ. tells_same (rw e refl)
 
   -- <
-  pub computes_less : op ≡ LESS → Computes (Gives (Flag (lt x y)))
+  pub computes_less : op ≡ LESS → Computes (Ok (Flag (lt x y)))
   unfolding apply_binary alike when_some binary_of
   computes_less e = λ i σ. tells_same (rw e refl)
 

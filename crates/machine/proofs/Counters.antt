@@ -8,13 +8,13 @@ use mir.Syntax.{w32}
 use mir.Val.{of_z, SFits}
 use Rattle.language.specs.State as M
 use Rattle.language.specs.State.{number, as_int}
-use Rattle.language.specs.Meaning.{in_range, is_zero, same_int, towards, due}
+use Rattle.language.specs.Meaning.{is_zero, same_int, towards, due}
 use Rattle.language.proofs.Meaning.CellTypes.{none_some, some_one}
 use Rattle.layout.specs.Values.{meant}
 use Rattle.layout.specs.declared.values.Value.{Value}
-use Rattle.machine.specs.Operands.{OfInt, before, stepped, counter_in}
-use Rattle.machine.specs.declared.counting.Counter.{Counter}
-use Rattle.machine.proofs.Ranges.{zero_fits}
+use Rattle.machine.specs.Operands.{OfInt, before, stepped, written}
+use Rattle.std.specs.Prelude.{Option, option_map}
+use Rattle.machine.proofs.Ranges.{zero_fits, fits_range, over_range}
 use Rattle.machine.proofs.Reckoning.{bits_equal}
 
 module _ (through : Bool) (to by z : ℤ) {b : Bool} (e : b ≡ before to by z) where
@@ -30,12 +30,12 @@ module _ (through : Bool) (to by z : ℤ) {b : Bool} (e : b ≡ before to by z) 
   unfolding due
   due_past f g = let h : before to by z ≡ false = sym e ∙ f in rw (h, g) refl
 
-module _ (z by : ℤ) {b : Bool} (e : b ≡ in_range (z +ℤ by)) where
-  pub steps_to : b ≡ true → {x : ℤ} → x ≡ z +ℤ by → some (number x) ≡ stepped z by
-  steps_to f k = let h : in_range (z +ℤ by) ≡ true = sym e ∙ f in rw (h, k) refl
+module _ (z by : ℤ) where
+  pub steps_to : {x : ℤ} → SFits w32 (z +ℤ by) × (x ≡ z +ℤ by) → some (number x) ≡ stepped z by
+  steps_to h = rw (fits_range (z +ℤ by) h.0, h.1) refl
 
-  pub steps_past : b ≡ false → none ≡ stepped z by
-  steps_past f = let h : in_range (z +ℤ by) ≡ false = sym e ∙ f in rw h refl
+  pub steps_past : (SFits w32 (z +ℤ by) → ⊥) → none ≡ stepped z by
+  steps_past h = rw (over_range (z +ℤ by) h) refl
 
 -- ---- the number that a value is
 
@@ -61,8 +61,8 @@ module _ {v w : M.Value} {a b : ℤ} (f : OfInt v (λ x. a ≡ x)) (g : OfInt w 
   pub step_is : {r : ℤ} → r ≡ towards a b → OfInt v (λ x. OfInt w (λ y. number r ≡ number (towards x y)))
   step_is {r} e = both (λ x y. number r ≡ number (towards x y)) (ap number e)
 
-  pub next_is : (r : Counter) → counter_in r ≡ stepped a b → OfInt v (λ x. OfInt w (λ y. counter_in r ≡ stepped x y))
-  next_is r e = both (λ x y. counter_in r ≡ stepped x y) e
+  pub next_is : (r : Option Value) → written (option_map meant r) ≡ stepped a b → OfInt v (λ x. OfInt w (λ y. written (option_map meant r) ≡ stepped x y))
+  next_is r e = both (λ x y. written (option_map meant r) ≡ stepped x y) e
 
   pub passes_is : (through : Bool) {u : M.Value} {c : ℤ} → OfInt u (λ n. c ≡ n) → {r : Bool} → r ≡ due through a b c
       → OfInt v (λ x. OfInt w (λ y. OfInt u (λ n. r ≡ due through x y n)))

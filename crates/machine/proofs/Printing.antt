@@ -21,13 +21,13 @@ use Rattle.machine.specs.Outcomes.{Tells, bytes, memory, byte_more, Printed}
 use Rattle.numbers.specs.Meanings.{stop_meant}
 use Rattle.numbers.specs.declared.Stop.{Stop}
 use Rattle.machine.specs.declared.state.Tally.{Tally}
-use Rattle.machine.specs.declared.state.Outcome.{Outcome}
-use Rattle.machine.specs.declared.state.Outcome.TheVariants.{Gives, Halts}
+use Rattle.machine.specs.Outcomes.{Outcome}
+use Rattle.std.specs.Prelude.{Ok, Err}
 use Rattle.machine.proofs.Telling.{tells_same, want_some, want_none}
 
 -- nothing is printed
 printed_still : (v : M.Value) {o : List ℕ} {s : Tally} (y : Stop) → s.printed ≤ length o
-    → ((i : ℕ) (w : List ℕ) → Tells (stop (stop_meant y) i (memory w o s)) (want (as_int v) λ z. put i z (memory w o s))) → Printed v o o s (Halts y)
+    → ((i : ℕ) (w : List ℕ) → Tells (stop (stop_meant y) i (memory w o s)) (want (as_int v) λ z. put i z (memory w o s))) → Printed v o o s (Err y)
 printed_still v y p h = record { wide = refl; rest = λ k l. refl; fits = p; right = h }
 
 -- ---- no byte
@@ -46,11 +46,11 @@ put_high (negsuc n) e i σ = absurd (subst T (sym e) tt)
 
 module _ (v : M.Value) {o : List ℕ} {s : Tally} (p : s.printed ≤ length o) where
   -- either of these
-  pub put_out : (z : ℤ) → some z ≡ as_int v → ((i : ℕ) (σ : M.State) → put i z σ ≡ stop not_a_byte i σ) → Printed v o o s (Halts Stop.NotAByte)
+  pub put_out : (z : ℤ) → some z ≡ as_int v → ((i : ℕ) (σ : M.State) → put i z σ ≡ stop not_a_byte i σ) → Printed v o o s (Err Stop.NotAByte)
   put_out z e h = printed_still v Stop.NotAByte p (λ i w. want_some (as_int v) _ e (tells_same (sym (h i (memory w o s)))))
 
   -- no number
-  pub put_other_kind : none ≡ as_int v → (y : Stop) {r : Outcome} → r ≡ Halts y → Printed v o o s r
+  pub put_other_kind : none ≡ as_int v → (y : Stop) {r : Outcome} → r ≡ Err y → Printed v o o s r
   put_other_kind e y f =
       subst (λ (x : Outcome). Printed v o o s x) (sym f) (printed_still v y p (λ i w. want_none (as_int v) _ e))
 
@@ -95,7 +95,7 @@ module _ (z : ℤ) (lo : lt_z z (pos 0) ≡ false) (hi : lt_z (pos BYTE) z ≡ f
 
   module _ (o : List ℕ) (s : Tally) where
     -- no room
-    pub put_full : (v : M.Value) → some z ≡ as_int v → s.printed ≤ length o → length o ≤ s.printed → Printed v o o s (Halts Stop.OutputFull)
+    pub put_full : (v : M.Value) → some z ≡ as_int v → s.printed ≤ length o → length o ≤ s.printed → Printed v o o s (Err Stop.OutputFull)
     put_full v e p h =
         printed_still v Stop.OutputFull p
         (λ i w.
@@ -125,7 +125,7 @@ module _ (z : ℤ) (lo : lt_z z (pos 0) ≡ false) (hi : lt_z (pos BYTE) z ≡ f
           ∙ rw (r, ← bytes_are, ← is_positive) refl)))
 
       -- it is printed
-      pub put_done : (v : M.Value) → some z ≡ as_int v → Printed v o o1 s (Gives (Int z))
+      pub put_done : (v : M.Value) → some z ≡ as_int v → Printed v o o1 s (Ok (Int z))
       put_done v e = record {
         wide = long;
         rest = λ k u. others k (λ q. omega arith);

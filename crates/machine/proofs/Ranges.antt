@@ -5,20 +5,19 @@ use Prim.Native.Nat.{ℕ, zero, suc, ◌+◌, ◌-◌, ◌*◌, ◌/◌, ◌^◌
 use native.Mathlib.Omega.{arith}
 use native.Mathlib.Nat.{zero-add, mul-le-mul, div-le_self}
 use lib.IntN.{ℤ, pos, negsuc, neg_ℤ, sub_ℕ, ◌+ℤ◌, ◌-ℤ◌, ◌*ℤ◌}
-use lib.Signed.{mag, lt_z, quot_z}
+use lib.Signed.{mag, le_z, quot_z}
 use lib.Dec.{T, ltb}
-use borrow.Author.Tests.{lt-ltb, le-leb, lt-leb, leb-true, ltb-true, ltb-false}
+use borrow.Author.Tests.{lt-ltb, le-leb, leb-true}
 use mir.Syntax.{w32, w64}
 use mir.Val.{to_z, of_z, SFits}
 use mir.Facts.{to_z-of_z, sfits_widen}
 use Rattle.language.specs.Sizes.{LARGEST}
 use Rattle.language.specs.State.{choose}
 use Rattle.language.specs.Meaning.{in_range, fit}
-use Rattle.machine.specs.Outcomes.{told, Fitted}
+use Rattle.machine.specs.Outcomes.{Fitted}
 use Rattle.layout.specs.declared.values.Value.TheVariants.{Int}
 use Rattle.numbers.specs.declared.Stop.{Stop}
-use Rattle.machine.specs.declared.state.Outcome.{Outcome}
-use Rattle.machine.specs.declared.state.Outcome.TheVariants.{Gives, Halts}
+use Rattle.std.specs.Prelude.{Ok, Err}
 
 -- ---- through the bits and back
 
@@ -32,28 +31,34 @@ module _ {z : ℤ} (f : SFits w32 z) where
 
 -- ---- the range test
 
--- below the lowest int
-pub too_low : (z : ℤ) → lt_z z (negsuc LARGEST) ≡ true → in_range z ≡ false
+-- from the lowest int on
+pub within : (z : ℤ) → le_z (negsuc LARGEST) z ≡ true → le_z z (pos LARGEST) ≡ in_range z
 unfolding in_range
-too_low (pos n) e = absurd (subst T (sym e) tt)
-too_low (negsuc n) e = let l : LARGEST < n = ltb-true LARGEST n e in lt-leb n LARGEST l
+within (pos n) e = refl
+within (negsuc n) e = sym e
 
--- above the highest
-pub too_high : (z : ℤ) → lt_z (pos LARGEST) z ≡ true → in_range z ≡ false
+-- below it
+pub too_low : (z : ℤ) {b : Bool} → b ≡ le_z (negsuc LARGEST) z → b ≡ false → b ≡ in_range z
 unfolding in_range
-too_high (pos n) e = let l : LARGEST < n = ltb-true LARGEST n e in lt-leb n LARGEST l
-too_high (negsuc n) e = absurd (subst T (sym e) tt)
-
--- neither
-pub within : (z : ℤ) → lt_z z (negsuc LARGEST) ≡ false → lt_z (pos LARGEST) z ≡ false → in_range z ≡ true
-unfolding in_range
-within (pos n) e h = le-leb n LARGEST (ltb-false LARGEST n h)
-within (negsuc n) e h = le-leb n LARGEST (ltb-false LARGEST n e)
+too_low (pos n) e f = absurd (subst T (sym e ∙ f) tt)
+too_low (negsuc n) e f = e
 
 fits_32 : (z : ℤ) → in_range z ≡ true → SFits w32 z
 unfolding in_range
 fits_32 (pos n) e = let l = leb-true n LARGEST e in record { sfits = omega arith }
 fits_32 (negsuc n) e = let l = leb-true n LARGEST e in record { sfits = omega arith }
+
+pub fits_range : (z : ℤ) → SFits w32 z → in_range z ≡ true
+unfolding in_range
+fits_range (pos n) f = le-leb n LARGEST (omega (arith, f.sfits))
+fits_range (negsuc n) f = le-leb n LARGEST (omega (arith, f.sfits))
+
+pub over_range : (z : ℤ) → (SFits w32 z → ⊥) → in_range z ≡ false
+over_range z h = by (in_range z) refl
+  where
+    by : (t : Bool) → in_range z ≡ t → t ≡ false
+    by true e = absurd (h (fits_32 z e))
+    by false e = refl
 
 -- ---- no operation leaves 64 bits
 
@@ -121,36 +126,28 @@ bits_positive (negsuc n) f h = (omega (arith, f.sfits), omega (arith, f.sfits))
 
 -- ---- every operation: in 64 bits, tested, in 32 bits
 
-module _ (op : ℤ → ℤ → ℤ) (a b : ℤ) (fa : SFits w32 a) (fb : SFits w32 b) (fw : SFits w64 (op a b)) where
-  -- the operation in 64 bits
-  pub op_64 : SFits w64 (op (to_z w64 (of_z w64 (to_z w32 (of_z w32 a)))) (to_z w64 (of_z w64 (to_z w32 (of_z w32 b)))))
-  op_64 = rw (wide fa, wide fb) fw
+-- x and y are a and b, taken to 64 bits
+module _ (op : ℤ → ℤ → ℤ) (a b : ℤ) (fa : SFits w32 a) (fb : SFits w32 b) (fw : SFits w64 (op a b)) {x y : ℤ} (ex : x ≡ to_z w32 (of_z w32 a))
+    (ey : y ≡ to_z w32 (of_z w32 b)) where
+  module _ (t : Bool) (e : t ≡ in_range (to_z w64 (of_z w64 (op (to_z w64 (of_z w64 x)) (to_z w64 (of_z w64 y)))))) where
+    plain : t ≡ in_range (op a b)
+    plain = rw (ex, ey, wide fa, wide fb, to_z-of_z {w = w64} fw) at e
 
-  module _ (t : Bool)
-      (e : t ≡ in_range (to_z w64 (of_z w64 (op (to_z w64 (of_z w64 (to_z w32 (of_z w32 a)))) (to_z w64 (of_z w64 (to_z w32 (of_z w32 b))))))))
-    where
-      pub plain : t ≡ in_range (op a b)
-      plain = rw (wide fa, wide fb, to_z-of_z {w = w64} fw) at e
+    -- in range, so it fits 32 bits
+    pub op_32 : t ≡ true → SFits w32 (op (to_z w32 (of_z w32 a)) (to_z w32 (of_z w32 b)))
+    op_32 h = rw (to_z-of_z {w = w32} fa, to_z-of_z {w = w32} fb) (fits_32 (op a b) (sym plain ∙ h))
 
-      -- in range, so it fits 32 bits
-      pub op_32 : t ≡ true → SFits w32 (op (to_z w32 (of_z w32 a)) (to_z w32 (of_z w32 b)))
-      op_32 h = rw (to_z-of_z {w = w32} fa, to_z-of_z {w = w32} fb) (fits_32 (op a b) (sym plain ∙ h))
+    -- in range, and the answer
+    pub op_is : t ≡ true → Fitted (op a b) (Ok (Int (to_z w32 (of_z w32 (op (to_z w32 (of_z w32 a)) (to_z w32 (of_z w32 b)))))))
+    unfolding fit choose
+    op_is h i σ =
+        let j : in_range (op a b) ≡ true = sym plain ∙ h in
+        rw (to_z-of_z {w = w32} fa, to_z-of_z {w = w32} fb, to_z-of_z {w = w32} (fits_32 (op a b) j), j) refl
 
-      -- in range, and the number
-      pub op_value : t ≡ true → to_z w32 (of_z w32 (op (to_z w32 (of_z w32 a)) (to_z w32 (of_z w32 b)))) ≡ op a b
-      op_value h = rw (to_z-of_z {w = w32} fa, to_z-of_z {w = w32} fb, to_z-of_z {w = w32} (fits_32 (op a b) (sym plain ∙ h))) refl
-
-      -- in range, and the answer
-      pub op_is : t ≡ true → Fitted (op a b) (Gives (Int (to_z w32 (of_z w32 (op (to_z w32 (of_z w32 a)) (to_z w32 (of_z w32 b)))))))
-      unfolding fit choose
-      op_is h i σ =
-          let j : in_range (op a b) ≡ true = sym plain ∙ h in
-          rw (to_z-of_z {w = w32} fa, to_z-of_z {w = w32} fb, to_z-of_z {w = w32} (fits_32 (op a b) j), j) refl
-
-      -- out of range, and the stop
-      pub op_over : t ≡ false → (r : Outcome) → r ≡ Halts Stop.OutOfRange → Fitted (op a b) r
-      unfolding fit choose
-      op_over h r d i σ = let j : in_range (op a b) ≡ false = sym plain ∙ h in ap (told i σ) d ∙ rw j refl
+    -- out of range, and the stop
+    pub op_over : t ≡ false → Fitted (op a b) (Err Stop.OutOfRange)
+    unfolding fit choose
+    op_over h i σ = let j : in_range (op a b) ≡ false = sym plain ∙ h in rw j refl
 
 -- 0, from which a negated number is subtracted
 pub zero_fits : SFits w32 (pos 0)

@@ -25,8 +25,8 @@ use Rattle.machine.specs.Rows.{binary_of, OnNumbers}
 use Rattle.machine.specs.Outcomes.{Tells, tells, anything, memory, told, Room, Means, Reckoned, Judged, Fitted, Applied}
 use Rattle.numbers.specs.declared.Stop.{Stop}
 use Rattle.machine.specs.declared.state.Tally.{Tally}
-use Rattle.machine.specs.declared.state.Outcome.{Outcome}
-use Rattle.machine.specs.declared.state.Outcome.TheVariants.{Gives, Halts}
+use Rattle.machine.specs.Outcomes.{Outcome}
+use Rattle.std.specs.Prelude.{Ok, Err}
 use Rattle.machine.proofs.Telling.{tells_same, want_some, want_none, want_any, alike_int}
 use Rattle.machine.proofs.CellLaws.{applied_still}
 
@@ -68,7 +68,7 @@ module _ (op : ℕ) (x y : ℤ) (r : Outcome) where
   reckons_mul e h = λ i σ. h i σ ∙ rw e refl
 
   -- / by 0
-  pub reckons_zero : op ≡ SLASH → y ≡ pos 0 → r ≡ Halts Stop.ZeroDivisor → Reckons
+  pub reckons_zero : op ≡ SLASH → y ≡ pos 0 → r ≡ Err Stop.ZeroDivisor → Reckons
   unfolding apply_binary alike quotient when_some choose is_zero binary_of
   reckons_zero e z h = λ i σ. ap (told i σ) h ∙ rw (e, z) refl
 
@@ -83,13 +83,13 @@ module _ (op : ℕ) (x y : ℤ) (r : Outcome) where
   reckons_div e z h = λ i σ. h i σ ∙ rw (e, not_zero y z) refl
 
   -- <
-  pub reckons_less : op ≡ LESS → r ≡ Gives (Flag (lt_z x y)) → Reckons
+  pub reckons_less : op ≡ LESS → r ≡ Ok (Flag (lt_z x y)) → Reckons
   unfolding apply_binary alike when_some binary_of
   reckons_less e h = λ i σ. ap (told i σ) h ∙ rw e refl
 
   -- none of these: ==
   pub reckons_equal : OnNumbers op → (op ≡ PLUS → ⊥) → (op ≡ MINUS → ⊥) → (op ≡ STAR → ⊥) → (op ≡ SLASH → ⊥) → (op ≡ LESS → ⊥)
-      → r ≡ Gives (Flag (same_int x y)) → Reckons
+      → r ≡ Ok (Flag (same_int x y)) → Reckons
   unfolding apply_binary when_some
   reckons_equal n a b c d e h = λ i σ. ap (told i σ) h ∙ rw (is_equal op n a b c d e) refl
 
@@ -215,18 +215,14 @@ module _ (op : ℕ) (a : M.Value) (v : Value) {w : List ℕ} {s : Tally} (room :
   abbrev logical : Means
   logical i σ = apply_binary i (binary_of op) a (meant v) σ
 
-  and_right : op ≡ AND → (i : ℕ) (σ : M.State) → Tells (value (meant v) σ) (logical i σ)
+  logical_right : AND ≤ op → op ≤ OR → (i : ℕ) (σ : M.State) → Tells (value (meant v) σ) (logical i σ)
   unfolding apply_binary binary_of
-  and_right e i σ = rw e (logic a (meant v) σ)
+  logical_right l h i σ = by (eqb op AND) refl
+    where
+      by : (t : Bool) → eqb op AND ≡ t → Tells (value (meant v) σ) (logical i σ)
+      by true e = let k : op ≡ AND = eqb-true op AND e in rw k (logic a (meant v) σ)
+      by false e = let n = eqb-false op AND e in let k : op ≡ OR = omega (arith, n) in rw k (logic a (meant v) σ)
 
-  or_right : op ≡ OR → (i : ℕ) (σ : M.State) → Tells (value (meant v) σ) (logical i σ)
-  unfolding apply_binary binary_of
-  or_right e i σ = rw e (logic a (meant v) σ)
-
-  -- && that its left side did not settle
-  pub applies_and : op ≡ AND → Applied logical w w s (Gives v)
-  applies_and e = applied_still logical (Gives v) room (λ i o. and_right e i (memory w o s))
-
-  -- || that its left side did not settle
-  pub applies_or : op ≡ OR → Applied logical w w s (Gives v)
-  applies_or e = applied_still logical (Gives v) room (λ i o. or_right e i (memory w o s))
+  -- && or ||, that its left side did not settle
+  pub applies_logical : AND ≤ op → op ≤ OR → Applied logical w w s (Ok v)
+  applies_logical l h = applied_still logical (Ok v) room (λ i o. logical_right l h i (memory w o s))

@@ -7,6 +7,7 @@ use Prim.Native.Nat.{ℕ, zero, suc, ◌+◌, ◌<◌, ◌≤◌}
 use native.Mathlib.Omega.{arith}
 use lib.Dec.{ltb, eqb}
 use borrow.Author.Tests.{ltb-true, ltb-false, eqb-true, eqb-false}
+use Rattle.std.specs.Prelude.{Some, None}
 use Rattle.layout.specs.Slots.{key_at, value_at}
 use Rattle.layout.specs.Frames.{CELLS_AT}
 use Rattle.machine.specs.Slots.{slots, find, Rising, Sought}
@@ -53,16 +54,16 @@ module _ {w : List ℕ} {n birth low high : ℕ} (b : Between w n birth low high
           by false d = let a : m ≡ i = omega (arith, ltb-false m i d) in subst (λ (k : ℕ). birth < key_at w CELLS_AT k) a late
 
   -- it is the one
-  pub struck : born ≡ birth → Sought w n birth m
-  struck h = record { upto = omega (arith, b.upto); hit = λ l. sym e ∙ h; miss = λ l i u d. omega (arith, b.upto) }
+  pub struck : born ≡ birth → Sought w n birth (Some m)
+  struck h = record { found = (omega (arith, b.upto), sym e ∙ h) }
 
 -- at first all are left
 pub all_left : (w : List ℕ) (n birth : ℕ) → Between w n birth 0 n
 all_left w n birth = record { upto = omega arith; below = λ i l. absurd (omega arith); above = λ i l u. absurd (omega arith) }
 
 -- none is left
-pub none_left : {w : List ℕ} {n birth low high : ℕ} → Between w n birth low high → high ≤ low → Sought w n birth n
-none_left {w} {n} {birth} {low} {high} b h = record { upto = omega arith; hit = λ l. absurd (omega arith); miss = λ l. miss }
+pub none_left : {w : List ℕ} {n birth low high : ℕ} → Between w n birth low high → high ≤ low → Sought w n birth None
+none_left {w} {n} {birth} {low} {high} b h = record { found = miss }
   where
     miss : (i : ℕ) → i < n → key_at w CELLS_AT i ≡ birth → ⊥
     miss i u d = by (ltb i low) refl
@@ -74,8 +75,8 @@ none_left {w} {n} {birth} {low} {high} b h = record { upto = omega arith; hit = 
 -- ---- what was sought
 
 -- no later cell has the birth of the one that was found
-pub passed_above : {w : List ℕ} {n birth i : ℕ} → Rising w n → Sought w n birth i → i < n → PassedBy w CELLS_AT birth (i + 1) n
-passed_above {i = i} r h u j l v d = omega (arith, h.hit u, r i j (omega arith) v, d)
+pub passed_above : {w : List ℕ} {n birth i : ℕ} → Rising w n → Sought w n birth (Some i) → PassedBy w CELLS_AT birth (i + 1) n
+passed_above {i = i} r h j l v d = omega (arith, h.found.1, r i j (omega arith) v, d)
 
 find_at : (w : List ℕ) (at key i n : ℕ) → i < n → key_at w at i ≡ key → PassedBy w at key (i + 1) n → find key (slots w at n) ≡ some (value_at w at i)
 find_at w at key i zero l e h = absurd (omega arith)
@@ -93,11 +94,11 @@ find_nowhere w at key zero h = find_none w at zero key refl
 find_nowhere w at key (suc n) h =
     find_past w at (suc n) n key refl (h n (omega arith) (omega arith)) ∙ find_nowhere w at key n (λ j l u. h j l (omega arith))
 
-module _ {w : List ℕ} {n birth i : ℕ} (r : Rising w n) (h : Sought w n birth i) where
-  -- it is what the newest cell of that birth holds
-  pub sought_some : i < n → find birth (slots w CELLS_AT n) ≡ some (value_at w CELLS_AT i)
-  sought_some u = find_at w CELLS_AT birth i n u (h.hit u) (passed_above r h u)
+-- it is what the newest cell of that birth holds
+pub sought_some : {w : List ℕ} {n birth i : ℕ} → Rising w n → Sought w n birth (Some i)
+    → find birth (slots w CELLS_AT n) ≡ some (value_at w CELLS_AT i)
+sought_some {w} {n} {birth} {i} r h = find_at w CELLS_AT birth i n h.found.0 h.found.1 (passed_above r h)
 
-  -- there is none
-  pub sought_none : n ≤ i → find birth (slots w CELLS_AT n) ≡ none
-  sought_none u = find_nowhere w CELLS_AT birth n (λ j l v. h.miss u j v)
+-- there is none
+pub sought_none : {w : List ℕ} {n birth : ℕ} → Sought w n birth None → find birth (slots w CELLS_AT n) ≡ none
+sought_none {w} {n} {birth} h = find_nowhere w CELLS_AT birth n (λ j l v. h.found j v)

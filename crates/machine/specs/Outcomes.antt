@@ -1,5 +1,5 @@
 -- The state of a run as it lies in words and numbers, and what the functions that work on operands ask and promise.
-use Rattle.std.specs.Prelude.{List, [], ◌∷◌, ◌≡◌, ℕ, zero, suc, ◌+◌, ◌-◌, ◌≤◌, ◌<◌, ℤ, length, get_or}
+use Rattle.std.specs.Prelude.{List, [], ◌∷◌, ◌≡◌, ℕ, zero, suc, ◌+◌, ◌-◌, ◌≤◌, ◌<◌, ℤ, length, get_or, Result, Ok, Err}
 use Rattle.language.specs.Sizes.{CELLS, WORK}
 use Rattle.language.specs.Trees.{new}
 use Rattle.language.specs.State as M
@@ -11,8 +11,8 @@ use Rattle.layout.specs.Values.{meant}
 use Rattle.machine.specs.Slots.{slots, cells_of, Same, Rising}
 use Rattle.numbers.specs.Meanings.{stop_meant}
 use Rattle.machine.specs.declared.state.Tally.{Tally}
-use Rattle.machine.specs.declared.state.Outcome.{Outcome}
-use Rattle.machine.specs.declared.state.Outcome.TheVariants.{Gives, Halts}
+use Rattle.layout.specs.declared.values.Value.{Value}
+use Rattle.numbers.specs.declared.Stop.{Stop}
 
 -- ---- what the code's words and numbers stand for
 
@@ -31,10 +31,14 @@ memory w o s = record {
   printed = bytes o s.printed;
 }
 
+-- a value, or why the run stops at the node
+abbrev pub Outcome : Type 0
+Outcome = Result Value Stop
+
 -- how a node at token i ends in a state
 abbrev pub told : ℕ → M.State → Outcome → M.Outcome
-told i σ (Gives v) = value (meant v) σ
-told i σ (Halts y) = stop (stop_meant y) i σ
+told i σ (Ok v) = value (meant v) σ
+told i σ (Err y) = stop (stop_meant y) i σ
 
 -- the code tells what the meaning says; where the meaning is stuck it may tell anything
 pub data Tells : M.Outcome → M.Outcome → Type 0 where
@@ -92,8 +96,8 @@ abbrev pub born : Tally → Tally
 born s = record { units = s.units; births = s.births + 1; cells = s.cells + 1; printed = s.printed }
 
 abbrev pub after_birth : Outcome → Tally → Tally
-after_birth (Gives v) s = born s
-after_birth (Halts y) s = s
+after_birth (Ok v) s = born s
+after_birth (Err y) s = s
 
 pub record Created (v : M.Value) (w w' : List ℕ) (s : Tally) (r : Outcome) : Type 0 where
   pub kept : Kept w w' s (after_birth r s)
@@ -106,8 +110,8 @@ abbrev pub byte_more : Tally → Tally
 byte_more s = record { units = s.units; births = s.births; cells = s.cells; printed = s.printed + 1 }
 
 abbrev pub after_byte : Outcome → Tally → Tally
-after_byte (Gives v) s = byte_more s
-after_byte (Halts y) s = s
+after_byte (Ok v) s = byte_more s
+after_byte (Err y) s = s
 
 -- the output alone is changed
 pub record Printed (v : M.Value) (o o' : List ℕ) (s : Tally) (r : Outcome) : Type 0 where

@@ -1,5 +1,6 @@
 -- Slots of work memory as lists, the newest first: what they hold, and the cells that they are.
-use Rattle.std.specs.Prelude.{cond, List, [], ◌∷◌, ◌≡◌, ℕ, zero, suc, ◌+◌, ◌≤◌, ◌<◌, eqb, get_or}
+use Rattle.std.specs.Prelude.{cond, List, [], ◌∷◌, ◌≡◌, ℕ, zero, suc, ◌+◌, ◌≤◌, ◌<◌, eqb, get_or, MatchOption}
+use Rattle.std.specs.Prelude as Code
 use Rattle.std.proofs.Math.Option.{Option, none, some}
 use Rattle.language.specs.State as State
 use Rattle.language.specs.State.{Cells, no_cell, live}
@@ -39,8 +40,7 @@ Same v w lo hi = (k : ℕ) → lo ≤ k → k < hi → get_or v k 0 ≡ get_or w
 abbrev pub Rising : List ℕ → ℕ → Type 0
 Rising w n = (i j : ℕ) → i < j → j < n → key_at w CELLS_AT i < key_at w CELLS_AT j
 
--- r is where the cell of that birth lies among the first n, or n if it is none of them
-pub record Sought (w : List ℕ) (n birth r : ℕ) : Type 0 where
-  pub upto : r ≤ n
-  pub hit : r < n → key_at w CELLS_AT r ≡ birth
-  pub miss : n ≤ r → (i : ℕ) → i < n → key_at w CELLS_AT i ≡ birth → ⊥
+-- r is where the cell of that birth lies among the first n, if it is one of them
+pub record Sought (w : List ℕ) (n birth : ℕ) (r : Code.Option ℕ) : Type 0 where
+  pub found : MatchOption r ((i : ℕ) → i < n → key_at w CELLS_AT i ≡ birth → ⊥)
+      (λ i. (i < n) × (key_at w CELLS_AT i ≡ birth))

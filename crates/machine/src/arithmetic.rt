@@ -5,81 +5,68 @@ ghost use Rattle.std.specs.Int.Signed.{quot_z};
 ghost use Rattle.language.specs.Meaning.{in_range};
 ghost use Rattle.machine.specs.Outcomes.{Fitted};
 
-use crate::state::Outcome;
 use layout::values::Value;
 use numbers::Stop;
 
 // The range of int.
-const LOWEST: i64 = -2147483648;
+const LOWEST: i64 = i32::MIN as i64;
 
-const HIGHEST: i64 = 2147483647;
+const HIGHEST: i64 = i32::MAX as i64;
 
 pub fn fits(x: i64) -> bool
     ensures { result ≡ in_range x }
 {
-    if x < LOWEST {
-        return false;
-    }
-    if HIGHEST < x {
-        return false;
-    }
-    true
+    LOWEST <= x && x <= HIGHEST
 }
 
-fn out_of_range() -> Outcome
-    ensures { result ≡ Outcome.Halts Stop.OutOfRange }
-{
-    Outcome::Halts(Stop::OutOfRange)
-}
-
-pub fn add(a: i32, b: i32) -> Outcome
+pub fn add(a: i32, b: i32) -> Result<Value, Stop>
     ensures { Fitted (a +ℤ b) result }
 {
-    if fits((a as i64) + (b as i64)) {
-        Outcome::Gives(Value::Int(a + b))
+    if fits(i64::from(a) + i64::from(b)) {
+        Ok(Value::Int(a + b))
     } else {
-        out_of_range()
+        Err(Stop::OutOfRange)
     }
 }
 
-pub fn subtract(a: i32, b: i32) -> Outcome
+pub fn subtract(a: i32, b: i32) -> Result<Value, Stop>
     ensures { Fitted (a -ℤ b) result }
 {
-    if fits((a as i64) - (b as i64)) {
-        Outcome::Gives(Value::Int(a - b))
+    if fits(i64::from(a) - i64::from(b)) {
+        Ok(Value::Int(a - b))
     } else {
-        out_of_range()
+        Err(Stop::OutOfRange)
     }
 }
 
-pub fn multiply(a: i32, b: i32) -> Outcome
+pub fn multiply(a: i32, b: i32) -> Result<Value, Stop>
     ensures { Fitted (a *ℤ b) result }
 {
-    if fits((a as i64) * (b as i64)) {
-        Outcome::Gives(Value::Int(a * b))
+    if fits(i64::from(a) * i64::from(b)) {
+        Ok(Value::Int(a * b))
     } else {
-        out_of_range()
+        Err(Stop::OutOfRange)
     }
 }
 
 // The lowest int divided by -1 is out of range.
-pub fn divide(a: i32, b: i32) -> Outcome
+pub fn divide(a: i32, b: i32) -> Result<Value, Stop>
     requires { b ≡ pos 0 → ⊥ }
     ensures { Fitted (quot_z a b) result }
 {
-    if fits((a as i64) / (b as i64)) {
-        Outcome::Gives(Value::Int(a / b))
+    if fits(i64::from(a) / i64::from(b)) {
+        Ok(Value::Int(a / b))
     } else {
-        out_of_range()
+        Err(Stop::OutOfRange)
     }
 }
 
-pub fn negate(a: i32) -> Outcome
+pub fn negate(a: i32) -> Result<Value, Stop>
     ensures { Fitted (neg_ℤ a) result }
 {
-    if fits(-(a as i64)) {
-        Outcome::Gives(Value::Int(-a))
+    if fits(-i64::from(a)) {
+        Ok(Value::Int(-a))
     } else {
-        out_of_range()
+        Err(Stop::OutOfRange)
     }
 }

@@ -1,28 +1,18 @@
 // The numbers that a `for` goes through. A sheet that has a type counts by ints alone, so any answer will do
 // where a value is none.
-ghost use Rattle.std.specs.Prelude.{◌≡◌};
+ghost use Rattle.std.specs.Prelude.{◌≡◌, option_map};
 ghost use Rattle.language.specs.State.{number};
 ghost use Rattle.language.specs.Meaning.{is_zero, towards, due};
 ghost use Rattle.layout.specs.Values.{meant};
-ghost use Rattle.machine.specs.Operands.{OfInt, before, counter_in, stepped};
+ghost use Rattle.machine.specs.Operands.{OfInt, before, written, stepped};
 
-use crate::{arithmetic, operands};
+use crate::operands;
 use layout::values::Value;
-
-// The number behind the one of a pass; past the range of int there is none.
-#[derive(Clone, Copy)]
-pub enum Counter {
-    At(Value),
-    Past,
-}
 
 fn towards(from: i32, to: i32) -> i32
     ensures { result ≡ towards from to }
 {
-    if to < from {
-        return -1;
-    }
-    1
+    if to < from { -1 } else { 1 }
 }
 
 // The step, where none is written.
@@ -38,30 +28,20 @@ pub fn step(from: Value, to: Value) -> Value
 pub fn still(by: Value) -> bool
     ensures { OfInt (meant by) (λ x. result ≡ is_zero x) }
 {
-    let n = operands::int(by);
-    n == 0
+    operands::int(by) == 0
 }
 
 // Whether z lies before the end, as the step goes.
 fn before(to: i32, by: i32, z: i32) -> bool
     ensures { result ≡ before to by z }
 {
-    if 0 < by {
-        return z < to;
-    }
-    to < z
+    if 0 < by { z < to } else { to < z }
 }
 
 fn due(through: bool, to: i32, by: i32, z: i32) -> bool
     ensures { result ≡ due through to by z }
 {
-    if before(to, by, z) {
-        return true;
-    }
-    if through {
-        return z == to;
-    }
-    false
+    before(to, by, z) || through && z == to
 }
 
 // Whether there is a pass for z: it lies before the end, or is the end and that is a pass too.
@@ -75,17 +55,15 @@ pub fn passes(through: bool, to: Value, by: Value, z: Value) -> bool
 }
 
 // A step that leaves the range of int is no stop.
-fn behind(z: i32, by: i32) -> Counter
-    ensures { counter_in result ≡ stepped z by }
+fn behind(z: i32, by: i32) -> Option<Value>
+    ensures { written (option_map meant result) ≡ stepped z by }
 {
-    if arithmetic::fits((z as i64) + (by as i64)) {
-        return Counter::At(Value::Int(z + by));
-    }
-    Counter::Past
+    Some(Value::Int(z.checked_add(by)?))
 }
 
-pub fn next(z: Value, by: Value) -> Counter
-    ensures { OfInt (meant z) (λ n. OfInt (meant by) (λ y. counter_in result ≡ stepped n y)) }
+// The number behind the one of a pass; past the range of int there is none.
+pub fn next(z: Value, by: Value) -> Option<Value>
+    ensures { OfInt (meant z) (λ n. OfInt (meant by) (λ y. written (option_map meant result) ≡ stepped n y)) }
 {
     let a = operands::int(z);
     let b = operands::int(by);

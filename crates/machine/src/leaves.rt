@@ -12,24 +12,18 @@ pub fn literal(table: &[u32], node: usize) -> Value
     requires { LiteralRow table.now node }
     ensures { meant result ≡ literal_value (literal_of table.now node) }
 {
-    let kind = rows::word(table, node, rows::KIND);
-    if kind == kinds::NUMBER {
-        let at = rows::link(table, node, rows::OWN);
-        let n = token::value(table, at);
-        return Value::Int(n as i32);
+    match rows::word(table, node, rows::KIND) {
+        kinds::NUMBER => {
+            let at = rows::link(table, node, rows::OWN);
+            Value::Int(token::value(table, at) as i32)
+        }
+        kinds::FLOAT_NUMBER => {
+            let at = rows::link(table, node, rows::OWN);
+            let bits = floats::join(token::high(table, at), token::value(table, at));
+            Value::Float(floats::of_bits(bits))
+        }
+        kinds::TRUE => Value::Flag(true),
+        kinds::FALSE => Value::Flag(false),
+        _ => Value::Nothing,
     }
-    if kind == kinds::FLOAT_NUMBER {
-        let at = rows::link(table, node, rows::OWN);
-        let high = token::high(table, at);
-        let low = token::value(table, at);
-        let bits = floats::join(high, low);
-        return Value::Float(floats::of_bits(bits));
-    }
-    if kind == kinds::TRUE {
-        return Value::Flag(true);
-    }
-    if kind == kinds::FALSE {
-        return Value::Flag(false);
-    }
-    Value::Nothing
 }

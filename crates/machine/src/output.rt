@@ -3,8 +3,7 @@ ghost use Rattle.std.specs.Prelude.{◌≡◌, ◌≤◌, ◌<◌, length, set};
 ghost use Rattle.layout.specs.Values.{meant};
 ghost use Rattle.machine.specs.Outcomes.{Printed, byte_more};
 
-use crate::operands::Number;
-use crate::state::{Outcome, Tally};
+use crate::state::Tally;
 use crate::{operands, state};
 use language::BYTE;
 use layout::values::Value;
@@ -19,29 +18,21 @@ fn store(out: &mut [u8], at: usize, byte: u8)
 }
 
 // Prints v, a number from 0 to the largest byte, if there is room. Where it is printed, `printed` counts it.
-pub fn put(out: &mut [u8], v: Value, s: Tally) -> Outcome
+pub fn put(out: &mut [u8], v: Value, s: Tally) -> Result<Value, Stop>
     requires { s.printed ≤ length out.old }
     ensures { Printed (meant v) out.old out.new s result }
 {
-    let printed = s.printed;
-    let n = operands::int_of(v);
-    match n {
-        Number::Is(z) => {
-            if z < 0 {
-                return Outcome::Halts(Stop::NotAByte);
-            }
-            if BYTE < z {
-                return Outcome::Halts(Stop::NotAByte);
-            }
-            if printed < out.len() {
-                let byte = z as u8;
-                store(out, printed, byte);
-                return Outcome::Gives(Value::Int(z));
-            }
-            Outcome::Halts(Stop::OutputFull)
-        }
-        Number::Other => state::stuck(),
+    let Some(z) = operands::int_of(v) else {
+        return state::stuck();
+    };
+    if z < 0 || BYTE < z {
+        return Err(Stop::NotAByte);
     }
+    if out.len() <= s.printed {
+        return Err(Stop::OutputFull);
+    }
+    store(out, s.printed, z as u8);
+    Ok(Value::Int(z))
 }
 
 // A byte more, of a buffer that has room for it.
@@ -50,9 +41,7 @@ pub fn printed(out: &[u8], s: Tally) -> Tally
     ensures { result ≡ byte_more s }
 {
     Tally {
-        units: s.units,
-        births: s.births,
-        cells: s.cells,
         printed: s.printed + 1,
+        ..s
     }
 }

@@ -1,5 +1,5 @@
-// How far a run has come, and how a node ends.
-ghost use Rattle.std.specs.Prelude.{◌≡◌, eqb};
+// How far a run has come, and what a node gives that no program with a type has.
+ghost use Rattle.std.specs.Prelude.{◌≡◌, Err, eqb};
 
 use layout::values::Value;
 use numbers::Stop;
@@ -14,18 +14,11 @@ pub struct Tally {
     pub printed: usize,
 }
 
-// A value, or why the run stops at the node.
-#[derive(Clone, Copy)]
-pub enum Outcome {
-    Gives(Value),
-    Halts(Stop),
-}
-
 // An operand of the wrong kind: no sheet that has a type comes here, so any answer will do.
-pub fn stuck() -> Outcome
-    ensures { result ≡ Outcome.Halts Stop.NoUnit }
+pub fn stuck() -> Result<Value, Stop>
+    ensures { result ≡ Err Stop.NoUnit }
 {
-    Outcome::Halts(Stop::NoUnit)
+    Err(Stop::NoUnit)
 }
 
 // Is no unit left?

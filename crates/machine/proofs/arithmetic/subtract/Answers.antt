@@ -1,4 +1,3 @@
--- What the borrow checker leaves of `arithmetic::subtract`.
 use lib.IntN.{◌-ℤ◌}
 use Rattle.machine.proofs.Ranges.{difference_wide, op_32, op_is, op_over}
 use Rattle.machine.proofs.arithmetic.subtract.Goals as goal
@@ -6,17 +5,14 @@ use Rattle.machine.proofs.arithmetic.subtract.Goals as goal
 pub overflow_sub-result : goal.overflow_sub-result
 overflow_sub-result c =
     op_32 ◌-ℤ◌ c.args.a c.args.b c.ranges.a c.ranges.b
-    (difference_wide c.args.a c.args.b c.ranges.a c.ranges.b) _
-    c.fits.ensures c.if-fits.true
+    (difference_wide c.args.a c.args.b c.ranges.a c.ranges.b) c.from.ensures c.from-2.ensures _ c.fits.ensures c.if-fits.true
 
 pub returns-then-fits : goal.returns-then-fits
 returns-then-fits c =
     op_is ◌-ℤ◌ c.args.a c.args.b c.ranges.a c.ranges.b
-    (difference_wide c.args.a c.args.b c.ranges.a c.ranges.b) _
-    c.fits.ensures c.if-fits.true
+    (difference_wide c.args.a c.args.b c.ranges.a c.ranges.b) c.from.ensures c.from-2.ensures _ c.fits.ensures c.if-fits.true
 
 pub returns-else-fits : goal.returns-else-fits
 returns-else-fits c =
     op_over ◌-ℤ◌ c.args.a c.args.b c.ranges.a c.ranges.b
-    (difference_wide c.args.a c.args.b c.ranges.a c.ranges.b) _ c.fits.ensures
-    c.if-fits.false _ c.out_of_range.ensures
+    (difference_wide c.args.a c.args.b c.ranges.a c.ranges.b) c.from.ensures c.from-2.ensures _ c.fits.ensures c.if-fits.false

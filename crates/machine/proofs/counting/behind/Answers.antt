@@ -1,17 +1,19 @@
--- What the borrow checker leaves of `counting::behind`.
-use lib.IntN.{◌+ℤ◌}
-use Rattle.machine.proofs.Counters.{steps_to}
-use Rattle.machine.proofs.Ranges.{sum_wide, plain, op_32, op_value}
+use mir.Syntax.{w32}
+use mir.Val.{SFits}
+use mir.Facts.{to_z-of_z}
+use borrow.Author.Rules.{rules}
+use Rattle.machine.proofs.Counters.{steps_to, steps_past}
 use Rattle.machine.proofs.counting.behind.Goals as goal
 
-pub overflow_add-result : goal.overflow_add-result
-overflow_add-result c =
-    op_32 ◌+ℤ◌ c.args.z c.args.by c.ranges.z c.ranges.by
-    (sum_wide c.args.z c.args.by c.ranges.z c.ranges.by) _ c.fits.ensures c.if-fits.true
+pub returns-in_err-checked_add : goal.returns-in_err-checked_add
+returns-in_err-checked_add c =
+    rw c.from_residual.ensures
+    (steps_past c.args.z c.args.by
+    (rw (to_z-of_z {w = w32} c.ranges.z, to_z-of_z {w = w32} c.ranges.by) at c.in_err-checked_add.ensures))
 
-pub returns-then-fits : goal.returns-then-fits
-returns-then-fits c =
-    let wide = sum_wide c.args.z c.args.by c.ranges.z c.ranges.by in
-    steps_to c.args.z c.args.by
-    (plain ◌+ℤ◌ c.args.z c.args.by c.ranges.z c.ranges.by wide _ c.fits.ensures) c.if-fits.true
-    (op_value ◌+ℤ◌ c.args.z c.args.by c.ranges.z c.ranges.by wide _ c.fits.ensures c.if-fits.true)
+pub returns : goal.returns
+returns c =
+    let f : SFits w32 c.in_ok-checked_add.field-0 = search rules in
+    rw (to_z-of_z {w = w32} f)
+    (steps_to c.args.z c.args.by
+    (rw (to_z-of_z {w = w32} c.ranges.z, to_z-of_z {w = w32} c.ranges.by) at c.in_ok-checked_add.ensures))

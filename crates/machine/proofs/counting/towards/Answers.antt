@@ -1,9 +1,8 @@
--- What the borrow checker leaves of `counting::towards`.
-use mathlib.Core.Path.{◌≡◌, refl}
-use mathlib.Core.Bool.{true, false}
-use lib.Signed.{lt_z}
 use mir.Syntax.{w32}
 use mir.Facts.{to_z-of_z}
+use mathlib.Core.Bool.{true, false}
+use mathlib.Core.Path.{◌≡◌, refl}
+use lib.Signed.{lt_z}
 use Rattle.language.specs.Meaning.{towards}
 use Rattle.machine.proofs.counting.towards.Goals as goal
 
@@ -14,9 +13,9 @@ returns-then-to-from c =
     rw (to_z-of_z {w = w32} c.ranges.to, to_z-of_z {w = w32} c.ranges.from) at c.if-to-from.true in
     rw down refl
 
-pub returns : goal.returns
+pub returns-else-to-from : goal.returns-else-to-from
 unfolding towards
-returns c =
+returns-else-to-from c =
     let up : lt_z c.args.to c.args.from ≡ false =
     rw (to_z-of_z {w = w32} c.ranges.to, to_z-of_z {w = w32} c.ranges.from) at c.if-to-from.false in
     rw up refl

@@ -1,29 +1,27 @@
--- What the borrow checker leaves of `leaves::literal`.
 use mathlib.Core.Path.{sym, ◌∙◌}
+use native.Mathlib.Omega.{arith}
 use Rattle.machine.proofs.Literals.{carried_is, float_carried_is, literal_number, literal_float, literal_true, literal_false, literal_unit}
 use Rattle.machine.proofs.leaves.literal.Goals as goal
 
-pub returns-then-kind-eq-NUMBER : goal.returns-then-kind-eq-NUMBER
-returns-then-kind-eq-NUMBER c =
-    let k = sym c.word-kind.ensures ∙ c.if-kind-eq-NUMBER.true in
-    literal_number c.args.table.now c.args.node c.word-kind.ensures c.if-kind-eq-NUMBER.true (c.requires.small k) _
-    (carried_is c.args.table.now c.args.node c.link-at.ensures c.value-n.ensures)
+pub returns-in-2 : goal.returns-in-2
+returns-in-2 c =
+    let k = sym c.word.ensures ∙ c.in-2.is in
+    literal_number c.args.table.now c.args.node c.word.ensures c.in-2.is (c.requires.small k) _
+    (carried_is c.args.table.now c.args.node c.link-at.ensures c.value.ensures)
 
-pub returns-then-kind-eq-FLOAT_NUMBER : goal.returns-then-kind-eq-FLOAT_NUMBER
-returns-then-kind-eq-FLOAT_NUMBER c =
-    literal_float c.args.table.now c.args.node c.word-kind.ensures c.if-kind-eq-FLOAT_NUMBER.true _
-    (float_carried_is c.args.table.now c.args.node c.link-at-then-kind-eq-FLOAT_NUMBER.ensures c.high-high.ensures
-    c.value-low.ensures c.join-bits.ensures c.of_bits.ensures)
+pub returns-in-39 : goal.returns-in-39
+returns-in-39 c =
+    literal_float c.args.table.now c.args.node c.word.ensures c.in-39.is _
+    (float_carried_is c.args.table.now c.args.node c.link-at-in-39.ensures c.high.ensures
+    c.value-in-39.ensures c.join-bits.ensures c.of_bits.ensures)
 
-pub returns-then-kind-eq-TRUE : goal.returns-then-kind-eq-TRUE
-returns-then-kind-eq-TRUE c =
-    literal_true c.args.table.now c.args.node c.word-kind.ensures c.if-kind-eq-TRUE.true
+pub returns-in-16 : goal.returns-in-16
+returns-in-16 c = literal_true c.args.table.now c.args.node c.word.ensures c.in-16.is
 
-pub returns-then-kind-eq-FALSE : goal.returns-then-kind-eq-FALSE
-returns-then-kind-eq-FALSE c =
-    literal_false c.args.table.now c.args.node c.word-kind.ensures c.if-kind-eq-FALSE.true
+pub returns-in-17 : goal.returns-in-17
+returns-in-17 c = literal_false c.args.table.now c.args.node c.word.ensures c.in-17.is
 
-pub returns : goal.returns
-returns c =
-    literal_unit c.args.table.now c.args.node c.word-kind.ensures c.if-kind-eq-NUMBER.false c.if-kind-eq-FLOAT_NUMBER.false
-    c.if-kind-eq-TRUE.false c.if-kind-eq-FALSE.false
+pub returns-in_default : goal.returns-in_default
+returns-in_default c =
+    literal_unit c.args.table.now c.args.node c.word.ensures (λ e. omega arith) (λ e. omega arith) (λ e. omega arith)
+    (λ e. omega arith)

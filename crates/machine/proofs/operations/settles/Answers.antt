@@ -1,21 +1,18 @@
--- What the borrow checker leaves of `operators::settles`.
-use mathlib.Core.Path.{sym, ap, ◌∙◌}
-use Rattle.machine.specs.Operands.{truth_in}
+use native.Mathlib.Omega.{arith}
 use Rattle.machine.proofs.Applying.{settles_and, settles_or, settles_no, settles_other}
 use Rattle.machine.proofs.operations.settles.Goals as goal
 
-pub returns-then-op-eq-AND : goal.returns-then-op-eq-AND
-returns-then-op-eq-AND c =
-    settles_and _ c.if-op-eq-AND.true _ _ (sym (ap truth_in c.in-Is.is) ∙ c.flag_of-t.ensures)
+pub returns-in-25-Some : goal.returns-in-25-Some
+returns-in-25-Some c = settles_and _ c.in-25-Some.is-0 _ _ c.in-25-Some.ensures
 
-pub returns-then-op-eq-OR : goal.returns-then-op-eq-OR
-returns-then-op-eq-OR c =
-    settles_or _ c.if-op-eq-OR.true _ _ (sym (ap truth_in c.in-Is.is) ∙ c.flag_of-t.ensures)
+pub returns-in-26-Some : goal.returns-in-26-Some
+returns-in-26-Some c = settles_or _ c.in-26-Some.is-0 _ _ c.in-26-Some.ensures
 
-pub returns-else-op-eq-OR : goal.returns-else-op-eq-OR
-returns-else-op-eq-OR c =
-    settles_no _ c.if-op-eq-AND.false c.if-op-eq-OR.false _
+pub returns-in_default : goal.returns-in_default
+returns-in_default c = settles_other _ _ c.in_default.ensures
 
-pub returns-in-Other : goal.returns-in-Other
-returns-in-Other c =
-    settles_other _ _ (sym (ap truth_in c.in-Other.is) ∙ c.flag_of-t.ensures)
+pub returns-in_default-2 : goal.returns-in_default-2
+returns-in_default-2 c = settles_other _ _ c.in_default.ensures
+
+pub returns-in_default-3 : goal.returns-in_default-3
+returns-in_default-3 c = settles_no _ (λ e. omega arith) (λ e. omega arith) _
