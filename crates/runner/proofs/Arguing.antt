@@ -1,4 +1,5 @@
 -- What the functions of arguments that have their values ask and promise, by the ways through them.
+use Rattle.std.specs.Prelude as P
 use mathlib.Core.Path.{◌≡◌, refl, sym, ap, subst, ◌∙◌}
 use mathlib.Core.Bool.{Bool, false}
 use mathlib.Core.List.{List}
@@ -15,7 +16,7 @@ use Rattle.layout.specs.Values.{Survives}
 use Rattle.layout.specs.declared.values.Value.{Value}
 use Rattle.machine.specs.Outcomes.{after_byte}
 use Rattle.machine.specs.declared.state.Tally.{Tally}
-use Rattle.machine.specs.declared.state.Outcome.{Outcome}
+use Rattle.machine.specs.Outcomes.{Outcome}
 use Rattle.runner.specs.Phases.{LAST, ARGUMENT, NAMELESS}
 use Rattle.runner.specs.Waiting.{Run}
 use Rattle.runner.specs.Standing.{Resumes, above, begun, weight, Any, Prints, Printing, LastOf, Heads, callee, Callable, Enters}
@@ -27,8 +28,8 @@ use Rattle.runner.proofs.Promises.{prints_to}
 use Rattle.runner.proofs.Resuming.{onward_less}
 
 byte_units : (x : Outcome) (s : Tally) → (after_byte x s).units ≤ s.units
-byte_units (Outcome.Gives y) s = omega arith
-byte_units (Outcome.Halts y) s = omega arith
+byte_units (P.Ok y) s = omega arith
+byte_units (P.Err y) s = omega arith
 
 abbrev Arguing : List ℕ → List ℕ → List ℕ → Value → ℕ → Spot → Tally → Run → Type 0
 Arguing t w o v row p s q = Resumes q t w o v row ARGUMENT p s

@@ -1,4 +1,5 @@
 -- A part of a node begins above the node's frame; an outcome that is told ends the run, or its value is given.
+use Rattle.std.specs.Prelude as P
 use mathlib.Core.Path.{◌≡◌, sym, subst, ◌∙◌}
 use mathlib.Core.List.{List}
 use Prim.Native.Nat.{ℕ, suc, ◌+◌, ◌*◌, ◌≤◌}
@@ -16,7 +17,7 @@ use Rattle.layout.specs.declared.values.Value.{Value}
 use Rattle.machine.specs.Outcomes as Machine
 use Rattle.machine.specs.Outcomes.{memory, told, Tells, tells, anything, Room, Printed, after_byte}
 use Rattle.machine.specs.declared.state.Tally.{Tally}
-use Rattle.machine.specs.declared.state.Outcome.{Outcome}
+use Rattle.machine.specs.Outcomes.{Outcome}
 use Rattle.runner.specs.Trees.{At, slack, Scene}
 use Rattle.runner.specs.Waiting.{Run, Then, Binds, FrameAt, Later, Waits, Stack, frame}
 use Rattle.runner.specs.Standing.{Fair, Begins, Good, onward}
@@ -84,9 +85,9 @@ pub onward_good : {q : Run} {t w o : List ℕ} (d a : ℕ) {κ : Then} (p : Spot
     → Stack q t w d p.height a s.cells s.births κ → then (told i (memory w o s) r) κ ≡ q.whole
     → Good q t w o (onward r i v p s)
 unfolding then
-onward_good d a {κ} p (Outcome.Gives x) i v scene fair deep high stack e =
+onward_good d a {κ} p (P.Ok x) i v scene fair deep high stack e =
     record { scene = scene; fair = fair; d = d; a = a; κ = κ; deep = deep; high = high; stack = stack; means = e }
-onward_good d a p (Outcome.Halts y) i v scene fair deep high stack e = record { fair = fair_low 0 (omega arith) fair; tells = e }
+onward_good d a p (P.Err y) i v scene fair deep high stack e = record { fair = fair_low 0 (omega arith) fair; tells = e }
 
 -- ---- a step that changed cells alone
 
@@ -125,7 +126,7 @@ stepped_good d a p {s = s} {s1 = s1} r i v scene fair deep high l stack k e =
 -- a byte is printed, or is not
 pub fair_printed : {q : Run} {w o o1 : List ℕ} {s : Tally} {h : ℕ} {v : M.Value} (x : Outcome) → Fair q w o s (suc h) → Printed v o o1 s x
     → Fair q w o1 (after_byte x s) h
-fair_printed (Outcome.Gives y) f p = record {
+fair_printed (P.Ok y) f p = record {
   room = record { long = f.room.long; few = f.room.few; low = f.room.low; rising = f.room.rising };
   paid = omega (arith, f.paid);
   printed = omega (arith, p.fits, p.wide);
@@ -134,7 +135,7 @@ fair_printed (Outcome.Gives y) f p = record {
   wide = p.wide ∙ f.wide;
   rest = λ k l. p.rest k l ∙ f.rest k (omega arith);
 }
-fair_printed (Outcome.Halts y) f p = record {
+fair_printed (P.Err y) f p = record {
   room = f.room;
   paid = omega (arith, f.paid);
   printed = omega (arith, p.fits, p.wide);
@@ -146,5 +147,5 @@ fair_printed (Outcome.Halts y) f p = record {
 
 pub same_stack : {q : Run} {t w : List ℕ} {d h a : ℕ} (s : Tally) {κ : Then} (x : Outcome) → Stack q t w d h a s.cells s.births κ
     → Stack q t w d h a (after_byte x s).cells (after_byte x s).births κ
-same_stack s (Outcome.Gives y) k = k
-same_stack s (Outcome.Halts y) k = k
+same_stack s (P.Ok y) k = k
+same_stack s (P.Err y) k = k

@@ -1,4 +1,5 @@
 -- What the functions of `loops` ask and promise, by the ways through them.
+use Rattle.std.specs.Prelude as P
 use mathlib.Core.Path.{◌≡◌, refl, sym, ap, ◌∙◌}
 use mathlib.Core.Bool.{Bool, true, false}
 use mathlib.Core.List.{List}
@@ -18,8 +19,7 @@ use Rattle.layout.specs.Frames.{FRAMES, put_phase}
 use Rattle.layout.specs.Values.{meant, Survives}
 use Rattle.layout.specs.declared.values.Value.{Value}
 use Rattle.layout.specs.declared.values.Value.TheVariants.{Nothing}
-use Rattle.machine.specs.Operands.{OfInt, stepped, counter_in}
-use Rattle.machine.specs.declared.counting.Counter.{Counter}
+use Rattle.machine.specs.Operands.{OfInt, stepped, written}
 use Rattle.machine.specs.declared.state.Tally.{Tally}
 use Rattle.numbers.specs.declared.Stop.{Stop}
 use Rattle.runner.specs.Phases.{ARGUMENT, COUNTED, NAMELESS}
@@ -124,10 +124,10 @@ module _ {t w : List ℕ} {v : Value} {row : ℕ} {p : Spot} {s : Tally} where
   nexts_slots x = (x.holds.fair.room.long, next_slots x.holds)
 
   module _ (z to by : Value) {at : ℕ} (e : at ≡ p.base + p.size) (a : meant z ≡ value_at w 0 at) (b : meant to ≡ value_at w 0 (at + 1))
-      (c : meant by ≡ value_at w 0 (at + 2)) (n : Counter) (h : OfInt (meant z) (λ x. OfInt (meant by) (λ y. counter_in n ≡ stepped x y))) where
-    pub nexts_turn : {x : Value} → n ≡ Counter.At x → (q : Run) (o : List ℕ) → Passed t w v row p s q o → Counting q t w o false row x to by p s
+      (c : meant by ≡ value_at w 0 (at + 2)) (n : P.Option Value) (h : OfInt (meant z) (λ x. OfInt (meant by) (λ y. written (P.option_map meant n) ≡ stepped x y))) where
+    pub nexts_turn : {x : Value} → n ≡ P.Some x → (q : Run) (o : List ℕ) → Passed t w v row p s q o → Counting q t w o false row x to by p s
     nexts_turn f q o r = next_counts r z to by (a ∙ ap (λ (j : ℕ). value_at w 0 j) e) (at_slot w 1 e b) (at_slot w 2 e c) n h f
 
-    pub nexts_over : n ≡ Counter.Past → {r : Next} → r ≡ given Nothing p s → Goes (Passed t w v row p s) t w (3 * s.units + p.height + 3) r
+    pub nexts_over : n ≡ P.None → {r : Next} → r ≡ given Nothing p s → Goes (Passed t w v row p s) t w (3 * s.units + p.height + 3) r
     nexts_over f g =
         goes_to refl g (λ q o r. next_over r z to by (a ∙ ap (λ (j : ℕ). value_at w 0 j) e) (at_slot w 1 e b) (at_slot w 2 e c) n h f) (omega arith)

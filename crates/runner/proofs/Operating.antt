@@ -1,4 +1,5 @@
 -- A value goes to an operator's frame, a Block's, or one whose part was the last.
+use Rattle.std.specs.Prelude as P
 use mathlib.Core.Path.{◌≡◌, refl, sym, ap, subst, ◌∙◌}
 use mathlib.Core.Bool.{true, false}
 use mathlib.Core.List.{List}
@@ -20,7 +21,7 @@ use Rattle.layout.specs.declared.values.Value.{Value}
 use Rattle.machine.specs.Rows.{unary_of, binary_of}
 use Rattle.machine.specs.Outcomes.{memory, Answered, Applied, after_birth}
 use Rattle.machine.specs.declared.state.Tally.{Tally}
-use Rattle.machine.specs.declared.state.Outcome.{Outcome}
+use Rattle.machine.specs.Outcomes.{Outcome}
 use Rattle.machine.proofs.Slotted.{keep_slots}
 use Rattle.runner.specs.Phases.{LAST, UNARY, LEFT, RIGHT, INSIDE, NAMELESS}
 use Rattle.runner.specs.Waiting.{Run, Then, binds_held, which, WaitsLast, WaitsUnary, WaitsLeft, WaitsRight, WaitsInside, Waits}
@@ -66,8 +67,8 @@ not_new o h e = h (ap unary_kind e)
 -- a birth adds one
 after_small : (x : Outcome) (s : Tally) → ((after_birth x s).births ≤ s.births + 1) × ((after_birth x s).units ≡ s.units) ×
     ((after_birth x s).printed ≡ s.printed)
-after_small (Outcome.Gives v) s = (omega arith, refl, refl)
-after_small (Outcome.Halts y) s = (omega arith, refl, refl)
+after_small (P.Ok v) s = (omega arith, refl, refl)
+after_small (P.Err y) s = (omega arith, refl, refl)
 
 module _ {q : Run} {t w o : List ℕ} {v : Value} {row phase : ℕ} {p : Spot} {s : Tally} (r : Resumes q t w o v row phase p s) where
   abbrev σ : M.State

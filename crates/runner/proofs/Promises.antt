@@ -1,4 +1,5 @@
 -- The laws of the steps in the form in which the functions promise them, and what the functions ask of one another.
+use Rattle.std.specs.Prelude as P
 use mathlib.Core.Path.{◌≡◌, sym, ap, subst, ◌∙◌}
 use mathlib.Core.Bool.{Bool, true, false}
 use mathlib.Core.List.{List}
@@ -15,7 +16,7 @@ use Rattle.layout.specs.declared.values.Value.{Value}
 use Rattle.language.specs.State as M
 use Rattle.layout.specs.Values.{meant}
 use Rattle.machine.specs.Outcomes.{Room, born, after_birth, Created, byte_more, after_byte, Printed}
-use Rattle.machine.specs.declared.state.Outcome.{Outcome}
+use Rattle.machine.specs.Outcomes.{Outcome}
 use Rattle.numbers.specs.declared.Stop.{Stop}
 use Rattle.machine.specs.declared.state.Tally.{Tally}
 use Rattle.runner.specs.Phases.{LAST}
@@ -132,18 +133,18 @@ entered_at {t} {row = row} {v} {p} {s} {count = count} e f g h = record {
 
 -- ---- a byte is printed or a cell made
 
-pub printed_room : {v : M.Value} {o o1 : List ℕ} {s : Tally} {r : Outcome} {x : Value} → Printed v o o1 s r → r ≡ Outcome.Gives x → s.printed < length o1
+pub printed_room : {v : M.Value} {o o1 : List ℕ} {s : Tally} {r : Outcome} {x : Value} → Printed v o o1 s r → r ≡ P.Ok x → s.printed < length o1
 printed_room {s = s} p e = omega (arith, p.fits, p.wide, ap (λ (y : Outcome). (after_byte y s).printed) e)
 
 module _ {i : ℕ} {v : Value} {o o1 : List ℕ} {p : Spot} {s : Tally} {r : Outcome} (x : Printed (meant v) o o1 s r) where
-  pub printing_gives : {y : Value} → r ≡ Outcome.Gives y → {t : Tally} → t ≡ byte_more s → {n : Next} → n ≡ given y p t → Printing i v o o1 p s n
+  pub printing_gives : {y : Value} → r ≡ P.Ok y → {t : Tally} → t ≡ byte_more s → {n : Next} → n ≡ given y p t → Printing i v o o1 p s n
   printing_gives {y} e f g = record {
     outcome = r;
     printed = x;
     is = g ∙ ap (λ (z : Tally). given y p z) f ∙ ap (λ (z : Outcome). onward z i v p (after_byte z s)) (sym e);
   }
 
-  pub printing_halts : {y : Stop} → r ≡ Outcome.Halts y → {place : ℕ} → place ≡ i → {n : Next} → n ≡ over (Ending.stopped y place) v p s
+  pub printing_halts : {y : Stop} → r ≡ P.Err y → {place : ℕ} → place ≡ i → {n : Next} → n ≡ over (Ending.stopped y place) v p s
       → Printing i v o o1 p s n
   printing_halts {y} e f g = record {
     outcome = r;
@@ -152,14 +153,14 @@ module _ {i : ℕ} {v : Value} {o o1 : List ℕ} {p : Spot} {s : Tally} {r : Out
   }
 
 module _ {i : ℕ} {v : Value} {w w1 : List ℕ} {p : Spot} {s : Tally} {r : Outcome} (x : Created (meant v) w w1 s r) where
-  pub creating_gives : {y : Value} → r ≡ Outcome.Gives y → {t : Tally} → t ≡ born s → {n : Next} → n ≡ given y p t → Creating i v w w1 p s n
+  pub creating_gives : {y : Value} → r ≡ P.Ok y → {t : Tally} → t ≡ born s → {n : Next} → n ≡ given y p t → Creating i v w w1 p s n
   creating_gives {y} e f g = record {
     outcome = r;
     created = x;
     is = g ∙ ap (λ (z : Tally). given y p z) f ∙ ap (λ (z : Outcome). onward z i v p (after_birth z s)) (sym e);
   }
 
-  pub creating_halts : {y : Stop} → r ≡ Outcome.Halts y → {n : Next} → n ≡ over (Ending.stopped y i) v p s → Creating i v w w1 p s n
+  pub creating_halts : {y : Stop} → r ≡ P.Err y → {n : Next} → n ≡ over (Ending.stopped y i) v p s → Creating i v w w1 p s n
   creating_halts {y} e g = record {
     outcome = r;
     created = x;

@@ -1,4 +1,5 @@
 -- What the functions of `resume` and the second half of `calls` ask and promise, by the ways through them.
+use Rattle.std.specs.Prelude as P
 use mathlib.Core.Path.{◌≡◌, refl, sym, ap, subst, ◌∙◌}
 use mathlib.Core.Bool.{Bool, true, false}
 use mathlib.Core.List.{List}
@@ -20,7 +21,7 @@ use Rattle.machine.specs.Operands.{is_true}
 use Rattle.machine.specs.Rows.{unary_of, binary_of}
 use Rattle.machine.specs.Outcomes.{Answered, Applied, after_birth}
 use Rattle.machine.specs.declared.state.Tally.{Tally}
-use Rattle.machine.specs.declared.state.Outcome.{Outcome}
+use Rattle.machine.specs.Outcomes.{Outcome}
 use Rattle.runner.specs.Phases.{LAST, UNARY, LEFT, RIGHT, BEFORE, INSIDE, BOUND, CONDITION, TEST, PASS, ARGUMENT, COUNTED, NAMELESS, Controls}
 use Rattle.runner.specs.Waiting.{Run}
 use Rattle.runner.specs.Standing.{Gives, Resumes, Good, above, begun, given, over, onward, weight, Some, Goes, Any, Creating}
@@ -36,12 +37,12 @@ use Rattle.runner.proofs.Promises.{goes_to}
 
 -- what an operator gave is less than what it was given
 pub onward_less : (x : Outcome) (i : ℕ) (v : Value) (p : Spot) (s : Tally) {u : ℕ} → s.units ≤ u → weight (onward x i v p s) < 3 * u + p.height + 3
-onward_less (Outcome.Gives y) i v p s l = omega arith
-onward_less (Outcome.Halts y) i v p s l = omega arith
+onward_less (P.Ok y) i v p s l = omega arith
+onward_less (P.Err y) i v p s l = omega arith
 
 birth_units : (x : Outcome) (s : Tally) → (after_birth x s).units ≤ s.units
-birth_units (Outcome.Gives y) s = omega arith
-birth_units (Outcome.Halts y) s = omega arith
+birth_units (P.Ok y) s = omega arith
+birth_units (P.Err y) s = omega arith
 
 -- ---- give
 

@@ -1,4 +1,5 @@
 -- A number of a `for` is next: its body begins, if a pass for it is due; and when the pass is over the number behind it is next.
+use Rattle.std.specs.Prelude as P
 use mathlib.Core.Path.{◌≡◌, refl, sym, ap, subst, ◌∙◌}
 use mathlib.Core.Bool.{Bool, true, false, cond}
 use mathlib.Core.List.{List, ◌∷◌}
@@ -22,9 +23,8 @@ use Rattle.layout.specs.Frames.{put_phase}
 use Rattle.layout.specs.Values.{meant, Survives}
 use Rattle.layout.specs.declared.values.Value.{Value}
 use Rattle.layout.specs.declared.values.Value.TheVariants.{Nothing}
-use Rattle.machine.specs.Operands.{OfInt, stepped, counter_in}
+use Rattle.machine.specs.Operands.{OfInt, stepped, written}
 use Rattle.machine.specs.Outcomes.{memory}
-use Rattle.machine.specs.declared.counting.Counter.{Counter}
 use Rattle.machine.specs.declared.state.Tally.{Tally}
 use Rattle.runner.specs.Phases.{COUNTED}
 use Rattle.runner.specs.Waiting.{Run, Then, Binds, binds_name, binds_held, which, passed, WaitsCounted, Waits}
@@ -165,22 +165,22 @@ module _ {q : Run} {t w o : List ℕ} {v : Value} {row : ℕ} {p : Spot} {s : Ta
   next_means = unit_whole q r.κ (as_unit (meant v)) _ (sym (waiting.goes (meant v) (memory w o s)) ∙ r.means)
 
   module _ (z to by : Value) (a : meant z ≡ value_at w 0 (p.base + p.size)) (b : meant to ≡ value_at w 0 (p.base + p.size + 1))
-      (c : meant by ≡ value_at w 0 (p.base + p.size + 2)) (n : Counter)
-      (h : OfInt (meant z) (λ x. OfInt (meant by) (λ y. counter_in n ≡ stepped x y))) where
+      (c : meant by ≡ value_at w 0 (p.base + p.size + 2)) (n : P.Option Value)
+      (h : OfInt (meant z) (λ x. OfInt (meant by) (λ y. written (P.option_map meant n) ≡ stepped x y))) where
     z_is : meant z ≡ number waiting.z
     z_is = a ∙ ap (λ (j : ℕ). value_at w 0 (p.base + j)) r.sized ∙ waiting.counter
 
     by_is : meant by ≡ number waiting.by
     by_is = c ∙ ap (λ (j : ℕ). value_at w 0 j) (at_is 2) ∙ waiting.step
 
-    found : counter_in n ≡ stepped waiting.z waiting.by
+    found : written (P.option_map meant n) ≡ stepped waiting.z waiting.by
     found = (h.is waiting.z (ap as_int z_is)).is waiting.by (ap as_int by_is)
 
     -- another number
-    pub next_counts : {x : Value} → n ≡ Counter.At x → Counting q t w o false row x to by p s
+    pub next_counts : {x : Value} → n ≡ P.Some x → Counting q t w o false row x to by p s
     unfolding choose
     next_counts {x} e =
-        let f = stepped_to (in_range beyond) (ap counter_in (sym e) ∙ found) in
+        let f = stepped_to (in_range beyond) (ap (λ (r : P.Option Value). written (P.option_map meant r)) (sym e) ∙ found) in
         record {
           v = v;
           phase = COUNTED;
@@ -197,8 +197,8 @@ module _ {q : Run} {t w o : List ℕ} {v : Value} {row : ℕ} {p : Spot} {s : Ta
         }
 
     -- none
-    pub next_over : n ≡ Counter.Past → Gives q t w o Nothing p s
+    pub next_over : n ≡ P.None → Gives q t w o Nothing p s
     unfolding choose then
     next_over e =
-        let f = stepped_past (in_range beyond) (number beyond) (ap counter_in (sym e) ∙ found) in
+        let f = stepped_past (in_range beyond) (number beyond) (ap (λ (r : P.Option Value). written (P.option_map meant r)) (sym e) ∙ found) in
         back r (omega (arith, waiting.room)) Nothing (rw f at next_means)

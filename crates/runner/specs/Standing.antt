@@ -16,7 +16,7 @@ use Rattle.numbers.specs.Meanings.{stop_meant}
 use Rattle.numbers.specs.declared.Stop.{Stop}
 use Rattle.machine.specs.Outcomes.{memory, Room, after_birth, Created, after_byte, Printed}
 use Rattle.machine.specs.declared.state.Tally.{Tally}
-use Rattle.machine.specs.declared.state.Outcome.{Outcome}
+use Rattle.machine.specs.Outcomes.{Outcome}
 use Rattle.runner.specs.Phases.{LAST}
 use Rattle.runner.specs.Trees.{At, slack, Scene}
 use Rattle.runner.specs.Waiting.{Run, Then, Binds, FrameAt, Later, Waits, Stack}
@@ -159,8 +159,8 @@ abbrev pub over : Ending → Value → Spot → Tally → Next
 over e v p s = record { mode = ending_mode e; node = 0; value = v; spot = p; tally = s }
 
 abbrev pub onward : Outcome → ℕ → Value → Spot → Tally → Next
-onward (Outcome.Gives x) i v p s = given x p s
-onward (Outcome.Halts y) i v p s = over (Ending.stopped y i) v p s
+onward (P.Ok x) i v p s = given x p s
+onward (P.Err y) i v p s = over (Ending.stopped y i) v p s
 
 -- ---- what the functions ask and promise
 

@@ -15,7 +15,7 @@ use crate::{loops, state};
 use layout::values::Value;
 use layout::{NOBODY, SLOTS_AT, frames, notes, rows, slots};
 use machine::output;
-use machine::state::{Outcome, Tally};
+use machine::state::Tally;
 
 // Which argument a frame waits for: its row and its number, in one mark.
 const NUMBERS: usize = 8;
@@ -177,10 +177,10 @@ fn print(table: &[u32], out: &mut [u8], v: Value, node: usize, spot: Spot, s: Ta
     let place = rows::word(table, node, rows::OWN);
     let r = output::put(out, v, s);
     match r {
-        Outcome::Gives(x) => {
+        Ok(x) => {
             let t = output::printed(out, s);
             state::gives(x, spot, t)
         }
-        Outcome::Halts(why) => state::halts(why, place, v, spot, s),
+        Err(why) => state::halts(why, place, v, spot, s),
     }
 }

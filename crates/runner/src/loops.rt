@@ -15,7 +15,6 @@ use language::kinds;
 use layout::values::Value;
 use layout::{SLOTS_AT, frames, rows, slots};
 use machine::counting;
-use machine::counting::Counter;
 use machine::state::Tally;
 use numbers::Stop;
 
@@ -144,7 +143,7 @@ pub fn next(table: &[u32], work: &mut [u32], v: Value, node: usize, spot: Spot, 
     let by = slots::value(work, SLOTS_AT, at + 2);
     let n = counting::next(z, by);
     match n {
-        Counter::At(x) => turn(table, work, node, x, to, by, v, spot, s),
-        Counter::Past => state::gives(Value::Nothing, spot, s),
+        Some(x) => turn(table, work, node, x, to, by, v, spot, s),
+        None => state::gives(Value::Nothing, spot, s),
     }
 }

@@ -13,7 +13,7 @@ use crate::{calls, loops, state};
 use language::kinds;
 use layout::values::Value;
 use layout::{SLOTS_AT, frames, rows, slots};
-use machine::state::{Outcome, Tally};
+use machine::state::Tally;
 use machine::{cells, operands, operations};
 
 const NEW: u32 = rows::PREFIX + kinds::REF;
@@ -205,10 +205,10 @@ fn create(work: &mut [u32], place: u32, v: Value, spot: Spot, s: Tally) -> Next
 {
     let r = cells::create(work, v, s);
     match r {
-        Outcome::Gives(x) => {
+        Ok(x) => {
             let t = cells::born(s);
             state::gives(x, spot, t)
         }
-        Outcome::Halts(why) => state::halts(why, place, v, spot, s),
+        Err(why) => state::halts(why, place, v, spot, s),
     }
 }

@@ -3,7 +3,7 @@ ghost use Rattle.std.specs.Prelude.{◌≡◌};
 ghost use Rattle.runner.specs.Standing.{Ending, running, begun, given, over, onward};
 
 use layout::values::Value;
-use machine::state::{Outcome, Tally};
+use machine::state::Tally;
 use numbers::Stop;
 
 // A node begins, a value goes to the frame that waits for it, or it is over: with the value, or by a stop at a token.
@@ -117,12 +117,12 @@ pub fn halts(why: Stop, place: u32, value: Value, spot: Spot, tally: Tally) -> N
 }
 
 // What an operator gave goes on, or the run stops at its token. The value is the one given before.
-pub fn onward(r: Outcome, place: u32, value: Value, spot: Spot, tally: Tally) -> Next
+pub fn onward(r: Result<Value, Stop>, place: u32, value: Value, spot: Spot, tally: Tally) -> Next
     ensures { result ≡ onward r place value spot tally }
 {
     match r {
-        Outcome::Gives(v) => gives(v, spot, tally),
-        Outcome::Halts(why) => halts(why, place, value, spot, tally),
+        Ok(v) => gives(v, spot, tally),
+        Err(why) => halts(why, place, value, spot, tally),
     }
 }
 
