@@ -1,5 +1,5 @@
 -- What the answer of `read` says of an input t, and what it leaves in the table: w before, v after.
-use Rattle.std.specs.Prelude.{length, List, ◌≡◌, ℕ, ◌≤◌}
+use Rattle.std.specs.Prelude.{Result, Ok, Err, length, List, ◌≡◌, ℕ, ◌≤◌}
 use Rattle.language.specs.Numbers.{Refusal}
 use Rattle.language.specs.Sizes.{TOKENS, TABLE}
 use Rattle.language.specs.Stored.{StoredGives, StoredDenies}
@@ -7,8 +7,7 @@ use Rattle.language.specs.Tokens as Language
 use Rattle.numbers.specs.Meanings.{refusal_meant}
 use Rattle.tokens.specs.Answer.{Laid}
 use Rattle.stored.specs.Lines.{CountTo}
-use Rattle.stored.specs.declared.Stored as stored
-use Rattle.stored.specs.declared.Stored.TheVariants.{Tokens, Denied}
+use Rattle.stored.specs.declared.Denied.{Denied}
 
 -- the count is read and not too large
 pub record Counted (t w : List ℕ) (n : ℕ) : Type 0 where
@@ -30,6 +29,6 @@ pub record Broken (voc : Language.Vocabulary) (t w v : List ℕ) (r : Refusal) (
   pub few : length tokens ≤ TOKENS
   pub laid : Laid tokens w v
 
-abbrev pub IsStored : Language.Vocabulary → List ℕ → List ℕ → List ℕ → stored.Stored → Type 0
-IsStored voc t w v (Tokens n) = Whole voc t w v n
-IsStored voc t w v (Denied y line) = Broken voc t w v (refusal_meant y) line
+abbrev pub IsStored : Language.Vocabulary → List ℕ → List ℕ → List ℕ → Result ℕ Denied → Type 0
+IsStored voc t w v (Ok n) = Whole voc t w v n
+IsStored voc t w v (Err y) = Broken voc t w v (refusal_meant y.why) y.line

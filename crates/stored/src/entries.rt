@@ -4,22 +4,23 @@ ghost use Rattle.tokens.specs.Editions.{meant};
 ghost use Rattle.stored.specs.Lines.{LineTo};
 ghost use Rattle.stored.specs.Entries.{IsEntry};
 
-use crate::lines::{Line, line_at};
+use crate::lines::line_at;
 use numbers::Refusal;
 use tokens::edition::Edition;
 use tokens::pieces::{Piece, piece_at};
 use tokens::view::{Text, View};
 
+// A token, what it is worth, and the LF that ends its line.
 #[derive(Clone, Copy)]
-pub enum Entry {
-    // A token, what it is worth, and the LF that ends its line.
-    Token { kind: u32, worth: u64, end: usize },
-    Faulty(Refusal),
+pub struct Entry {
+    pub kind: u32,
+    pub worth: u64,
+    pub end: usize,
 }
 
 // What the digits between two places tell. The longest piece at their begin is all of them, or they are not
 // one token.
-fn token_on(edition: Edition, stored: &[u8], at: usize, end: usize) -> Entry
+fn token_on(edition: Edition, stored: &[u8], at: usize, end: usize) -> Result<Entry, Refusal>
     requires { LineTo stored.now at end }
     ensures { IsEntry (meant edition) stored.now at result }
 {
@@ -29,24 +30,20 @@ fn token_on(edition: Edition, stored: &[u8], at: usize, end: usize) -> Entry
         view: View::Line { from: at, to: end },
     };
     match piece_at(edition, &text, 0) {
-        Piece::Token(kind, size, worth) => {
-            if size == text.len() {
-                return Entry::Token { kind, worth, end };
-            }
-            Entry::Faulty(Refusal::NotOneToken)
+        Ok(Piece::Token { kind, end: size, worth }) if size == text.len() => {
+            Ok(Entry { kind, worth, end })
         }
-        Piece::Space(_end) => Entry::Faulty(Refusal::NotOneToken),
-        Piece::Wrong(_flaw) => Entry::Faulty(Refusal::NotOneToken),
+        _ => Err(Refusal::NotOneToken),
     }
 }
 
 // The line that begins at a place: first whether it is hexadecimal, then whether it is a token.
-pub fn entry_at(edition: Edition, stored: &[u8], at: usize) -> Entry
+pub fn entry_at(edition: Edition, stored: &[u8], at: usize) -> Result<Entry, Refusal>
     requires { at < length stored.now }
     ensures { IsEntry (meant edition) stored.now at result }
 {
-    match line_at(stored, at) {
-        Line::Digits(end) => token_on(edition, stored, at, end),
-        Line::Faulty => Entry::Faulty(Refusal::NotHexadecimal),
-    }
+    let Some(end) = line_at(stored, at) else {
+        return Err(Refusal::NotHexadecimal);
+    };
+    token_on(edition, stored, at, end)
 }

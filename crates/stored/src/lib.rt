@@ -13,25 +13,23 @@ mod names;
 mod rows;
 
 use crate::entries::{Entry, entry_at};
-use crate::lines::{Count, count_of};
+use crate::lines::count_of;
 use crate::rows::keep;
 use language::{SOURCE, TOKENS};
 use numbers::{Flaw, Refusal};
 use tokens::edition::Edition;
 use tokens::forks::begin;
 
-// What comes of a stored sheet.
+// Why a stored sheet is refused, and the line at which this is told; 0 where it is told of no line.
 #[derive(Clone, Copy)]
-pub enum Stored {
-    // So many tokens, and all is well.
-    Tokens(usize),
-    // Why it is none, and the line at which this is told; 0 where it is told of no line.
-    Denied(Refusal, usize),
+pub struct Denied {
+    pub why: Refusal,
+    pub line: usize,
 }
 
 // The lines behind the count. They are all looked at, also where they are more than were counted or than
 // the table has room for: a faulty line is told before a wrong count, and that before too many bytes.
-fn tokens_of(edition: Edition, stored: &[u8], table: &mut [u32], counted: usize) -> Stored
+fn tokens_of(edition: Edition, stored: &[u8], table: &mut [u32], counted: usize) -> Result<usize, Denied>
     requires { Counted stored.now table.old counted }
     ensures { IsStored (meant edition) stored.now table.old table.new result }
 {
@@ -41,38 +39,46 @@ fn tokens_of(edition: Edition, stored: &[u8], table: &mut [u32], counted: usize)
     let mut bytes = 0;
     while at < stored.len() {
         match entry_at(edition, stored, at) {
-            Entry::Token { kind, worth, end } => {
+            Ok(Entry { kind, worth, end }) => {
                 bytes += (end - at) / 2;
                 keep(stored, table, count, bytes, kind, worth, at, end);
                 count += 1;
                 at = end + 1;
             }
-            Entry::Faulty(why) => {
-                return Stored::Denied(why, count + 2);
+            Err(why) => {
+                return Err(Denied { why, line: count + 2 });
             }
         }
     }
     if count != counted {
-        return Stored::Denied(Refusal::WrongCount, 1);
+        return Err(Denied {
+            why: Refusal::WrongCount,
+            line: 1,
+        });
     }
     if SOURCE < bytes {
-        return Stored::Denied(Refusal::LongSource, 0);
+        return Err(Denied {
+            why: Refusal::LongSource,
+            line: 0,
+        });
     }
-    Stored::Tokens(count)
+    Ok(count)
 }
 
 // Reads a stored sheet as one of an edition.
-pub fn read(edition: Edition, stored: &[u8], table: &mut [u32]) -> Stored
+pub fn read(edition: Edition, stored: &[u8], table: &mut [u32]) -> Result<usize, Denied>
     requires { TABLE ≤ length table.old }
     ensures { IsStored (meant edition) stored.now table.old table.new result }
 {
     match count_of(stored) {
-        Count::Is(counted) => {
-            if TOKENS < counted {
-                return Stored::Denied(Refusal::Text(Flaw::ManyTokens), 1);
-            }
-            tokens_of(edition, stored, table, counted)
-        }
-        Count::None => Stored::Denied(Refusal::NotHexadecimal, 1),
+        Some(counted) if counted <= TOKENS => tokens_of(edition, stored, table, counted),
+        Some(_) => Err(Denied {
+            why: Refusal::Text(Flaw::ManyTokens),
+            line: 1,
+        }),
+        None => Err(Denied {
+            why: Refusal::NotHexadecimal,
+            line: 1,
+        }),
     }
 }

@@ -2,18 +2,11 @@
 ghost use Rattle.std.specs.Prelude.{◌≤◌, length};
 ghost use Rattle.stored.specs.Lines.{IsLine, IsCount};
 
-use tokens::bytes::{Class, run_end};
+use tokens::bytes::Capital;
 use tokens::view::{Text, View};
 
-#[derive(Clone, Copy)]
-pub enum Line {
-    // Two digits for each byte, up to the LF at this place.
-    Digits(usize),
-    Faulty,
-}
-
-// The line that begins at a place.
-pub fn line_at(stored: &[u8], at: usize) -> Line
+// Where the line that begins at a place ends, by its LF, if it holds two digits for each byte.
+pub fn line_at(stored: &[u8], at: usize) -> Option<usize>
     requires { at ≤ length stored.now }
     ensures { IsLine stored.now at result }
 {
@@ -22,43 +15,24 @@ pub fn line_at(stored: &[u8], at: usize) -> Line
         second: stored,
         view: View::Plain,
     };
-    let end = run_end(&text, at, Class::Capital);
-    if end == at {
-        return Line::Faulty;
+    let end = text.run_end(at, &Capital);
+    if end == at || (end - at) % 2 != 0 || text.byte(end) != b'\n' {
+        return None;
     }
-    if (end - at) % 2 != 0 {
-        return Line::Faulty;
-    }
-    if text.byte(end) != b'\n' {
-        return Line::Faulty;
-    }
-    Line::Digits(end)
-}
-
-#[derive(Clone, Copy)]
-pub enum Count {
-    Is(usize),
-    None,
+    Some(end)
 }
 
 // The count that the first line tells, by four digits.
-pub fn count_of(stored: &[u8]) -> Count
+pub fn count_of(stored: &[u8]) -> Option<usize>
     ensures { IsCount stored.now result }
 {
-    match line_at(stored, 0) {
-        Line::Digits(end) => {
-            if end != 4 {
-                return Count::None;
-            }
-            let text = Text {
-                first: stored,
-                second: stored,
-                view: View::Line { from: 0, to: 4 },
-            };
-            let high = text.byte(0) as usize;
-            let low = text.byte(1) as usize;
-            Count::Is(high * 256 + low)
-        }
-        Line::Faulty => Count::None,
+    if line_at(stored, 0)? != 4 {
+        return None;
     }
+    let text = Text {
+        first: stored,
+        second: stored,
+        view: View::Line { from: 0, to: 4 },
+    };
+    Some(usize::from(text.byte(0)) * 256 + usize::from(text.byte(1)))
 }

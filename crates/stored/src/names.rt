@@ -73,7 +73,7 @@ pub fn table_worth(
         kind (slice p q stored.now) }
 {
     if kind == kinds::NAME {
-        return name_number(stored, table, count, p, q) as u64;
+        return u64::from(name_number(stored, table, count, p, q));
     }
     worth
 }

@@ -23,10 +23,7 @@ pub fn keep(
     requires { Keepable stored.now table.old count bytes kind p q }
     ensures { Kept stored.now table.old table.new count bytes kind worth p q }
 {
-    if TOKENS <= count {
-        return;
-    }
-    if SOURCE < bytes {
+    if TOKENS <= count || SOURCE < bytes {
         return;
     }
     let both = table_worth(stored, table, count, kind, p, q, worth);

@@ -6,19 +6,19 @@ use lib.Seq.{slice, length-slice, drop-cons, drop-length, get_or-take, get_or-dr
 use mathlib.Core.Bool.{Bool, true, false, ◌&&◌}
 use mathlib.Core.List.{List, [], ◌∷◌}
 use mathlib.Core.Logic.{⊎_elim}
-use mathlib.Core.Path.{◌≡◌, refl, sym, ◌∙◌, ap}
+use mathlib.Core.Path.{◌≡◌, refl, sym, ◌∙◌, ap, subst}
 use native.Mathlib.Nat.{add-zero}
 use native.Mathlib.Numerals.{add-one}
 use native.Mathlib.Omega.{arith}
-use Prim.Native.Nat.{ℕ, suc, ◌+◌, ◌-◌, ◌≤◌, ◌<◌}
-use Rattle.language.proofs.Text.Choices.{outcome, clash}
+use Prim.Native.Nat.{min, ℕ, suc, ◌+◌, ◌-◌, ◌≤◌, ◌<◌}
+use Rattle.language.proofs.Text.Choices.{either, outcome, clash}
 use Rattle.language.proofs.Text.Spellings.{stands, stands_yes, stands_no, stands_slice, slice_stands}
 use Rattle.language.proofs.Text.Tables.{same_one}
 use Rattle.language.specs.Text.{byte}
 use Rattle.language.specs.Tokens.{Spelling, same}
 use Rattle.layout.proofs.TokenLaws.{same_self}
 use Rattle.tokens.proofs.Planting.{none_before, none_alike}
-use Rattle.tokens.specs.declared.forks.Parting.TheVariants.{At}
+use Rattle.std.specs.Prelude.{Some}
 use Rattle.tokens.specs.Forks.{letter_at, IsParting, Finds, Sought}
 use Rattle.tokens.specs.Found.{bytes_of, First}
 
@@ -142,7 +142,7 @@ module _ {t : List ℕ} {a b p q i : ℕ} (g : Alike t a b p q i) where
       record { inside = g.inside; order = g.order; ends = g.ends; many = g.many; agrees = more }
 
   -- byte i does not agree
-  pub alike_less : {x y : ℕ} → i < b - a → x ≡ byte t (a + i) → y ≡ byte t (p + i) → (x ≡ y → ⊥) → IsParting (slice a b t) (slice p q t) (At i)
+  pub alike_less : {x y : ℕ} → i < b - a → x ≡ byte t (a + i) → y ≡ byte t (p + i) → (x ≡ y → ⊥) → IsParting (slice a b t) (slice p q t) (Some i)
   alike_less h e f n =
       let l = length-slice p q t g.ends in
       let u = letter_inside (slice a b t) i (omega (arith, size)) in
@@ -154,7 +154,7 @@ module _ {t : List ℕ} {a b p q i : ℕ} (g : Alike t a b p q i) where
   alike_all h = sym (settled (agrees_all g.agrees (omega (arith, size))))
 
 -- there are more bytes of one than of the other
-pub fewer : (t : List ℕ) (a b p q : ℕ) → b ≤ length t → q ≤ length t → b - a < q - p → IsParting (slice a b t) (slice p q t) (At (b - a))
+fewer : (t : List ℕ) (a b p q : ℕ) → b ≤ length t → q ≤ length t → b - a < q - p → IsParting (slice a b t) (slice p q t) (Some (b - a))
 fewer t a b p q h l n =
     let x = length-slice a b t h in
     let y = length-slice p q t l in
@@ -162,13 +162,22 @@ fewer t a b p q h l n =
     let v = letter_inside (slice p q t) (b - a) (omega arith) in
     (omega arith, λ z. omega arith)
 
-pub further : (t : List ℕ) (a b p q : ℕ) → b ≤ length t → q ≤ length t → q - p < b - a → IsParting (slice a b t) (slice p q t) (At (q - p))
+further : (t : List ℕ) (a b p q : ℕ) → b ≤ length t → q ≤ length t → q - p < b - a → IsParting (slice a b t) (slice p q t) (Some (q - p))
 further t a b p q h l n =
     let x = length-slice a b t h in
     let y = length-slice p q t l in
     let u = letter_inside (slice a b t) (q - p) (omega arith) in
     let v = letter_past (slice p q t) (q - p) (omega arith) in
     (omega arith, λ z. omega arith)
+
+-- so the shorter one has no byte where the other's next is
+pub parted : (t : List ℕ) (a b p q : ℕ) {m : ℕ} → b ≤ length t → q ≤ length t → (b - a ≡ q - p → ⊥) → m ≡ min (b - a) (q - p)
+    → IsParting (slice a b t) (slice p q t) (Some m)
+parted t a b p q {m} h l n e =
+    ⊎_elim
+    (λ (k : b - a < q - p). let z : b - a ≡ m = omega arith in subst (λ i. IsParting (slice a b t) (slice p q t) (Some i)) z (fewer t a b p q h l k))
+    (λ (k : q - p ≤ b - a). let z : q - p ≡ m = omega arith in subst (λ i. IsParting (slice a b t) (slice p q t) (Some i)) z (further t a b p q h l (omega arith)))
+    (either (b - a) (q - p))
 
 -- ---- the tokens of a table
 

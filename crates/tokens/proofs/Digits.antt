@@ -1,18 +1,38 @@
 -- A number read digit for digit: what its value is so far, and that it is too large as soon as the value so far is.
 use lib.Dec.{ltb}
 use lib.Seq.{slice}
-use mathlib.Core.Bool.{true}
+use mathlib.Core.Bool.{Bool, true, false, ◌&&◌}
 use mathlib.Core.List.{List}
-use mathlib.Core.Path.{◌≡◌, sym, ◌∙◌, ap, subst}
-use borrow.Author.Tests.{ltb-true}
+use mathlib.Core.Option.{none, some}
+use mathlib.Core.Path.{◌≡◌, refl, sym, ◌∙◌, ap, subst}
+use borrow.Author.Tests.{ltb-true, le-ltb}
 use native.Mathlib.Nat.{mul-le-mul}
 use native.Mathlib.Omega.{arith}
 use Prim.Native.Nat.{ℕ, ◌+◌, ◌*◌, ◌≤◌, ◌<◌}
+use Rattle.language.proofs.Text.Bases.{base_told}
 use Rattle.language.proofs.Text.Choices.{and_both}
 use Rattle.language.proofs.Text.Digits.{number_none, number_more, number_grows}
 use Rattle.language.proofs.Text.Runs.{Run}
 use Rattle.language.specs.Sizes.{LARGEST}
 use Rattle.language.specs.Text.{byte, is_hex_digit, worth, is_digit_of, number_from}
+use Rattle.language.specs.Tokens.{Spelling, spelled, bases}
+
+-- the base of two bytes, as numbers are told by: 0, which has no digit, where they tell none
+pub base_some : (s : Spelling) {base : ℕ} → spelled bases s ≡ some base → base ≡ base_told s
+unfolding base_told
+base_some s e = sym (rw e refl)
+
+pub base_none : (s : Spelling) → spelled bases s ≡ none → 0 ≡ base_told s
+unfolding base_told
+base_none s e = sym (rw e refl)
+
+pub no_digit : (b : ℕ) → is_digit_of 0 b ≡ false
+unfolding is_digit_of
+no_digit b = rw (le-ltb (worth b) 0 (omega arith)) (and_false (is_hex_digit b))
+  where
+    and_false : (x : Bool) → (x && false) ≡ false
+    and_false true = refl
+    and_false false = refl
 
 -- the digits from p up to i, of those up to q, write v
 pub record Read (base : ℕ) (t : List ℕ) (p q i v : ℕ) : Type 0 where

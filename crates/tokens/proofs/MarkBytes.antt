@@ -6,7 +6,8 @@ use lib.Seq.{slice}
 use mathlib.Core.Bool.{Bool, true, false, cond, ◌&&◌}
 use mathlib.Core.List.{List, [], ◌∷◌}
 use mathlib.Core.Logic.{⊎_elim}
-use mathlib.Core.Option.{Option, none, some}
+use mathlib.Core.Option.{none, some}
+use Rattle.std.specs.Prelude.{Option}
 use mathlib.Core.Path.{◌≡◌, refl, sym, ◌∙◌, ap}
 use native.Mathlib.Omega.{arith}
 use Prim.Native.Nat.{ℕ, zero, suc, ◌+◌, ◌≤◌, ◌<◌}
@@ -16,38 +17,14 @@ use Rattle.language.proofs.Text.Pieces.{AtMost, at_most, at_most_less, mark_piec
 use Rattle.language.proofs.Text.Places.{Begins}
 use Rattle.language.proofs.Text.Places.Sort.{others}
 use Rattle.language.proofs.Text.Spellings.{stands_slice}
-use Rattle.language.proofs.Text.Tables.{kind_of, row, every, every_row, found, most}
+use Rattle.language.proofs.Text.Tables.{most}
 use Rattle.language.specs.Text.{byte, Stands, Within, Piece}
 use Rattle.language.specs.Text.Content.{token}
-use Rattle.language.specs.Tokens.{Spelling, spelled, marks, EDITION_1, PAST}
-use Rattle.tokens.specs.Found.{or_past, mark_kind, Formless}
+use Rattle.language.specs.Tokens.{Spelling, spelled, marks, EDITION_1}
+use Rattle.std.specs.Bool.{then_some}
+use Rattle.tokens.specs.Found.{Gives, Formless}
 
 -- ---- kinds
-
--- no mark has the kind of no token
-kind_some : (s : Spelling) (k : ℕ) → spelled marks s ≡ some k → k ≡ PAST → ⊥
-unfolding every
-kind_some s k e z =
-    let f = found marks s k e in
-    let l = ltb-true 0 (kind_of (row marks f.at)) (every_row (λ r. ltb 0 (kind_of r)) marks refl f.at f.inside) in
-    omega (arith, f.means)
-
-module _ (s : Spelling) {k : ℕ} (e : k ≡ mark_kind s) where
-  is_mark : (k ≡ PAST → ⊥) → spelled marks s ≡ some k
-  unfolding mark_kind
-  is_mark n = go (spelled marks s) e
-    where
-      go : (o : Option ℕ) → k ≡ or_past o → o ≡ some k
-      go none x = absurd (n x)
-      go (some j) x = ap some (sym x)
-
-  is_none : k ≡ PAST → spelled marks s ≡ none
-  unfolding mark_kind
-  is_none z = go (spelled marks s) refl e
-    where
-      go : (o : Option ℕ) → spelled marks s ≡ o → k ≡ or_past o → o ≡ none
-      go none y x = refl
-      go (some j) y x = absurd (kind_some s j y (sym x ∙ z))
 
 eqb_swap : (a b : ℕ) → eqb a b ≡ eqb b a
 eqb_swap a b =
@@ -55,12 +32,16 @@ eqb_swap a b =
     (outcome (eqb a b))
 
 -- the second byte of a mark compared with the one that it wants
-pub second : (w k b : ℕ) → cond (eqb b w) k PAST ≡ or_past (cond (eqb w b && true) (some k) none)
-second w k b = ap (λ x. cond x k PAST) (eqb_swap b w) ∙ go (eqb w b)
+pub second : (w k b : ℕ) → Gives (cond (eqb w b && true) (some k) none) (then_some (eqb b w) k)
+second w k b = rw (eqb_swap b w) (go (eqb w b))
   where
-    go : (x : Bool) → cond x k PAST ≡ or_past (cond (x && true) (some k) none)
+    go : (x : Bool) → Gives (cond (x && true) (some k) none) (then_some x k)
     go true = refl
     go false = refl
+
+pub second_is : (w k b : ℕ) {a f : ℕ} {r : Option ℕ} → a ≡ f → r ≡ then_some (eqb b w) k
+    → spelled marks (f ∷ b ∷ []) ≡ cond (eqb w b && true) (some k) none → Gives (spelled marks (a ∷ b ∷ [])) r
+second_is w k b x y z = rw (x, y, z) (second w k b)
 
 -- ---- bytes
 
@@ -90,18 +71,17 @@ unfolding most
 two_most t p = at_most EDITION_1 t p
 
 -- n bytes looked up, with k for their kind, where none of the other forms begins
-module _ {t : List ℕ} {p : ℕ} (h : p < length t) (b : Begins t p others) (n : ℕ) {k : ℕ} where
+module _ {t : List ℕ} {p : ℕ} (h : p < length t) (b : Begins t p others) (n : ℕ) where
   -- they are a mark
-  pub marked : AtMost EDITION_1 t p n → k ≡ mark_kind (ahead t p n) → (k ≡ PAST → ⊥) → Piece EDITION_1 t p (p + n) (token k 0)
-  marked m e z =
-      let x = is_mark (ahead t p n) e z in
+  pub marked : {k : ℕ} → AtMost EDITION_1 t p n → spelled marks (ahead t p n) ≡ some k → Piece EDITION_1 t p (p + n) (token k 0)
+  marked {k} m x =
       let y = mark_within laws_1 t p (ahead t p n) k (omega arith) x (ahead_stands t p n) in
       let w : Within t p (p + n) = rw (ahead_length t p n) at y in
       mark_piece laws_1 t p n k b w (rw (ahead_slice t p n w.inside) x) m
 
   -- n + 1 of them are none
-  pub unmarked : AtMost EDITION_1 t p (n + 1) → k ≡ mark_kind (ahead t p (n + 1)) → k ≡ PAST → AtMost EDITION_1 t p n
-  unmarked m e z = at_most_less m (λ l. rw (ahead_slice t p (n + 1) l) (is_none (ahead t p (n + 1)) e z))
+  pub unmarked : AtMost EDITION_1 t p (n + 1) → spelled marks (ahead t p (n + 1)) ≡ none → AtMost EDITION_1 t p n
+  unmarked m x = at_most_less m (λ l. rw (ahead_slice t p (n + 1) l) x)
 
 -- where no byte is one, nothing is there
 pub markless : {t : List ℕ} {p : ℕ} → Begins t p others → AtMost EDITION_1 t p 0 → Formless EDITION_1 t p

@@ -18,8 +18,9 @@ use Rattle.tokens.proofs.Agreeing.{but_self, but_next, but_back}
 use Rattle.tokens.proofs.Written.{reached_near}
 use Rattle.tokens.specs.Answer.{Laid, IsSplit}
 use Rattle.tokens.specs.Forks.{ButRows}
-use Rattle.tokens.specs.declared.answer.Split as split
-use Rattle.tokens.specs.declared.answer.Split.TheVariants.{Tokens, Stopped, TooLong}
+use Rattle.std.specs.Prelude.{Result, Ok, Err}
+use Rattle.tokens.specs.declared.answer.Unsplit.{Unsplit}
+use Rattle.tokens.specs.declared.answer.Unsplit.TheVariants.{Stopped, TooLong}
 
 -- ---- one answer
 
@@ -28,27 +29,27 @@ module _ {voc : Language.Vocabulary} (laws : Laws voc) (t w v v' : List ℕ) whe
   one_table e a b = but_next a (but_back (rw e b))
 
   -- the answer and the table are determined by the text and the table before
-  pub one_answer : (r r' : split.Split) → IsSplit voc t w v r → IsSplit voc t w v' r' → (r ≡ r') × ButRows v v'
-  one_answer (Tokens n) (Tokens m) a b =
+  pub one_answer : (r r' : Result ℕ Unsplit) → IsSplit voc t w v r → IsSplit voc t w v' r' → (r ≡ r') × ButRows v v'
+  one_answer (Ok n) (Ok m) a b =
       let e = one_split laws a.splits b.splits in
-      (ap Tokens (a.count ∙ ap length e ∙ sym b.count), one_table e a.laid b.laid)
-  one_answer (Tokens n) (Stopped f p) a b = absurd (not_both laws a.splits b.flawed)
-  one_answer (Tokens n) TooLong a b = absurd (omega (arith, a.short, b.long))
-  one_answer (Stopped f p) (Tokens n) a b = absurd (not_both laws b.splits a.flawed)
-  one_answer (Stopped f p) (Stopped g q) a b =
+      (ap Ok (a.count ∙ ap length e ∙ sym b.count), one_table e a.laid b.laid)
+  one_answer (Ok n) (Err (Stopped f p)) a b = absurd (not_both laws a.splits b.flawed)
+  one_answer (Ok n) (Err TooLong) a b = absurd (omega (arith, a.short, b.long))
+  one_answer (Err (Stopped f p)) (Ok n) a b = absurd (not_both laws b.splits a.flawed)
+  one_answer (Err (Stopped f p)) (Err (Stopped g q)) a b =
       let z = one_flaw laws a.flawed b.flawed in
       let x : Reaches voc t q a.flawed.tokens = subst (λ i. Reaches voc t i a.flawed.tokens) z.1 a.flawed.before in
-      (ap₂ (λ h i. Stopped h i) (same_flaw f g z.0) z.1, one_table (one_list laws x b.flawed.before) a.laid b.laid)
-  one_answer (Stopped f p) TooLong a b = absurd (omega (arith, a.short, b.long))
-  one_answer TooLong (Tokens n) a b = absurd (omega (arith, b.short, a.long))
-  one_answer TooLong (Stopped f p) a b = absurd (omega (arith, b.short, a.long))
-  one_answer TooLong TooLong a b = (refl, rw (a.kept, b.kept) (but_self w))
+      (ap₂ (λ h i. Err (Stopped h i)) (same_flaw f g z.0) z.1, one_table (one_list laws x b.flawed.before) a.laid b.laid)
+  one_answer (Err (Stopped f p)) (Err TooLong) a b = absurd (omega (arith, a.short, b.long))
+  one_answer (Err TooLong) (Ok n) a b = absurd (omega (arith, b.short, a.long))
+  one_answer (Err TooLong) (Err (Stopped f p)) a b = absurd (omega (arith, b.short, a.long))
+  one_answer (Err TooLong) (Err TooLong) a b = (refl, rw (a.kept, b.kept) (but_self w))
 
 -- ---- what the next layer gets
 
 -- the table of a text that splits stands for its tokens
 pub split_stands : {voc : Language.Vocabulary} → Laws voc → (t w v : List ℕ) (n : ℕ) (ts : List Language.Token)
-    → TABLE ≤ length w → IsSplit voc t w v (Tokens n) → Splits voc t ts → Stand v n ts
+    → TABLE ≤ length w → IsSplit voc t w v (Ok n) → Splits voc t ts → Stand v n ts
 split_stands laws t w v n ts room a s =
     let e : a.tokens ≡ ts = one_split laws a.splits s in
     let y : n ≡ length ts = a.count ∙ ap length e in

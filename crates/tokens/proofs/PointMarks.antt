@@ -26,10 +26,11 @@ use Rattle.language.specs.Tokens.Entry.{◌is◌}
 use Rattle.tokens.proofs.Compared.{stands_same}
 use Rattle.tokens.proofs.MarkBytes.{ahead, two_most, marked, unmarked, markless}
 use Rattle.tokens.specs.Editions.{meant}
-use Rattle.tokens.specs.Found.{Formless, IsMark, mark_kind}
+use Rattle.tokens.specs.Found.{Formless, IsMark}
 use Rattle.tokens.specs.declared.edition.Edition.{Edition}
 use Rattle.tokens.specs.declared.edition.Edition.TheVariants.{One, Two}
 use Rattle.tokens.specs.declared.marks.Mark.{Mark}
+use Rattle.std.specs.Prelude.{Option, Some, None}
 
 -- no mark has more than three bytes
 three_most : (t : List ℕ) (p : ℕ) → AtMost EDITION_2 t p 3
@@ -92,12 +93,12 @@ module _ (t : List ℕ) (p : ℕ) (h : p < length t) (b : Begins t p others) whe
         }
 
     -- the marks of edition 1 are those of edition 2
-    pub as_before : (r : Mark) → IsMark EDITION_1 t p r → IsMark EDITION_2 t p r
-    as_before (Mark.Is k n) x = mark_kept x
-    as_before Mark.None x = none_up t x (λ z. stands_no t p (spell "..") clear (z.0, (z.1, tt)))
+    pub as_before : (r : Option Mark) → IsMark EDITION_1 t p r → IsMark EDITION_2 t p r
+    as_before (Some m) x = mark_kept x
+    as_before None x = none_up t x (λ z. stands_no t p (spell "..") clear (z.0, (z.1, tt)))
 
   -- where no point stands they are those of every edition
-  pub in_either : (byte t p ≡ 46 → ⊥) → (e : Edition) (r : Mark) → IsMark EDITION_1 t p r → IsMark (meant e) t p r
+  pub in_either : (byte t p ≡ 46 → ⊥) → (e : Edition) (r : Option Mark) → IsMark EDITION_1 t p r → IsMark (meant e) t p r
   in_either n One r x = x
   in_either n Two r x = as_before (no_stands t p (spell "..") (λ s. n s.0)) r x
 
@@ -111,17 +112,17 @@ slash_plain t p e m n = (record { blank = rw e; letter = rw e; digit = rw e }, �
 module _ {t : List ℕ} {p : ℕ} (h : p < length t) (b : Begins t p others) where
   -- no mark of edition 1 begins with a point
   pub point_alone : byte t p ≡ 46 → Formless EDITION_1 t p
-  unfolding mark_kind spelled same
+  unfolding spelled same
   point_alone e =
-      let two : PAST ≡ mark_kind (ahead t p 2) = rw e in
-      let one : PAST ≡ mark_kind (ahead t p 1) = rw e in
-      markless b (unmarked h b 0 (unmarked h b 1 (two_most t p) two refl) one refl)
+      let two : spelled marks (ahead t p 2) ≡ none = rw e in
+      let one : spelled marks (ahead t p 1) ≡ none = rw e in
+      markless b (unmarked h b 0 (unmarked h b 1 (two_most t p) two) one)
 
   -- and only one with a slash
   pub slash_mark : byte t p ≡ 47 → (e : Edition) → Piece (meant e) t p (p + 1) (token SLASH 0)
-  unfolding mark_kind spelled same
+  unfolding spelled same
   slash_mark e =
-      let two : PAST ≡ mark_kind (ahead t p 2) = rw e in
-      let one : SLASH ≡ mark_kind (ahead t p 1) = rw e in
-      let piece = marked h b 1 (unmarked h b 1 (two_most t p) two refl) one (λ z. omega (arith, z)) in
-      λ ed. in_either t p h b (λ z. omega (arith, e, z)) ed (Mark.Is SLASH 1) piece
+      let two : spelled marks (ahead t p 2) ≡ none = rw e in
+      let one : spelled marks (ahead t p 1) ≡ some SLASH = rw e in
+      let piece = marked h b 1 (unmarked h b 1 (two_most t p) two) one in
+      λ ed. in_either t p h b (λ z. omega (arith, e, z)) ed (Some (record { kind = SLASH; size = 1 })) piece

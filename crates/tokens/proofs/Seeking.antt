@@ -12,13 +12,13 @@ use Rattle.language.specs.Tokens.{Spelling, same}
 use Rattle.layout.specs.Table.{token_place, token_end}
 use Rattle.tokens.proofs.Compared.{unlike, first_found, first_none, first_of_all}
 use Rattle.tokens.proofs.Planting.{ends_finds, ends_inside, planted_first, planted_same, planted_fork}
-use Rattle.tokens.specs.declared.forks.Parting.TheVariants.{At}
+use Rattle.std.specs.Prelude.{Some}
 use Rattle.tokens.specs.Forks.{letter_at, IsParting, Forkable, Forked, Hangable, Hung, Shape, Ends, Seekable, Planted}
 use Rattle.tokens.specs.Found.{bytes_of, First, Searchable}
 
 -- ---- a fork or none
 
-module _ {t w : List ℕ} {at n a b p q i : ℕ} (k : Hangable t w at n a b p q) (x : IsParting (slice a b t) (slice p q t) (At i)) where
+module _ {t w : List ℕ} {at n a b p q i : ℕ} (k : Hangable t w at n a b p q) (x : IsParting (slice a b t) (slice p q t) (Some i)) where
   pub forkable : {old new : ℕ} → old ≡ letter_at (slice a b t) i → old ≤ 256 → new ≡ letter_at (slice p q t) i → new ≤ 256
       → Forkable w at n i old new
   forkable e h f l = record {
@@ -36,7 +36,7 @@ module _ {w : List ℕ} {at n : ℕ} {x s : Spelling} where
   pub hung_same : same x s ≡ true → Hung w w at n x s true
   hung_same e = record { told = sym e; kept = λ z. refl; place = 0; forked = λ z. absurd (clash refl z) }
 
-  pub hung_fork : {v : List ℕ} {i old new : ℕ} → IsParting x s (At i) → old ≡ letter_at x i → new ≡ letter_at s i
+  pub hung_fork : {v : List ℕ} {i old new : ℕ} → IsParting x s (Some i) → old ≡ letter_at x i → new ≡ letter_at s i
       → Forked w v at n i old new → Hung w v at n x s false
   hung_fork {v} {i} y e f z = record {
     told = sym (unlike x s (λ d. y.1 (ap (λ (u : Spelling). letter_at u i) d)));

@@ -8,7 +8,7 @@ use mathlib.Core.List.{List, [], ◌∷◌}
 use mathlib.Core.Logic.{⊎_elim}
 use mathlib.Core.Path.{◌≡◌, refl, sym, ap, ap₂, ◌∙◌}
 use native.Mathlib.Omega.{arith}
-use Prim.Native.Nat.{ℕ, zero, suc, ◌+◌, ◌-◌, ◌*◌, ◌/◌, ◌≤◌, ◌<◌}
+use Prim.Native.Nat.{min, ℕ, zero, suc, ◌+◌, ◌-◌, ◌*◌, ◌/◌, ◌≤◌, ◌<◌}
 use Rattle.language.proofs.Pairs.Joined.{joined_length}
 use Rattle.language.proofs.Text.Choices.{either}
 use Rattle.language.specs.Pairs.{joined}
@@ -37,13 +37,18 @@ byte_told (d ∷ e ∷ l) (suc i) h =
     byte_told l i (omega arith) ∙ ap₂ (λ (m n : ℕ). two (byte (d ∷ e ∷ l) m) (byte (d ∷ e ∷ l) n)) x y
 
 -- the digits between two places that lie in the sheet, and those up to its end
-pub line_inside : (t : List ℕ) (from to : ℕ) → to ≤ length t → length (told (slice from to t)) ≡ (to - from) / 2
+line_inside : (t : List ℕ) (from to : ℕ) → to ≤ length t → length (told (slice from to t)) ≡ (to - from) / 2
 line_inside t from to h = told_long (slice from to t) ∙ ap (λ (n : ℕ). n / 2) (length-slice from to t h)
 
-pub line_past : (t : List ℕ) (from to : ℕ) → length t < to → length (told (slice from to t)) ≡ (length t - from) / 2
+line_past : (t : List ℕ) (from to : ℕ) → length t < to → length (told (slice from to t)) ≡ (length t - from) / 2
 line_past t from to h =
     ap (λ (l : List ℕ). length (told (drop from l))) (take_all to t (omega arith) ∙ sym (take_all (length t) t (omega arith)))
     ∙ line_inside t from (length t) (omega arith)
+
+pub line_length : (t : List ℕ) (from to : ℕ) → length (told (slice from to t)) ≡ (min to (length t) - from) / 2
+line_length t from to =
+    ⊎_elim (λ (h : length t < to). line_past t from to h ∙ ap (λ (n : ℕ). (n - from) / 2) (omega arith))
+    (λ (h : to ≤ length t). line_inside t from to h ∙ ap (λ (n : ℕ). (n - from) / 2) (omega arith)) (either (length t) to)
 
 -- a part is no longer than what lies between its places, nor than what is left of the sheet
 slice_long : (t : List ℕ) (from to : ℕ) → (length (slice from to t) ≤ to - from) × (length (slice from to t) ≤ length t - from)

@@ -1,5 +1,5 @@
 -- What the answer of `split` says, and what it leaves in the table.
-use Rattle.std.specs.Prelude.{length, List, ◌≡◌, ℕ, ◌≤◌, ◌<◌}
+use Rattle.std.specs.Prelude.{Result, Ok, Err, length, List, ◌≡◌, ℕ, ◌≤◌, ◌<◌}
 use Rattle.language.specs.Sizes.{SOURCE}
 use Rattle.language.specs.Text as Text
 use Rattle.language.specs.Text.{Splits, Flawed}
@@ -7,8 +7,8 @@ use Rattle.language.specs.Tokens as Tokens
 use Rattle.numbers.specs.Meanings.{flaw_meant}
 use Rattle.layout.specs.Names.{lay_tokens}
 use Rattle.tokens.specs.Forks.{ButRows}
-use Rattle.tokens.specs.declared.answer.Split as split
-use Rattle.tokens.specs.declared.answer.Split.TheVariants.{Tokens, Stopped, TooLong}
+use Rattle.tokens.specs.declared.answer.Unsplit.{Unsplit}
+use Rattle.tokens.specs.declared.answer.Unsplit.TheVariants.{Stopped, TooLong}
 
 -- the table w with the tokens ts is v, but for the words of rows and functions
 abbrev pub Laid : List Tokens.Token → List ℕ → List ℕ → Type 0
@@ -34,7 +34,7 @@ pub record Long (t w v : List ℕ) : Type 0 where
   pub kept : v ≡ w
 
 -- what the answer says by a vocabulary of the text t, the table w before and the table v after
-abbrev pub IsSplit : Tokens.Vocabulary → List ℕ → List ℕ → List ℕ → split.Split → Type 0
-IsSplit voc t w v (Tokens n) = Whole voc t w v n
-IsSplit voc t w v (Stopped f p) = Broken voc t w v (flaw_meant f) p
-IsSplit voc t w v TooLong = Long t w v
+abbrev pub IsSplit : Tokens.Vocabulary → List ℕ → List ℕ → List ℕ → Result ℕ Unsplit → Type 0
+IsSplit voc t w v (Ok n) = Whole voc t w v n
+IsSplit voc t w v (Err (Stopped f p)) = Broken voc t w v (flaw_meant f) p
+IsSplit voc t w v (Err TooLong) = Long t w v

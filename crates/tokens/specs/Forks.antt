@@ -1,12 +1,10 @@
 -- How a name is found among the tokens before it. While tokens are written, the words behind theirs hold forks. A fork
 -- asks for one bit of one letter of a spelling, and has two links; a link leads to a fork or is a token's ordinal. A
 -- spelling takes one way, which ends at the one token that can be spelled so.
-use Rattle.std.specs.Prelude.{ltb, length, get_or, set, Bool, true, false, cond, List, ◌≡◌, ℕ, ◌+◌, ◌*◌, ◌-◌, ◌/◌, ◌%◌, ◌≤◌, ◌<◌}
+use Rattle.std.specs.Prelude.{Option, Some, None, ltb, length, get_or, set, Bool, true, false, cond, List, ◌≡◌, ℕ, ◌+◌, ◌*◌, ◌-◌, ◌/◌, ◌%◌, ◌≤◌, ◌<◌}
 use Rattle.language.specs.Sizes.{TOKENS, TABLE}
 use Rattle.language.specs.Tokens.{Spelling, same, NAME}
 use Rattle.layout.specs.Table.{ROWS_AT, VARIABLES_AT}
-use Rattle.tokens.specs.declared.forks.Parting as parting
-use Rattle.tokens.specs.declared.forks.Parting.TheVariants.{Same, At}
 
 -- ---- what is used for it
 
@@ -119,9 +117,9 @@ pub record Seekable (t w : List ℕ) (n p q : ℕ) : Type 0 where
 -- ---- a fork more
 
 -- the spellings are the same, or their letters at i are not
-abbrev pub IsParting : Spelling → Spelling → parting.Parting → Type 0
-IsParting x s Same = same x s ≡ true
-IsParting x s (At i) = (i ≤ length x) × (letter_at x i ≡ letter_at s i → ⊥)
+abbrev pub IsParting : Spelling → Spelling → Option ℕ → Type 0
+IsParting x s None = same x s ≡ true
+IsParting x s (Some i) = (i ≤ length x) × (letter_at x i ≡ letter_at s i → ⊥)
 
 -- a fork that asks so, with the link at word `at` for one turn, and token n for the other; that link then leads to it
 unfoldable pub put_fork : List ℕ → (at n place bit t : ℕ) → List ℕ

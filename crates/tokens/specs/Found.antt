@@ -1,8 +1,9 @@
 -- What the answers of this crate's functions say: each of what stands at the place p of the text t, or of the spellings
 -- of the tokens that a table w holds. Vocabulary for contracts between the functions; the language does not know it.
-use Rattle.std.specs.Prelude.{length, Bool, true, false, ◌&&◌, List, ◌≡◌, eqb, ℕ, ◌+◌, ◌-◌, ◌≤◌, ◌<◌}
+use Rattle.std.specs.Prelude.{Option, Some, None, Result, Ok, Err, length, Bool, true, false, ◌&&◌, List, ◌≡◌, eqb, ℕ, ◌+◌, ◌-◌, ◌≤◌, ◌<◌}
 use Rattle.std.proofs.Math.Seq.{slice}
-use Rattle.std.proofs.Math.Option.{Option, none, some}
+use Rattle.std.proofs.Math.Option as Written
+use Rattle.std.proofs.Math.Option.{none, some}
 use Prim.Native.Char.{code}
 use Rattle.language.proofs.Text.Runs.{Run}
 use Rattle.language.specs.Sizes.{TOKENS, TABLE, LARGEST, DIGITS}
@@ -10,32 +11,18 @@ use Rattle.language.specs.Text as Text
 use Rattle.language.specs.Text.{byte, is_digit, is_digit_of, is_name_byte, is_in_line, Comment, Content, Form}
 use Rattle.language.specs.Text.Content.{space, token}
 use Rattle.language.specs.Tokens as Tokens
-use Rattle.language.specs.Tokens.{Vocabulary, EDITION_1, Spelling, same, spelled, PAST, NAME, FLOAT_NUMBER}
+use Rattle.language.specs.Tokens.{Vocabulary, Spelling, same, NAME, FLOAT_NUMBER}
 use Rattle.language.specs.Trees.{PUTCHAR}
 use Rattle.layout.specs.Names.{float_bits}
 use Rattle.layout.specs.Table.{token_place, token_end}
 use Rattle.numbers.specs.Meanings.{flaw_meant}
+use Rattle.numbers.specs.declared.Flaw.{Flaw}
 use Rattle.tokens.specs.Forks.{Sought}
-use Rattle.tokens.specs.Shown.{is_capital}
-use Rattle.tokens.specs.declared.bytes.Class as class
-use Rattle.tokens.specs.declared.bytes.Class.TheVariants.{NameByte, DigitOf, Capital, InLine}
-use Rattle.tokens.specs.declared.comments.Close as close
-use Rattle.tokens.specs.declared.comments.Close.TheVariants.{At, Never}
 use Rattle.tokens.specs.declared.comments.Pair as pair
 use Rattle.tokens.specs.declared.comments.Pair.TheVariants.{Opens, Closes, Neither}
-use Rattle.tokens.specs.declared.marks.Mark as mark
-use Rattle.tokens.specs.declared.marks.Mark.TheVariants.{None}
+use Rattle.tokens.specs.declared.marks.Mark.{Mark}
 use Rattle.tokens.specs.declared.pieces.Piece as piece
-use Rattle.tokens.specs.declared.pieces.Piece.TheVariants.{Space, Token, Wrong}
-
--- ---- classes of bytes
-
--- the written class that the code's class is
-abbrev pub is_of : class.Class → ℕ → Bool
-is_of NameByte = is_name_byte
-is_of (DigitOf base) = is_digit_of base
-is_of Capital = is_capital
-is_of InLine = is_in_line
+use Rattle.tokens.specs.declared.pieces.Piece.TheVariants.{Space, Token}
 
 -- ---- what stands at a place
 
@@ -75,20 +62,17 @@ IsPair t p Opens = Text.Opens t p
 IsPair t p Closes = Text.Closes t p
 IsPair t p Neither = (Text.Opens t p → ⊥) × (Text.Closes t p → ⊥)
 
-abbrev pub IsClose : List ℕ → ℕ → close.Close → Type 0
-IsClose t p (At q) = Comment t p q
-IsClose t p Never = (q : ℕ) → Comment t p q → ⊥
+abbrev pub IsClose : List ℕ → ℕ → Option ℕ → Type 0
+IsClose t p (Some q) = Comment t p q
+IsClose t p None = (q : ℕ) → Comment t p q → ⊥
 
--- the kind of the mark of every edition that is spelled so; that of no token, where there is none
-abbrev pub or_past : Option ℕ → ℕ
-or_past none = PAST
-or_past (some k) = k
+-- the code's option is the language's
+abbrev pub Gives : Written.Option ℕ → Option ℕ → Type 0
+Gives o None = o ≡ none
+Gives o (Some n) = o ≡ some n
 
-unfoldable pub mark_kind : Spelling → ℕ
-mark_kind s = or_past (spelled EDITION_1.marks s)
-
-abbrev pub IsMark : Vocabulary → List ℕ → ℕ → mark.Mark → Type 0
-IsMark voc t p (mark.TheVariants.Is k n) = Text.Piece voc t p (p + n) (token k 0)
+abbrev pub IsMark : Vocabulary → List ℕ → ℕ → Option Mark → Type 0
+IsMark voc t p (Some m) = Text.Piece voc t p (p + m.size) (token m.kind 0)
 IsMark voc t p None = Formless voc t p
 
 -- a token of this kind from p up to q, and what it is worth: of a float number the bits, of any other its value
@@ -99,10 +83,10 @@ pub record IsToken (voc : Vocabulary) (t : List ℕ) (p kind q worth : ℕ) : Ty
   pub float : kind ≡ FLOAT_NUMBER → worth ≡ float_bits (slice p q t)
   pub other : (kind ≡ FLOAT_NUMBER → ⊥) → worth ≡ value
 
-abbrev pub IsPiece : Vocabulary → List ℕ → ℕ → piece.Piece → Type 0
-IsPiece voc t p (Space q) = Text.Piece voc t p q space
-IsPiece voc t p (Token k q x) = IsToken voc t p k q x
-IsPiece voc t p (Wrong f) = (ts : List Tokens.Token) → Text.Wrong voc t p ts (flaw_meant f)
+abbrev pub IsPiece : Vocabulary → List ℕ → ℕ → Result piece.Piece Flaw → Type 0
+IsPiece voc t p (Ok (Space q)) = Text.Piece voc t p q space
+IsPiece voc t p (Ok (Token k q x)) = IsToken voc t p k q x
+IsPiece voc t p (Err f) = (ts : List Tokens.Token) → Text.Wrong voc t p ts (flaw_meant f)
 
 -- ---- spellings by a table
 

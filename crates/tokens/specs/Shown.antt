@@ -1,5 +1,5 @@
 -- The bytes that a view shows of two sheets, and those that hexadecimal digits tell.
-use Rattle.std.specs.Prelude.{ltb, Bool, List, [], ◌∷◌, ℕ, ◌+◌, ◌*◌, ◌%◌}
+use Rattle.std.specs.Prelude.{Option, Some, None, ◌≡◌, ◌<◌, ltb, Bool, List, [], ◌∷◌, ℕ, ◌+◌, ◌*◌, ◌%◌}
 use Rattle.std.proofs.Math.Seq.{slice}
 use Rattle.language.proofs.Stored.Hex.{digit_worth}
 use Rattle.language.specs.Pairs.{joined}
@@ -8,6 +8,11 @@ use Rattle.tokens.specs.declared.view.View as view
 use Rattle.tokens.specs.declared.view.View.TheVariants.{Plain, Joined, Line}
 
 -- ---- digits (R09.2)
+
+-- what a digit is worth; no other byte is one
+abbrev pub IsDigit : ℕ → Option ℕ → Type 0
+IsDigit b None = digit_worth b ≡ 16
+IsDigit b (Some d) = (digit_worth b ≡ d) × (d < 16)
 
 unfoldable pub is_capital : ℕ → Bool
 is_capital b = ltb (digit_worth b) 16

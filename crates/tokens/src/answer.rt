@@ -1,11 +1,9 @@
-// What comes of splitting a text.
+// Why a text is not split into tokens.
 
 use numbers::Flaw;
 
 #[derive(Clone, Copy)]
-pub enum Split {
-    // The whole text is split into so many tokens.
-    Tokens(usize),
+pub enum Unsplit {
     // A flaw, and the place where it stands.
     Stopped(Flaw, usize),
     // The text is longer than SOURCE, and nothing of it was looked at.

@@ -1,232 +1,170 @@
 // Bytes of a text: the classes that tell what may begin at a place, and where a run of bytes of one class
 // ends.
-ghost use Rattle.std.specs.Prelude.{true, ◌≡◌, ◌+◌, ◌≤◌, length};
+ghost use Rattle.std.specs.Prelude.{true, Bool, ℕ, ◌≡◌, ◌+◌, ◌≤◌, length};
 ghost use Rattle.std.proofs.Math.Seq.{slice};
-ghost use Rattle.language.specs.Text.{worth};
-ghost use Rattle.language.specs.Text.{is_blank, is_letter, is_digit, is_hex_digit, is_digit_of};
+ghost use Rattle.language.specs.Text.{worth, is_blank, is_letter, is_digit, is_hex_digit, is_digit_of};
 ghost use Rattle.language.specs.Text.{is_name_byte, is_in_line};
 ghost use Rattle.language.proofs.Text.Runs.{Run};
 ghost use Rattle.language.proofs.Text.Spellings.{stands};
 ghost use Rattle.language.specs.Tokens.{same};
-ghost use Rattle.tokens.specs.Found.{is_of};
-ghost use Rattle.tokens.specs.Shown.{text_of};
+ghost use Rattle.tokens.specs.Shown.{is_capital, text_of};
 
 use crate::hexadecimal::is_capital;
 use crate::view::Text;
 
+#[tactic(auto, unfolding(language::specs::Text::is_letter, language::specs::Text::between))]
 pub fn is_letter(b: u8) -> bool
     ensures { result ≡ is_letter b }
 {
-    if b < b'A' {
-        return false;
-    }
-    if b <= b'Z' {
-        return true;
-    }
-    if b < b'a' {
-        return false;
-    }
-    b <= b'z'
+    b.is_ascii_alphabetic()
 }
 
+#[tactic(auto, unfolding(language::specs::Text::is_digit, language::specs::Text::between))]
 pub fn is_digit(b: u8) -> bool
     ensures { result ≡ is_digit b }
 {
-    if b < b'0' {
-        return false;
-    }
-    b <= b'9'
+    b.is_ascii_digit()
 }
 
+#[tactic(auto, unfolding(language::specs::Text::is_hex_digit, language::specs::Text::is_digit, language::specs::Text::between))]
 pub fn is_hex_digit(b: u8) -> bool
     ensures { result ≡ is_hex_digit b }
 {
-    if is_digit(b) {
-        return true;
-    }
-    if b < b'A' {
-        return false;
-    }
-    if b <= b'F' {
-        return true;
-    }
-    if b < b'a' {
-        return false;
-    }
-    b <= b'f'
+    b.is_ascii_hexdigit()
 }
 
 // What such a digit is worth.
+#[tactic(auto, using(language::proofs::Text::Classes::hex_low, language::proofs::Text::Classes::hex_large, language::proofs::Text::Classes::hex_small, language::proofs::Text::Classes::worth_digit, language::proofs::Text::Classes::worth_large, language::proofs::Text::Classes::worth_small))]
 pub fn worth(b: u8) -> u64
     requires { is_hex_digit b ≡ true }
     ensures { result ≡ worth b }
 {
-    if b <= b'9' {
-        return (b - b'0') as u64;
+    match b {
+        ..=b'9' => u64::from(b - b'0'),
+        ..=b'F' => u64::from(b - b'A' + 10),
+        _ => u64::from(b - b'a' + 10),
     }
-    if b <= b'F' {
-        return (b - b'A' + 10) as u64;
-    }
-    (b - b'a' + 10) as u64
 }
 
+#[tactic(auto, unfolding(language::specs::Text::is_digit_of))]
 pub fn is_digit_of(base: u64, b: u8) -> bool
     ensures { result ≡ is_digit_of base b }
 {
-    if !is_hex_digit(b) {
-        return false;
-    }
-    worth(b) < base
+    is_hex_digit(b) && worth(b) < base
 }
 
-// Most are small letters, so these are told first.
+#[tactic(auto, unfolding(language::specs::Text::is_name_byte, language::specs::Text::is_letter, language::specs::Text::is_digit, language::specs::Text::between))]
 pub fn is_name_byte(b: u8) -> bool
     ensures { result ≡ is_name_byte b }
 {
-    if b'a' <= b {
-        return b <= b'z';
-    }
-    if b <= b'9' {
-        return b'0' <= b;
-    }
-    if b < b'A' {
-        return false;
-    }
-    if b <= b'Z' {
-        return true;
-    }
-    b == b'_'
+    b.is_ascii_alphanumeric() || b == b'_'
 }
 
+#[tactic(auto, unfolding(language::specs::Text::is_in_line))]
 pub fn is_in_line(b: u8) -> bool
     ensures { result ≡ is_in_line b }
 {
     b != b'\n'
 }
 
+#[tactic(auto, unfolding(language::specs::Text::is_blank))]
 pub fn is_blank(b: u8) -> bool
     ensures { result ≡ is_blank b }
 {
-    if b == b' ' {
-        return true;
-    }
-    if b == b'\t' {
-        return true;
-    }
-    if b == b'\r' {
-        return true;
-    }
-    b == b'\n'
+    matches!(b, b' ' | b'\t' | b'\r' | b'\n')
 }
 
-// What the bytes of a run have in common.
+// What the bytes of a run have in common. Runs are most of a text, so each class gets a loop of its own, by its type.
+pub trait Class {
+    ghost has: { Self → ℕ → Bool };
+
+    fn has(&self, b: u8) -> bool
+        ensures { result ≡ has self.now b };
+}
+
 #[derive(Clone, Copy)]
-pub enum Class {
-    NameByte,
-    // A digit of this base.
-    DigitOf(u64),
-    // A digit as stored sheets have it.
-    Capital,
-    // Not the LF that ends a line.
-    InLine,
-}
+pub struct NameByte;
 
-pub fn is_of(class: Class, b: u8) -> bool
-    ensures { result ≡ is_of class b }
-{
-    match class {
-        Class::NameByte => is_name_byte(b),
-        Class::DigitOf(base) => is_digit_of(base, b),
-        Class::Capital => is_capital(b),
-        Class::InLine => is_in_line(b),
+impl Class for NameByte {
+    ghost has = { λ _. is_name_byte };
+
+    fn has(&self, b: u8) -> bool {
+        is_name_byte(b)
     }
 }
 
-// Where the run of bytes of a class from a place on ends.
-pub fn run_end(text: &Text, at: usize, class: Class) -> usize
-    requires { at ≤ length (text_of text.now) }
-    ensures { Run (is_of class) (text_of text.now) at result }
-{
-    let size = text.len();
-    let mut i = at;
-    while i < size {
-        if !is_of(class, text.byte(i)) {
-            return i;
-        }
-        i += 1;
+// A digit of base 10.
+#[derive(Clone, Copy)]
+pub struct Digit;
+
+impl Class for Digit {
+    ghost has = { λ _. is_digit };
+
+    fn has(&self, b: u8) -> bool {
+        is_digit(b)
     }
-    i
 }
 
-// Where the name that goes on at a place ends. Names, digits and lines are most of a text, so each has a loop of its
-// own, which need not ask for its class at each byte.
-pub fn name_end(text: &Text, at: usize) -> usize
-    requires { at ≤ length (text_of text.now) }
-    ensures { Run is_name_byte (text_of text.now) at result }
-{
-    let size = text.len();
-    let mut i = at;
-    while i < size {
-        if !is_name_byte(text.byte(i)) {
-            return i;
-        }
-        i += 1;
+// A digit of this base.
+#[derive(Clone, Copy)]
+pub struct DigitOf(pub u64);
+
+impl Class for DigitOf {
+    ghost has = { λ d. is_digit_of d.0 };
+
+    fn has(&self, b: u8) -> bool {
+        is_digit_of(self.0, b)
     }
-    i
 }
 
-// Where the digits of a base that go on at a place end.
-pub fn digits_end(text: &Text, at: usize, base: u64) -> usize
-    requires { at ≤ length (text_of text.now) }
-    ensures { Run (is_digit_of base) (text_of text.now) at result }
-{
-    run_end(text, at, Class::DigitOf(base))
+// A digit as stored sheets have it.
+#[derive(Clone, Copy)]
+pub struct Capital;
+
+impl Class for Capital {
+    ghost has = { λ _. is_capital };
+
+    fn has(&self, b: u8) -> bool {
+        is_capital(b)
+    }
 }
 
-// The same of those of base 10.
-pub fn decimal_end(text: &Text, at: usize) -> usize
-    requires { at ≤ length (text_of text.now) }
-    ensures { Run is_digit (text_of text.now) at result }
-{
-    let size = text.len();
-    let mut i = at;
-    while i < size {
-        if !is_digit(text.byte(i)) {
-            return i;
-        }
-        i += 1;
-    }
-    i
-}
+// Not the LF that ends a line.
+#[derive(Clone, Copy)]
+pub struct InLine;
 
-// Where the line that goes on at a place ends: at its LF, which is not among its bytes, or with the text.
-pub fn line_end(text: &Text, at: usize) -> usize
-    requires { at ≤ length (text_of text.now) }
-    ensures { Run is_in_line (text_of text.now) at result }
-{
-    let size = text.len();
-    let mut i = at;
-    while i < size {
-        if !is_in_line(text.byte(i)) {
-            return i;
-        }
-        i += 1;
+impl Class for InLine {
+    ghost has = { λ _. is_in_line };
+
+    fn has(&self, b: u8) -> bool {
+        is_in_line(b)
     }
-    i
 }
 
 impl<'a> Text<'a> {
+    // Where the run of bytes of a class from a place on ends: with the text, or at a byte that is not among them.
+    pub fn run_end<C: Class>(&self, at: usize, class: &C) -> usize
+        requires { at ≤ length (text_of self.now) }
+        ensures { Run (C.has class.now) (text_of self.now) at result }
+    {
+        let size = self.len();
+        for i in at..size {
+            if !class.has(self.byte(i)) {
+                return i;
+            }
+        }
+        size
+    }
+
     // Do these bytes stand at a place?
     pub fn stands_at(&self, at: usize, bytes: &[u8]) -> bool
         requires { at ≤ length (text_of self.now) }
         ensures { result ≡ stands (text_of self.now) at bytes.now }
     {
-        let mut i = 0;
-        while i < bytes.len() {
+        for i in 0..bytes.len() {
             if self.ahead(at, i) != bytes[i] {
                 return false;
             }
-            i += 1;
         }
         true
     }
@@ -236,12 +174,10 @@ impl<'a> Text<'a> {
         requires { at + length bytes.now ≤ length (text_of self.now) }
         ensures { result ≡ stands (text_of self.now) at bytes.now }
     {
-        let mut i = 0;
-        while i < bytes.len() {
+        for i in 0..bytes.len() {
             if self.byte(at + i) != bytes[i] {
                 return false;
             }
-            i += 1;
         }
         true
     }
@@ -251,9 +187,6 @@ impl<'a> Text<'a> {
         requires { (p ≤ q) × (q ≤ length (text_of self.now)) }
         ensures { result ≡ same bytes.now (slice p q (text_of self.now)) }
     {
-        if bytes.len() != q - p {
-            return false;
-        }
-        self.stands_at(p, bytes)
+        bytes.len() == q - p && self.stands_at(p, bytes)
     }
 }

@@ -18,31 +18,16 @@ pub fn pair_at(text: &Text, at: usize) -> Pair
     requires { at < length (text_of text.now) }
     ensures { IsPair (text_of text.now) at result }
 {
-    let here = text.byte(at);
-    if here == b'/' {
-        if text.byte(at + 1) == b'*' {
-            return Pair::Opens;
-        }
-        return Pair::Neither;
+    match text.byte(at) {
+        b'/' if text.byte(at + 1) == b'*' => Pair::Opens,
+        b'*' if text.byte(at + 1) == b'/' => Pair::Closes,
+        _ => Pair::Neither,
     }
-    if here != b'*' {
-        return Pair::Neither;
-    }
-    if text.byte(at + 1) == b'/' {
-        return Pair::Closes;
-    }
-    Pair::Neither
 }
 
-#[derive(Clone, Copy)]
-pub enum Close {
-    At(usize),
-    Never,
-}
-
-// Where the comment that opens at a place ends. Each mark takes its two bytes, so the inside begins
+// Where the comment that opens at a place ends, if it does. Each mark takes its two bytes, so the inside begins
 // behind both bytes of `/*`, and `/*/` is not closed.
-pub fn comment_end(text: &Text, at: usize) -> Close
+pub fn comment_end(text: &Text, at: usize) -> Option<usize>
     requires { Opens (text_of text.now) at }
     ensures { IsClose (text_of text.now) at result }
 {
@@ -51,7 +36,7 @@ pub fn comment_end(text: &Text, at: usize) -> Close
     let mut i = at + 2;
     while 0 < depth {
         if size <= i {
-            return Close::Never;
+            return None;
         }
         match pair_at(text, i) {
             Pair::Opens => {
@@ -67,5 +52,5 @@ pub fn comment_end(text: &Text, at: usize) -> Close
             }
         }
     }
-    Close::At(i)
+    Some(i)
 }

@@ -8,19 +8,13 @@ pub enum Edition {
     Two,
 }
 
-#[derive(Clone, Copy)]
-pub enum Known {
-    Is(Edition),
-    None,
-}
-
-// The edition that a caller's number names.
-pub fn named(n: u32) -> Known
+// The edition that a caller's number names, if it names one.
+pub fn named(n: u32) -> Option<Edition>
     ensures { Names n result }
 {
     match n {
-        1 => Known::Is(Edition::One),
-        2 => Known::Is(Edition::Two),
-        _ => Known::None,
+        1 => Some(Edition::One),
+        2 => Some(Edition::Two),
+        _ => None,
     }
 }

@@ -15,27 +15,12 @@ fn all_digits(text: &Text, at: usize, point: usize, end: usize) -> u64
     ensures { (result ≡ digits_from 0 (slice at end (text_of text.now))) × (result ≤ 10 ^ DIGITS) }
 {
     let mut value: u64 = 0;
-    let mut i = at;
-    while i < end {
+    for i in at..end {
         if i != point {
-            value = value * 10 + (text.byte(i) - b'0') as u64;
+            value = value * 10 + u64::from(text.byte(i) - b'0');
         }
-        i += 1;
     }
     value
-}
-
-fn power_of_ten(n: usize) -> u64
-    requires { n ≤ DIGITS }
-    ensures { result ≡ 10 ^ n }
-{
-    let mut power: u64 = 1;
-    let mut i = 0;
-    while i < n {
-        power = power * 10;
-        i += 1;
-    }
-    power
 }
 
 // The bits of the float number from one place up to another, with its point between them. Both whole
@@ -45,6 +30,6 @@ pub fn bits(text: &Text, at: usize, point: usize, end: usize) -> u64
     ensures { result ≡ float_bits (slice at end (text_of text.now)) }
 {
     let all = all_digits(text, at, point, end);
-    let power = power_of_ten(end - (point + 1));
+    let power = 10u64.pow((end - (point + 1)) as u32);
     layout::floats::bits((all as f64) / (power as f64))
 }

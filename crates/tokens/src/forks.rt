@@ -52,7 +52,7 @@ fn letter(text: &Text, p: usize, q: usize, i: usize) -> u32
     if q - p <= i {
         return 0;
     }
-    text.byte(p + i) as u32 + 1
+    u32::from(text.byte(p + i)) + 1
 }
 
 // The word with the link of a fork that the bytes from p up to q take.
@@ -81,35 +81,22 @@ pub fn way_end(text: &Text, table: &[u32], count: usize, p: usize, q: usize) -> 
     at
 }
 
-#[derive(Clone, Copy)]
-pub enum Parting {
-    // The spellings are the same.
-    Same,
-    // They have different letters here.
-    At(usize),
-}
-
-// A letter that tells the bytes from a up to b from those from p up to q.
-fn compare(text: &Text, a: usize, b: usize, p: usize, q: usize) -> Parting
+// A letter that tells the bytes from a up to b from those from p up to q; none, where the spellings are the same.
+fn compare(text: &Text, a: usize, b: usize, p: usize, q: usize) -> Option<usize>
     requires { (a ≤ b) × (b ≤ length (text_of text.now))
         × (p ≤ q) × (q ≤ length (text_of text.now)) }
     ensures { IsParting (slice a b (text_of text.now))
         (slice p q (text_of text.now)) result }
 {
-    if b - a < q - p {
-        return Parting::At(b - a);
+    if b - a != q - p {
+        return Some((b - a).min(q - p));
     }
-    if q - p < b - a {
-        return Parting::At(q - p);
-    }
-    let mut i = 0;
-    while i < b - a {
+    for i in 0..b - a {
         if text.byte(a + i) != text.byte(p + i) {
-            return Parting::At(i);
+            return Some(i);
         }
-        i += 1;
     }
-    Parting::Same
+    None
 }
 
 // The least bit by which two letters differ.
@@ -117,31 +104,11 @@ fn bit_between(old: u32, new: u32) -> u32
     requires { (old ≤ 256) × (new ≤ 256) × (old ≡ new → ⊥) }
     ensures { Apart old new result }
 {
-    if old % 2 != new % 2 {
-        return 1;
+    let mut bit = 1;
+    while old / bit % 2 == new / bit % 2 {
+        bit *= 2;
     }
-    if old % 4 != new % 4 {
-        return 2;
-    }
-    if old % 8 != new % 8 {
-        return 4;
-    }
-    if old % 16 != new % 16 {
-        return 8;
-    }
-    if old % 32 != new % 32 {
-        return 16;
-    }
-    if old % 64 != new % 64 {
-        return 32;
-    }
-    if old % 128 != new % 128 {
-        return 64;
-    }
-    if old % 256 != new % 256 {
-        return 128;
-    }
-    256
+    bit
 }
 
 // A fork more, in the place of the link at a word: it tells that link's token, whose letter here is old, from token
@@ -181,8 +148,8 @@ pub fn hang(
         (slice p q (text_of text.now)) result }
 {
     match compare(text, a, b, p, q) {
-        Parting::Same => true,
-        Parting::At(i) => {
+        None => true,
+        Some(i) => {
             let old = letter(text, a, b, i);
             let new = letter(text, p, q, i);
             fork(table, at, count, i, old, new);

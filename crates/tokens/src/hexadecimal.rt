@@ -1,40 +1,32 @@
 // Hexadecimal in capitals, as stored sheets have it: what a digit is worth, and the byte that two digits
 // tell.
 ghost use Rattle.std.specs.Prelude.{◌≡◌};
-ghost use Rattle.language.proofs.Stored.Hex.{digit_worth};
-ghost use Rattle.tokens.specs.Shown.{is_capital, two};
+ghost use Rattle.tokens.specs.Shown.{IsDigit, is_capital, two};
 
-// What a digit is worth, 16 where the byte is none.
-pub fn worth(b: u8) -> u8
-    ensures { result ≡ digit_worth b }
+// What a digit is worth, if the byte is one.
+#[tactic(auto, using(crate::proofs::HexDigits::worth_below, crate::proofs::HexDigits::worth_decimal, crate::proofs::HexDigits::worth_between, crate::proofs::HexDigits::worth_letter, crate::proofs::HexDigits::worth_above))]
+pub fn worth(b: u8) -> Option<u8>
+    ensures { IsDigit b result }
 {
-    if b < b'0' {
-        return 16;
+    match b {
+        b'0'..=b'9' => Some(b - b'0'),
+        b'A'..=b'F' => Some(b - b'A' + 10),
+        _ => None,
     }
-    if b <= b'9' {
-        return b - b'0';
-    }
-    if b < b'A' {
-        return 16;
-    }
-    if b <= b'F' {
-        return b - b'A' + 10;
-    }
-    16
 }
 
 pub fn is_capital(b: u8) -> bool
     ensures { result ≡ is_capital b }
 {
-    worth(b) < 16
+    worth(b).is_some()
 }
 
 // The byte of two digits, the higher first. Other bytes tell some byte, too.
 pub fn two(d: u8, e: u8) -> u8
     ensures { result ≡ two d e }
 {
-    let high = worth(d) as u32;
-    let low = worth(e) as u32;
+    let high = u32::from(worth(d).unwrap_or(16));
+    let low = u32::from(worth(e).unwrap_or(16));
     let both = (high * 16 + low) % 256;
     both as u8
 }

@@ -26,7 +26,7 @@ pub mod view;
 mod words;
 mod worth;
 
-use crate::answer::Split;
+use crate::answer::Unsplit;
 use crate::edition::Edition;
 use crate::pieces::Piece;
 use crate::view::Text;
@@ -57,13 +57,13 @@ fn table_worth(
 
 // Splits the text into the tokens of an edition and writes them into the table, as far as the first flaw. The words of
 // rows and functions are used for it and left anyhow; all others stay as they were.
-pub fn split(edition: Edition, text: &Text, table: &mut [u32]) -> Split
+pub fn split(edition: Edition, text: &Text, table: &mut [u32]) -> Result<usize, Unsplit>
     requires { TABLE ≤ length table.old }
     ensures { IsSplit (meant edition) (text_of text.now) table.old
         table.new result }
 {
     if text.longer(SOURCE) {
-        return Split::TooLong;
+        return Err(Unsplit::TooLong);
     }
     let size = text.len();
     forks::begin(table);
@@ -76,12 +76,12 @@ pub fn split(edition: Edition, text: &Text, table: &mut [u32]) -> Split
             continue;
         }
         match pieces::piece_of(edition, text, at, here) {
-            Piece::Space(end) => {
+            Ok(Piece::Space(end)) => {
                 at = end;
             }
-            Piece::Token(kind, end, worth) => {
+            Ok(Piece::Token { kind, end, worth }) => {
                 if count == TOKENS {
-                    return Split::Stopped(Flaw::ManyTokens, at);
+                    return Err(Unsplit::Stopped(Flaw::ManyTokens, at));
                 }
                 let both = table_worth(text, table, count, kind, at, end, worth);
                 let high = layout::floats::high(both);
@@ -90,10 +90,10 @@ pub fn split(edition: Edition, text: &Text, table: &mut [u32]) -> Split
                 count += 1;
                 at = end;
             }
-            Piece::Wrong(flaw) => {
-                return Split::Stopped(flaw, at);
+            Err(flaw) => {
+                return Err(Unsplit::Stopped(flaw, at));
             }
         }
     }
-    Split::Tokens(count)
+    Ok(count)
 }

@@ -7,10 +7,10 @@ ghost use Rattle.tokens.specs.Found.{IsPiece, STROKE};
 ghost use Rattle.tokens.specs.Shown.{text_of};
 ghost use Rattle.tokens.specs.declared.edition.Edition.{Edition};
 
-use crate::bytes::{is_blank, is_digit, is_letter, line_end, name_end};
-use crate::comments::{Close, comment_end};
+use crate::bytes::{InLine, NameByte, is_blank, is_digit, is_letter};
+use crate::comments::comment_end;
 use crate::edition::Edition;
-use crate::marks::{Mark, mark_at};
+use crate::marks::mark_at;
 use crate::view::Text;
 use crate::words::word;
 use crate::worth::number;
@@ -23,32 +23,34 @@ pub enum Piece {
     Space(usize),
     // A token: its kind, its end, and what it is worth: of a number its value, of a float number its bits,
     // else 0.
-    Token(u32, usize, u64),
-    Wrong(Flaw),
+    Token { kind: u32, end: usize, worth: u64 },
 }
 
 // The longest piece at a place. What begins there is settled by its first two bytes.
-pub fn piece_at(edition: Edition, text: &Text, at: usize) -> Piece
+pub fn piece_at(edition: Edition, text: &Text, at: usize) -> Result<Piece, Flaw>
     requires { at < length (text_of text.now) }
     ensures { IsPiece (meant edition) (text_of text.now) at result }
 {
     let here = text.byte(at);
     if is_blank(here) {
-        let next = at + 1;
-        return Piece::Space(next);
+        return Ok(Piece::Space(at + 1));
     }
     piece_of(edition, text, at, here)
 }
 
 // The same where this byte stands, which is no blank.
-pub fn piece_of(edition: Edition, text: &Text, at: usize, here: u8) -> Piece
+pub fn piece_of(edition: Edition, text: &Text, at: usize, here: u8) -> Result<Piece, Flaw>
     requires { (at < length (text_of text.now)) × (here ≡ byte (text_of text.now) at)
         × (is_blank here ≡ false) }
     ensures { IsPiece (meant edition) (text_of text.now) at result }
 {
     if is_letter(here) {
-        let end = name_end(text, at);
-        return Piece::Token(word(edition, text, at, end), end, 0);
+        let end = text.run_end(at, &NameByte);
+        return Ok(Piece::Token {
+            kind: word(edition, text, at, end),
+            end,
+            worth: 0,
+        });
     }
     if is_digit(here) {
         return number(edition, text, at, here);
@@ -56,30 +58,31 @@ pub fn piece_of(edition: Edition, text: &Text, at: usize, here: u8) -> Piece
     if here == b'/' {
         return slash(text, at);
     }
-    match mark_at(edition, text, at, here) {
-        Mark::Is(kind, size) => {
-            let next = at + size;
-            Piece::Token(kind, next, 0)
-        }
-        Mark::None => Piece::Wrong(Flaw::StrangeByte),
-    }
+    let Some(mark) = mark_at(edition, text, at, here) else {
+        return Err(Flaw::StrangeByte);
+    };
+    Ok(Piece::Token {
+        kind: mark.kind,
+        end: at + mark.size,
+        worth: 0,
+    })
 }
 
 // The same where a `/` stands, in either edition: a comment or a mark.
-fn slash(text: &Text, at: usize) -> Piece
+fn slash(text: &Text, at: usize) -> Result<Piece, Flaw>
     requires { byte (text_of text.now) at ≡ STROKE }
     ensures { (e : Edition) → IsPiece (meant e) (text_of text.now) at result }
 {
-    let behind = text.byte(at + 1);
-    if behind == b'/' {
-        return Piece::Space(line_end(text, at + 2));
+    match text.byte(at + 1) {
+        b'/' => Ok(Piece::Space(text.run_end(at + 2, &InLine))),
+        b'*' => match comment_end(text, at) {
+            Some(end) => Ok(Piece::Space(end)),
+            None => Err(Flaw::OpenComment),
+        },
+        _ => Ok(Piece::Token {
+            kind: kinds::SLASH,
+            end: at + 1,
+            worth: 0,
+        }),
     }
-    if behind == b'*' {
-        return match comment_end(text, at) {
-            Close::At(end) => Piece::Space(end),
-            Close::Never => Piece::Wrong(Flaw::OpenComment),
-        };
-    }
-    let next = at + 1;
-    Piece::Token(kinds::SLASH, next, 0)
 }

@@ -27,25 +27,12 @@ pub struct Text<'a> {
     pub view: View,
 }
 
-// Half of what lies between two places.
-fn half(from: usize, to: usize) -> usize
-    ensures { result ≡ (to - from) / 2 }
-{
-    if to <= from {
-        return 0;
-    }
-    (to - from) / 2
-}
-
 // How many bytes a line of digits tells.
+#[tactic(auto, using(crate::proofs::Views::line_length))]
 fn len_of_line(sheet: &[u8], from: usize, to: usize) -> usize
     ensures { result ≡ length (told (slice from to sheet.now)) }
 {
-    let size = sheet.len();
-    if size < to {
-        return half(from, size);
-    }
-    half(from, to)
+    to.min(sheet.len()).saturating_sub(from) / 2
 }
 
 // Have two sheets, with the LF between them, more bytes than this? Their lengths are compared and never added: what
@@ -54,10 +41,7 @@ fn longer_both(first: &[u8], second: &[u8], most: usize) -> bool
     ensures { result ≡ ltb most (length (joined first.now second.now)) }
 {
     let size = first.len();
-    if most < size {
-        return true;
-    }
-    most - size <= second.len()
+    most < size || most - size <= second.len()
 }
 
 // The byte of one sheet at a place, 0 past the end.

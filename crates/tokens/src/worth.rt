@@ -1,15 +1,15 @@
 // Numbers: how one is written, where it ends and what it is worth.
 ghost use Rattle.std.specs.Prelude.{◌<◌, ◌≤◌, true, [], ◌∷◌, ◌≡◌, length};
 ghost use Rattle.language.proofs.Text.Bases as Bases;
-ghost use Rattle.language.proofs.Text.Bases.{base_told};
 ghost use Rattle.language.specs.Text.{byte};
 ghost use Rattle.language.proofs.Text.Runs.{Run};
 ghost use Rattle.language.specs.Text.{is_digit, is_digit_of};
+ghost use Rattle.language.specs.Tokens.{bases, spelled};
 ghost use Rattle.tokens.specs.Editions.{meant};
-ghost use Rattle.tokens.specs.Found.{IsPiece, PointAt, has_point};
+ghost use Rattle.tokens.specs.Found.{Gives, IsPiece, PointAt, has_point};
 ghost use Rattle.tokens.specs.Shown.{text_of};
 
-use crate::bytes::{decimal_end, digits_end, is_digit_of, worth};
+use crate::bytes::{Digit, DigitOf, is_digit_of, worth};
 use crate::edition::Edition;
 use crate::floats;
 use crate::pieces::Piece;
@@ -24,17 +24,15 @@ pub struct Digits {
     base: u64,
 }
 
-// The base that two bytes tell; where they tell none 0, which has no digit.
-fn base_of(a: u8, b: u8) -> u64
-    ensures { result ≡ base_told (a ∷ b ∷ []) }
+// The base that two bytes tell, if they tell one.
+#[tactic(auto, unfolding(language::specs::Tokens::spelled, language::specs::Tokens::same))]
+fn base_of(a: u8, b: u8) -> Option<u64>
+    ensures { Gives (spelled bases (a ∷ b ∷ [])) result }
 {
-    if a != b'0' {
-        return 0;
-    }
-    match b {
-        b'x' => 16,
-        b'b' => 2,
-        _ => 0,
+    match (a, b) {
+        (b'0', b'x') => Some(16),
+        (b'0', b'b') => Some(2),
+        _ => None,
     }
 }
 
@@ -46,14 +44,10 @@ fn based_at(edition: Edition, text: &Text, at: usize) -> Digits
     ensures { Bases.Digits (meant edition) (text_of text.now) at result.from result.base
         × (result.from ≡ at → result.base ≡ 10) }
 {
-    let base = base_of(text.byte(at), text.ahead(at, 1));
-    if is_digit_of(base, text.ahead(at, 2)) {
-        return Digits {
-            from: at + 2,
-            base: base,
-        };
+    match base_of(text.byte(at), text.ahead(at, 1)) {
+        Some(base) if is_digit_of(base, text.ahead(at, 2)) => Digits { from: at + 2, base },
+        _ => Digits { from: at, base: 10 },
     }
-    Digits { from: at, base: 10 }
 }
 
 // The same where that digit is known: only a 0 begins a base.
@@ -75,9 +69,9 @@ fn ends(text: &Text, at: usize, base: u64) -> usize
     ensures { Run (is_digit_of base) (text_of text.now) at result }
 {
     if base == 10 {
-        return decimal_end(text, at);
+        return text.run_end(at, &Digit);
     }
-    digits_end(text, at, base)
+    text.run_end(at, &DigitOf(base))
 }
 
 // May a point that this byte follows belong to a number? In edition 2 the points of `..` may not.
@@ -99,28 +93,29 @@ fn takes_point(edition: Edition, text: &Text, at: usize, from: usize, end: usize
     if from != at {
         return false;
     }
-    if text.byte(end) != b'.' {
-        return false;
-    }
-    points(edition, text.byte(end + 1))
+    text.byte(end) == b'.' && points(edition, text.byte(end + 1))
 }
 
 // The float number at a place, with its point where the digits there end.
-fn float_number(edition: Edition, text: &Text, at: usize, point: usize) -> Piece
+fn float_number(edition: Edition, text: &Text, at: usize, point: usize) -> Result<Piece, Flaw>
     requires { PointAt (meant edition) (text_of text.now) at point }
     ensures { IsPiece (meant edition) (text_of text.now) at result }
 {
-    let end = digits_end(text, point + 1, 10);
+    let end = ends(text, point + 1, 10);
     if DIGITS + 1 < end - at {
-        return Piece::Wrong(Flaw::LongFloat);
+        return Err(Flaw::LongFloat);
     }
     let bits = floats::bits(text, at, point, end);
-    Piece::Token(kinds::FLOAT_NUMBER, end, bits)
+    Ok(Piece::Token {
+        kind: kinds::FLOAT_NUMBER,
+        end,
+        worth: bits,
+    })
 }
 
 // The number that begins with this digit at a place. No digit is read once the value is too large, and
 // so no product can wrap.
-pub fn number(edition: Edition, text: &Text, at: usize, here: u8) -> Piece
+pub fn number(edition: Edition, text: &Text, at: usize, here: u8) -> Result<Piece, Flaw>
     requires { (at < length (text_of text.now)) × (is_digit here ≡ true)
         × (here ≡ byte (text_of text.now) at) }
     ensures { IsPiece (meant edition) (text_of text.now) at result }
@@ -133,13 +128,15 @@ pub fn number(edition: Edition, text: &Text, at: usize, here: u8) -> Piece
         return float_number(edition, text, at, end);
     }
     let mut value: u64 = 0;
-    let mut i = from;
-    while i < end {
+    for i in from..end {
         value = value * base + worth(text.byte(i));
         if LARGEST < value {
-            return Piece::Wrong(Flaw::LargeNumber);
+            return Err(Flaw::LargeNumber);
         }
-        i += 1;
     }
-    Piece::Token(kinds::NUMBER, end, value)
+    Ok(Piece::Token {
+        kind: kinds::NUMBER,
+        end,
+        worth: value,
+    })
 }

@@ -33,31 +33,29 @@ loop-at-preserved-then-is_blank c =
     let seen = sym (c.is_blank.ensures ∙ ap is_blank c.byte-here.ensures) ∙ c.if-is_blank.true in
     reached_skip c.loop-at.invariant (blank_piece (laws_of c.args.edition) text c.loop-at.at inside seen)
 
-pub loop-at-smaller-in-Space : goal.loop-at-smaller-in-Space
-loop-at-smaller-in-Space c =
+pub loop-at-smaller-in-Ok-Space : goal.loop-at-smaller-in-Ok-Space
+loop-at-smaller-in-Ok-Space c =
     let a = c.args in
     let text = text_of a.text.now in
     let t = text in
     let l = c.loop-at in
-    let piece = c.piece_of.ensures in
-    let x = subst (IsPiece (meant c.args.edition) t l.at) c.in-Space.is piece in
+    let x = rw c.in-Ok-Space.field-0-is at c.in-Ok-Space.ensures in
     omega (arith, (form_bounds t l.at _ _ x.form).0, c.loop-at-test.true)
 
-pub loop-at-preserved-in-Space : goal.loop-at-preserved-in-Space
-loop-at-preserved-in-Space c =
+pub loop-at-preserved-in-Ok-Space : goal.loop-at-preserved-in-Ok-Space
+loop-at-preserved-in-Ok-Space c =
     let a = c.args in
     let text = text_of a.text.now in
     let t = text in
     let l = c.loop-at in
-    let piece = c.piece_of.ensures in
-    let x = subst (IsPiece (meant c.args.edition) t l.at) c.in-Space.is piece in
+    let x = rw c.in-Ok-Space.field-0-is at c.in-Ok-Space.ensures in
     reached_skip l.invariant x
 
 pub returns-then-count-eq-TOKENS : goal.returns-then-count-eq-TOKENS
 returns-then-count-eq-TOKENS c =
     let a = c.args in
     let text = text_of a.text.now in
-    let held = subst (IsPiece (meant a.edition) text c.loop-at.at) c.in-Token.is c.piece_of.ensures in
+    let held = rw c.in-Ok-Token.field-0-is at c.in-Ok-Token.ensures in
     let short = ltb-false SOURCE (length text) (sym c.longer.ensures ∙ c.if-longer.false) in
     let x = held in
     let full = c.if-count-eq-TOKENS.true in
@@ -67,7 +65,7 @@ pub table_worth-both-requires : goal.table_worth-both-requires
 table_worth-both-requires c =
     let a = c.args in
     let text = text_of a.text.now in
-    let held = subst (IsPiece (meant a.edition) text c.loop-at.at) c.in-Token.is c.piece_of.ensures in
+    let held = rw c.in-Ok-Token.field-0-is at c.in-Ok-Token.ensures in
     let short = ltb-false SOURCE (length text) (sym c.longer.ensures ∙ c.if-longer.false) in
     reached_searchable c.loop-at.invariant short (omega (arith, c.loop-at.invariant.few, c.if-count-eq-TOKENS.false)) held
     (laws_of c.args.edition)
@@ -76,7 +74,7 @@ pub overflow_cast-end : goal.overflow_cast-end
 overflow_cast-end c =
     let a = c.args in
     let text = text_of a.text.now in
-    let held = subst (IsPiece (meant a.edition) text c.loop-at.at) c.in-Token.is c.piece_of.ensures in
+    let held = rw c.in-Ok-Token.field-0-is at c.in-Ok-Token.ensures in
     let bounds = form_bounds text c.loop-at.at _ _ held.piece.form in
     let short = ltb-false SOURCE (length text) (sym c.longer.ensures ∙ c.if-longer.false) in
     omega (arith, bounds.1, short)
@@ -85,7 +83,7 @@ pub loop-at-smaller : goal.loop-at-smaller
 loop-at-smaller c =
     let a = c.args in
     let text = text_of a.text.now in
-    let held = subst (IsPiece (meant a.edition) text c.loop-at.at) c.in-Token.is c.piece_of.ensures in
+    let held = rw c.in-Ok-Token.field-0-is at c.in-Ok-Token.ensures in
     let bounds = form_bounds text c.loop-at.at _ _ held.piece.form in
     omega (arith, bounds.0, c.loop-at-test.true)
 
@@ -93,19 +91,19 @@ pub loop-at-preserved : goal.loop-at-preserved
 loop-at-preserved c =
     let a = c.args in
     let text = text_of a.text.now in
-    let held = subst (IsPiece (meant a.edition) text c.loop-at.at) c.in-Token.is c.piece_of.ensures in
+    let held = rw c.in-Ok-Token.field-0-is at c.in-Ok-Token.ensures in
     let short = ltb-false SOURCE (length text) (sym c.longer.ensures ∙ c.if-longer.false) in
     let l = c.loop-at in
     reached_next l.invariant short (omega (arith, l.invariant.few, c.if-count-eq-TOKENS.false)) held c.table_worth-both.ensures.0
     c.table_worth-both.ensures.1 c.high-high.ensures c.low-low.ensures c.put.ensures
 
-pub returns-in-Wrong : goal.returns-in-Wrong
-returns-in-Wrong c =
+pub returns-in-Err : goal.returns-in-Err
+returns-in-Err c =
     let a = c.args in
     let text = text_of a.text.now in
     let short = ltb-false SOURCE (length text) (sym c.longer.ensures ∙ c.if-longer.false) in
     let l = c.loop-at in
-    let wrong = subst (IsPiece (meant c.args.edition) text l.at) c.in-Wrong.is c.piece_of.ensures in
+    let wrong = c.in-Err.ensures in
     reached_broken l.invariant c.begin.ensures.rest _ short (λ ts e. wrong ts)
 
 pub returns : goal.returns

@@ -8,7 +8,7 @@ overflow_add-at c =
     let a = c.args in
     omega (arith, c.requires, text_long a.text.now, c.well_formed)
 
-pub overflow_add-at-2 : goal.overflow_add-at-2
-overflow_add-at-2 c =
+pub overflow_add-at-in-42-1 : goal.overflow_add-at-in-42-1
+overflow_add-at-in-42-1 c =
     let a = c.args in
     omega (arith, c.requires, text_long a.text.now, c.well_formed)

@@ -26,9 +26,9 @@ pub overflow_mul-value : goal.overflow_mul-value
 overflow_mul-value c =
     omega (arith, small (goal.at.overflow_mul-value c).In-loop-i)
 
-pub overflow_sub-value : goal.overflow_sub-value
-overflow_sub-value c =
-    (digit (goal.at.overflow_sub-value c).After-byte).0
+pub overflow_sub-byte : goal.overflow_sub-byte
+overflow_sub-byte c =
+    (digit (goal.at.overflow_sub-byte c).After-byte).0
 
 pub overflow_add-value : goal.overflow_add-value
 overflow_add-value c =
@@ -42,7 +42,7 @@ loop-i-preserved c =
     let t = text_of a.text.now in
     elim c.if-i-point.branch [
       | then-i-point w ↦
-          subst (λ v. Read t a.at a.point a.end (l.i + 1) v) (sym w.value-is) (read_more c.requires l.invariant test w.byte.ensures w.if-i-point.true)
+          subst (λ v. Read t a.at a.point a.end (l.i + 1) v) (sym w.value-is) (rw w.from.ensures (read_more c.requires l.invariant test w.byte.ensures w.if-i-point.true))
       | else-i-point w ↦
           subst (λ v. Read t a.at a.point a.end (l.i + 1) v) (sym w.value-is) (read_past c.requires l.invariant test w.if-i-point.false)
     ]

@@ -5,8 +5,8 @@ use Rattle.tokens.proofs.floats.bits.Goals as goal
 
 pub int_to_float-power : goal.int_to_float-power
 int_to_float-power c =
-    power_exact c.requires c.power_of_ten-power.ensures
+    power_exact c.requires c.pow-power.ensures
 
 pub returns : goal.returns
 returns c =
-    c.bits.ensures ∙ divided c.requires c.all_digits-all.ensures.0 c.power_of_ten-power.ensures
+    c.bits.ensures ∙ divided c.requires c.all_digits-all.ensures.0 c.pow-power.ensures

@@ -1,17 +1,12 @@
 -- `compare` compares bytes of the text with others of it, one after the other.
-use Rattle.tokens.proofs.Compared.{alike_more, alike_less, alike_all, fewer, further}
+use Rattle.tokens.proofs.Compared.{alike_more, alike_less, alike_all, parted}
 use Rattle.tokens.specs.Shown.{text_of}
 use Rattle.tokens.proofs.forks.compare.Goals as goal
 
 pub returns-then-b-a : goal.returns-then-b-a
 returns-then-b-a c =
     let a = c.args in
-    let t = text_of a.text.now in fewer t a.a a.b a.p a.q c.requires.1 c.requires.3 c.if-b-a.true
-
-pub returns-then-q-p : goal.returns-then-q-p
-returns-then-q-p c =
-    let a = c.args in
-    let t = text_of a.text.now in further t a.a a.b a.p a.q c.requires.1 c.requires.3 c.if-q-p.true
+    parted (text_of a.text.now) a.a a.b a.p a.q c.requires.1 c.requires.3 c.if-b-a.true c.min.ensures
 
 pub returns-then-byte : goal.returns-then-byte
 returns-then-byte c =

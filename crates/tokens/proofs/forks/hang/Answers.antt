@@ -6,9 +6,9 @@ use Rattle.tokens.specs.Forks.{IsParting}
 use Rattle.tokens.specs.Shown.{text_of}
 use Rattle.tokens.proofs.forks.hang.Goals as goal
 
-pub returns-in-At : goal.returns-in-At
-returns-in-At c =
+pub returns-in-Some : goal.returns-in-Some
+returns-in-Some c =
     let a = c.args in
     let t = text_of a.text.now in
-    let x = subst (IsParting (slice a.a a.b t) (slice a.p a.q t)) c.in-At.is c.compare.ensures in
+    let x = subst (IsParting (slice a.a a.b t) (slice a.p a.q t)) c.in-Some.is c.compare.ensures in
     hung_fork x c.letter-old.ensures.0 c.letter-new.ensures.0 c.fork.ensures

@@ -1,4 +1,5 @@
 -- `letter` looks whether there is a byte.
+use mathlib.Core.Path.{◌∙◌}
 use native.Mathlib.Omega.{arith}
 use Rattle.tokens.proofs.Compared.{letter_none, letter_some}
 use Rattle.tokens.specs.Shown.{text_of}
@@ -13,4 +14,4 @@ pub returns : goal.returns
 returns c =
     let a = c.args in
     let t = text_of a.text.now in
-    (letter_some t a.p a.q a.i c.requires.1 c.if-q-p.false c.byte.ensures, omega arith)
+    (letter_some t a.p a.q a.i c.requires.1 c.if-q-p.false (c.from.ensures ∙ c.byte.ensures), omega arith)

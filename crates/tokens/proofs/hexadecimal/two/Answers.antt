@@ -1,7 +1,8 @@
--- `two` puts two digits together.
-use Rattle.tokens.proofs.HexDigits.{two_is}
+-- `two` puts what both bytes are worth together.
+use mathlib.Core.Path.{◌∙◌}
+use Rattle.tokens.proofs.HexDigits.{two_is, worth_or}
 use Rattle.tokens.proofs.hexadecimal.two.Goals as goal
 
 pub returns : goal.returns
 returns c =
-    two_is _ _ c.worth-high.ensures c.worth-low.ensures
+    two_is _ _ (c.from-high.ensures ∙ c.unwrap_or.ensures ∙ worth_or _ _ c.worth.ensures) (c.from-low.ensures ∙ c.unwrap_or-2.ensures ∙ worth_or _ _ c.worth-2.ensures)

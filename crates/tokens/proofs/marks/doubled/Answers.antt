@@ -1,13 +1,12 @@
 -- `doubled` reads the second byte where the first begins a mark of two.
 use mathlib.Core.List.{[], ◌∷◌}
 use mathlib.Core.Logic.{inl, inr}
-use mathlib.Core.Path.{refl, sym, ap}
+use mathlib.Core.Path.{refl}
 use native.Mathlib.Omega.{arith}
 use Rattle.language.proofs.Text.Tables.{every}
 use Rattle.language.specs.Tokens.{spell, marks}
 use Rattle.tokens.proofs.FirstBytes.{begins_so, other_first}
 use Rattle.tokens.proofs.Views.{text_long}
-use Rattle.tokens.specs.Found.{or_past, mark_kind}
 use Rattle.tokens.proofs.marks.doubled.Goals as goal
 
 pub overflow_add-at : goal.overflow_add-at
@@ -16,10 +15,8 @@ overflow_add-at c =
     omega (arith, c.requires, text_long a.text.now, c.well_formed)
 
 pub returns-in_default : goal.returns-in_default
-unfolding mark_kind every begins_so
+unfolding every begins_so
 returns-in_default c =
     let r = c.in_default.in_default-own.rest.1 in
-    ap or_past
-    (sym
-    (other_first marks (spell "|&:=") _ (_ ∷ []) refl
-    ((((tt, λ e. r (inr (inr (inl e)))), λ e. r (inr (inl e))), λ e. r (inl e)), λ e. r (inr (inr (inr e))))))
+    other_first marks (spell "|&:=") _ (_ ∷ []) refl
+    ((((tt, λ e. r (inr (inr (inl e)))), λ e. r (inr (inl e))), λ e. r (inl e)), λ e. r (inr (inr (inr e))))

@@ -3,11 +3,11 @@ use Rattle.tokens.proofs.Editions.{by_edition}
 use Rattle.tokens.proofs.PointMarks.{point_alone}
 use Rattle.tokens.specs.Found.{IsMark}
 use Rattle.tokens.specs.Shown.{text_of}
-use Rattle.tokens.specs.declared.marks.Mark.{Mark}
+use Rattle.std.specs.Prelude.{None}
 use Rattle.tokens.proofs.marks.pointed.Goals as goal
 
 pub returns-in-One : goal.returns-in-One
 returns-in-One c =
     let a = c.args in
-    by_edition (λ voc. IsMark voc (text_of a.text.now) a.at Mark.None) c.in-One.is
+    by_edition (λ voc. IsMark voc (text_of a.text.now) a.at None) c.in-One.is
     (point_alone c.requires.0 c.requires.1 c.requires.2)

@@ -2,7 +2,7 @@
 use mathlib.Core.Path.{sym, ◌∙◌}
 use Rattle.tokens.proofs.PointMarks.{through, upto, as_before, point_alone}
 use Rattle.tokens.specs.Shown.{text_of}
-use Rattle.tokens.specs.declared.marks.Mark.{Mark}
+use Rattle.std.specs.Prelude.{None}
 use Rattle.tokens.proofs.marks.points.Goals as goal
 
 pub returns-then-stands_at : goal.returns-then-stands_at
@@ -19,4 +19,4 @@ returns c =
     let t = (text_of c.args.text.now) in
     let p = c.args.at in
     let clear = sym c.stands_at-2.ensures ∙ c.if-stands_at-2.false in
-    as_before t p c.requires.0 c.requires.1 clear Mark.None (point_alone c.requires.0 c.requires.1 c.requires.2)
+    as_before t p c.requires.0 c.requires.1 clear None (point_alone c.requires.0 c.requires.1 c.requires.2)

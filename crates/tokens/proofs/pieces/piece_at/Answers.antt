@@ -8,8 +8,8 @@ use Rattle.tokens.proofs.Views.{text_long}
 use Rattle.tokens.specs.Shown.{text_of}
 use Rattle.tokens.proofs.pieces.piece_at.Goals as goal
 
-pub overflow_add-next : goal.overflow_add-next
-overflow_add-next c =
+pub overflow_add-result : goal.overflow_add-result
+overflow_add-result c =
     let a = c.args in
     let long = text_long a.text.now in
     omega (arith, c.requires, long, c.well_formed)

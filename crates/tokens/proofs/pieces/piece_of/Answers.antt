@@ -12,7 +12,6 @@ use Rattle.language.specs.Text.WrongUnder.{strange}
 use Rattle.tokens.proofs.Editions.{laws_of}
 use Rattle.tokens.proofs.FoundTokens.{plain_token}
 use Rattle.tokens.specs.Editions.{meant}
-use Rattle.tokens.specs.Found.{IsMark}
 use Rattle.tokens.proofs.Views.{text_long}
 use Rattle.tokens.specs.Shown.{text_of}
 use Rattle.tokens.proofs.pieces.piece_of.Goals as goal
@@ -27,29 +26,24 @@ pub returns-then-is_letter : goal.returns-then-is_letter
 returns-then-is_letter c =
     let t = text_of c.args.text.now in
     let p = c.args.at in
-    let q = c.name_end-end.result in
+    let q = c.run_end-end.result in
     let letter = known (goal.at.returns-then-is_letter c).Start is_letter c.is_letter.ensures c.if-is_letter.true in
-    let piece = name_piece (laws_of c.args.edition) t p q c.requires.0 letter c.name_end-end.ensures in
+    let piece = name_piece (laws_of c.args.edition) t p q c.requires.0 letter c.run_end-end.ensures in
     plain_token c.args.edition (letter_not_digit _ letter) (subst (λ k. Piece (meant c.args.edition) t p q (token k 0)) (sym c.word.ensures) piece)
 
 pub returns-then-here-eq47 : goal.returns-then-here-eq47
 returns-then-here-eq47 c =
     c.slash.ensures c.args.edition
 
-pub overflow_add-next : goal.overflow_add-next
-overflow_add-next c =
-    let t = text_of c.args.text.now in
-    let p = c.args.at in
-    let m = subst (IsMark (meant c.args.edition) t p) c.in-Is.is c.mark_at.ensures in
+pub returns-in_default : goal.returns-in_default
+returns-in_default c =
+    λ ts. strange c.requires.0 c.in_default.ensures
+
+pub overflow_add-result : goal.overflow_add-result
+overflow_add-result c =
     let a = c.args in
-    omega (arith, form_bounds t p _ _ m.form, text_long a.text.now, c.well_formed)
+    omega (arith, form_bounds (text_of a.text.now) a.at _ _ c.in-Some.ensures.form, text_long a.text.now, c.well_formed)
 
-pub returns-in-Is : goal.returns-in-Is
-returns-in-Is c =
-    let piece = subst (IsMark (meant c.args.edition) (text_of c.args.text.now) c.args.at) c.in-Is.is c.mark_at.ensures in
-    plain_token c.args.edition (known (goal.at.returns-in-Is c).Start is_digit c.is_digit.ensures c.if-is_digit.false) piece
-
-pub returns-in-None : goal.returns-in-None
-returns-in-None c =
-    let formless = subst (IsMark (meant c.args.edition) (text_of c.args.text.now) c.args.at) c.in-None.is c.mark_at.ensures in
-    λ ts. strange c.requires.0 formless
+pub returns : goal.returns
+returns c =
+    plain_token c.args.edition (known (goal.at.returns c).Start is_digit c.is_digit.ensures c.if-is_digit.false) c.in-Some.ensures

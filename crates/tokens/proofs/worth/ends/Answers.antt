@@ -10,4 +10,4 @@ pub returns-then-base-eq10 : goal.returns-then-base-eq10
 returns-then-base-eq10 c =
     let a = c.args in
     let t = text_of a.text.now in
-    subst (λ n. Run (is_digit_of n) t a.at c.decimal_end.result) (sym c.if-base-eq10.true) (run_decimal c.decimal_end.ensures)
+    subst (λ n. Run (is_digit_of n) t a.at c.run_end.result) (sym c.if-base-eq10.true) (run_decimal c.run_end.ensures)

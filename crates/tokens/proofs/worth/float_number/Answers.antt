@@ -12,12 +12,12 @@ overflow_add-point c =
 
 pub returns-then-end-at : goal.returns-then-end-at
 returns-then-end-at c =
-    float_long (laws_of c.args.edition) c.requires c.digits_end-end.ensures c.if-end-at.true
+    float_long (laws_of c.args.edition) c.requires c.ends-end.ensures c.if-end-at.true
 
 pub bits-bits-requires : goal.bits-bits-requires
 bits-bits-requires c =
-    float_decimal (laws_of c.args.edition) c.requires c.digits_end-end.ensures c.if-end-at.false
+    float_decimal (laws_of c.args.edition) c.requires c.ends-end.ensures c.if-end-at.false
 
 pub returns : goal.returns
 returns c =
-    float_token (laws_of c.args.edition) c.requires c.digits_end-end.ensures c.if-end-at.false c.bits-bits.ensures
+    float_token (laws_of c.args.edition) c.requires c.ends-end.ensures c.if-end-at.false c.bits-bits.ensures

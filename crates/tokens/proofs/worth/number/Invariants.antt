@@ -1,11 +1,7 @@
 -- `number` reads the digits of a run one by one, where no point goes on with them.
-use Prim.Native.Nat.{◌-◌}
 use Rattle.tokens.proofs.Digits.{Read}
 use Rattle.tokens.specs.Shown.{text_of}
 use Rattle.tokens.proofs.worth.number.Given as goal
 
 abbrev pub invariant-loop-i : goal.invariant-loop-i
 invariant-loop-i l = Read l.base (text_of l.text) l.from l.end l.i l.value
-
-abbrev pub decreases-loop-i : goal.decreases-loop-i
-decreases-loop-i l = l.end - l.i
