@@ -2,6 +2,7 @@
 use mathlib.Core.List.{List}
 use mathlib.Core.Option.{Option, none, some}
 use mathlib.Core.Path.{◌≡◌, refl, sym, ap, subst, subst₂, ◌∙◌}
+use Rattle.std.specs.Prelude.{true, false, eqb, MatchResult, Ok, Err}
 use Prim.Native.Nat.{ℕ, zero, suc, ◌+◌, ◌≤◌, ◌<◌}
 use native.Mathlib.Omega.{arith}
 use lib.ListN.{length}
@@ -24,11 +25,10 @@ use Rattle.numbers.specs.Meanings.{reason_meant}
 use Rattle.rules.specs.Sight.{Variables, InSight}
 use Rattle.rules.specs.Asked.{Tells}
 use Rattle.phrase_types.specs.Inferred.{Kept, Ready, Inferred}
-use Rattle.checker.specs.Ruled.{Rules, check_head, check_body, Headings, Taken, Next, Headlines, Fresh, Bodied, Fitting, Listed, Ruled}
-use Rattle.numbers.specs.declared.Reason.{Reason}
+use Rattle.checker.specs.Ruled.{Verdict, Rules, check_head, check_body, Headings, Taken, Next, Headlines, Fresh, Bodied, Fitting, Listed, Ruled}
+use Rattle.rules.specs.declared.Fault.{Fault}
 use Rattle.numbers.specs.declared.Reason.TheVariants.{TooManyRefs, WrongBody}
-use Rattle.rules.specs.declared.Typing.{Typing}
-use Rattle.checker.specs.declared.programs.Verdict.{Verdict}
+use Rattle.rules.specs.Asked.{Typing}
 use Rattle.rules.proofs.TellLaws.{type_told, fault_told, tells_as}
 use Rattle.rules.proofs.OperatorLaws.{is_type, isnt_type}
 use Rattle.phrase_types.proofs.KeptLaws.{kept_self, kept_then, kept_fewer, kept_row}
@@ -59,7 +59,7 @@ module _ {w : List ℕ} {k row : ℕ} (b : Bodied w k row) {at result : ℕ} (ea
     shallow l = let m = number_refs d.result in let q = result_is in omega (arith, m.0)
 
   -- a result's type with too many `ref`
-  pub deep_fits : OVER ≤ result → Fitting w w k row (Verdict.Wrong TooManyRefs at)
+  pub deep_fits : OVER ≤ result → Fitting w w k row (Err record { reason = TooManyRefs; at = at })
   deep_fits l = record {
     kept = kept_self w 0;
     right = λ ts f Δ Γ d n e vs.
@@ -90,15 +90,15 @@ module _ {w : List ℕ} {k row : ℕ} (b : Bodied w k row) {at result : ℕ} (ea
     body_kept = kept_fewer (omega arith) j.kept
 
     -- a fault of the body
-    pub fault_fits : {r : Reason} {i : ℕ} → q ≡ Typing.Fault r i → Fitting w w' k row (Verdict.Wrong r i)
+    pub fault_fits : {fault : Fault} → q ≡ Err fault → Fitting w w' k row (Err fault)
     fault_fits e = record {
       kept = body_kept;
       right = λ ts f Δ Γ d n o vs. need_yes _ _ _ _ (shallow n o few) (after_bad _ (fault_told (tells_as e (body_told n o vs))));
     }
 
-    module _ {t : ℕ} (e : q ≡ Typing.«Type» t) where
+    module _ {t : ℕ} (e : q ≡ Ok t) where
       -- a body of the result's type
-      pub type_fits : t ≡ result → Fitting w w' k row Verdict.Fine
+      type_fits : eqb t result ≡ true → Fitting w w' k row (Ok tt)
       type_fits s = record {
         kept = body_kept;
         right = λ ts f Δ Γ d n o vs.
@@ -111,7 +111,7 @@ module _ {w : List ℕ} {k row : ℕ} (b : Bodied w k row) {at result : ℕ} (ea
       }
 
       -- and of another
-      pub other_fits : (t ≡ result → ⊥) → Fitting w w' k row (Verdict.Wrong WrongBody at)
+      other_fits : eqb t result ≡ false → Fitting w w' k row (Err record { reason = WrongBody; at = at })
       other_fits s = record {
         kept = body_kept;
         right = λ ts f Δ Γ d n o vs.
@@ -119,6 +119,12 @@ module _ {w : List ℕ} {k row : ℕ} (b : Bodied w k row) {at result : ℕ} (ea
             need_yes _ _ _ _ (shallow n o few) (after_ok _ u.1 (need_no _ _ _ _ (isnt_type u.0 d.result u.2 (result_is n o) s)))
             ∙ ap (bad (reason_meant WrongBody)) (sym (at_is n o));
       }
+
+      -- so it is tested
+      pub tested_fits : (s : Verdict) → MatchResult s (λ _. eqb t result ≡ true) (λ x. (eqb t result ≡ false) × (x ≡ record { reason = WrongBody; at = at }))
+          → Fitting w w' k row s
+      tested_fits (Ok _) h = type_fits h
+      tested_fits (Err x) h = rw h.1 (other_fits h.0)
 
 -- ---- the whole function
 
@@ -181,7 +187,7 @@ module _ {w : List ℕ} {k row : ℕ} (l : Listed w k) (er : row ≡ function_ro
       params_row r j = omega arith
 
   -- the head is wrong
-  pub head_ruled : {v : Verdict} → Fresh w k v → {r : Reason} {i : ℕ} → v ≡ Verdict.Wrong r i → Ruled w w k (Verdict.Wrong r i)
+  pub head_ruled : {v : Verdict} → Fresh w k v → {fault : Fault} → v ≡ Err fault → Ruled w w k (Err fault)
   unfolding check_def
   head_ruled {v} h e = record {
     kept = kept_self w 0;
@@ -189,7 +195,7 @@ module _ {w : List ℕ} {k row : ℕ} (l : Listed w k) (er : row ≡ function_ro
         (h.right ts f Δ d n));
   }
 
-  module _ {u : Verdict} (h : Fresh w k u) (eu : u ≡ Verdict.Fine) {w₁ : List ℕ} {v : Verdict} (t : Taken w w₁ row v) where
+  module _ {u : Verdict} (h : Fresh w k u) (eu : u ≡ Ok tt) {w₁ : List ℕ} {v : Verdict} (t : Taken w w₁ row v) where
     -- where the head is fine the parameters decide
     head_fine : (ts : List Token) (f : ℕ) (Δ : Scope Sig) (d : Def) → Next ts f (without_variables w) k Δ d
         → check_def Δ d ≡ after (take_params d.params empty) λ Γ. check_body Δ Γ d
@@ -203,7 +209,7 @@ module _ {w : List ℕ} {k row : ℕ} (l : Listed w k) (er : row ≡ function_ro
     here_at {ts} {f} {d = d} n = subst (λ (r : ℕ). FunctionAt f ts (without_variables w) r d) (sym row_is) n.here
 
     -- a parameter is wrong
-    pub params_ruled : {r : Reason} {i : ℕ} → v ≡ Verdict.Wrong r i → Ruled w w₁ k (Verdict.Wrong r i)
+    pub params_ruled : {fault : Fault} → v ≡ Err fault → Ruled w w₁ k (Err fault)
     params_ruled e = record {
       kept = t.kept;
       right = λ ts f Δ d n.
@@ -212,7 +218,7 @@ module _ {w : List ℕ} {k row : ℕ} (l : Listed w k) (er : row ≡ function_ro
           head_fine ts f Δ d n ∙ after_bad _ a;
     }
 
-    module _ (ev : v ≡ Verdict.Fine) where
+    module _ (ev : v ≡ Ok tt) where
       taken : {ts : List Token} {f : ℕ} {Δ : Scope Sig} {d : Def} → Next ts f (without_variables w) k Δ d
           → (Γ : Scope Ty) × (take_params d.params empty ≡ ok Γ) × Variables ts w₁ (length d.params) Γ
       taken {ts} {f} {d = d} n =

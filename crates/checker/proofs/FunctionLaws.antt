@@ -2,6 +2,7 @@
 use mathlib.Core.List.{List}
 use mathlib.Core.Option.{some}
 use mathlib.Core.Path.{◌≡◌, refl, sym, ap, subst, ◌∙◌}
+use Rattle.std.specs.Prelude.{Ok, Err}
 use Prim.Native.Nat.{ℕ, suc, ◌+◌, ◌≤◌, ◌<◌}
 use native.Mathlib.Numerals.{add-one}
 use native.Mathlib.Omega.{arith}
@@ -20,7 +21,6 @@ use Rattle.rules.specs.Sight.{Functions, functions_given, functions_more, InSigh
 use Rattle.checker.specs.Ruled.{check_head, Next, Headlines, Fresh}
 use Rattle.numbers.specs.declared.Reason.TheVariants.{TooManyFunctions, FunctionTwice}
 use Rattle.rules.specs.declared.sight.Callee.{Callee}
-use Rattle.checker.specs.declared.programs.Verdict.{Verdict}
 use Rattle.phrase_types.proofs.ScopeLaws.{sight_headed, callee_means}
 use Rattle.rules.proofs.PlainLaws.{name_plain, callee_plain}
 use Rattle.checker.proofs.ParameterLaws.{unbound_none, unbound_some}
@@ -74,7 +74,7 @@ module _ {w : List ℕ} {k row : ℕ} (h : Headlines w k row) {at : ℕ} (ea : a
   def_inside = let e = ea ∙ ap (λ (i : ℕ). row_word w i OWN) h.at in omega (arith, (h.heads k (omega arith)).name)
 
   -- too many functions before it
-  pub many_fresh : FUNCTIONS ≤ k → Fresh w k (Verdict.Wrong TooManyFunctions at)
+  pub many_fresh : FUNCTIONS ≤ k → Fresh w k (Err record { reason = TooManyFunctions; at = at })
   many_fresh l = record {
     right = λ ts f Δ d n.
         let s = functions_size n.before in
@@ -101,21 +101,18 @@ module _ {w : List ℕ} {k row : ℕ} (h : Headlines w k row) {at : ℕ} (ea : a
         need_yes _ _ _ _ (omega arith) (unbound_some _ _ _ e) ∙ ap (bad Faults.function_twice) (n.here.named
         ∙ ap (λ (i : ℕ). i + 1) (sym (def_at n)))
 
-    -- a name that is another function's
-    pub function_fresh : {r : ℕ} → c ≡ Callee.Function r → Fresh w k (Verdict.Wrong FunctionTwice (at + 1))
-    function_fresh e = record {
-      right = λ ts f Δ d n.
-          twice n (subst (λ (c : Callee). Means f ts (without_variables w) c (nearest d.called Δ)) e (means n)).2;
-    }
-
-    -- the name `putchar`
-    pub putchar_fresh : c ≡ Callee.Putchar → Fresh w k (Verdict.Wrong FunctionTwice (at + 1))
-    putchar_fresh e = record {
-      right = λ ts f Δ d n. twice n (subst (λ (c : Callee). Means f ts (without_variables w) c (nearest d.called Δ)) e (means n));
-    }
+    -- a name that is another function's, or `putchar`
+    pub other_fresh : (c ≡ Callee.Nobody → ⊥) → Fresh w k (Err record { reason = FunctionTwice; at = at + 1 })
+    other_fresh o = record { right = λ ts f Δ d n. go c (means n) o n }
+      where
+        go : (c : Callee) {ts : List Token} {f : ℕ} {Δ : Scope Sig} {d : Def} → Means f ts (without_variables w) c (nearest d.called Δ)
+            → (c ≡ Callee.Nobody → ⊥) → Next ts f (without_variables w) k Δ d → check_head Δ d ≡ bad Faults.function_twice (at + 1)
+        go (Callee.Function r) m o n = twice n m.2
+        go Callee.Putchar m o n = twice n m
+        go Callee.Nobody m o n = absurd (o refl)
 
     -- a new name
-    pub nobody_fresh : c ≡ Callee.Nobody → Fresh w k Verdict.Fine
+    pub nobody_fresh : c ≡ Callee.Nobody → Fresh w k (Ok tt)
     nobody_fresh e = record {
       right = λ ts f Δ d n.
           let s = functions_size n.before in (

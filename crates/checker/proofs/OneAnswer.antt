@@ -1,6 +1,7 @@
 -- The contract determines the answer and every word of the table.
 use mathlib.Core.List.{List}
 use mathlib.Core.Path.{◌≡◌, sym, ap, ap₂, ◌∙◌}
+use Rattle.std.specs.Prelude.{Ok, Err}
 use Prim.Native.Nat.{ℕ}
 use Rattle.language.specs.Trees.{Program}
 use Rattle.language.specs.Meaning.{type_number}
@@ -9,16 +10,16 @@ use Rattle.numbers.specs.Meanings.{reason_meant}
 use Rattle.numbers.proofs.Apart.{same_reason}
 use Rattle.layout.specs.declared.Held.{Held}
 use Rattle.checker.specs.Checked.{Checkable, Answers, Checked}
-use Rattle.rules.specs.declared.Typing.{Typing}
+use Rattle.rules.specs.Asked.{Typing}
+use Rattle.numbers.specs.declared.Reason.{Reason}
 
 one_answer : (p : Program) (r q : Typing) → Answers r p → Answers q p → r ≡ q
-one_answer p (Typing.«Type» m) (Typing.«Type» n) (t, a, e) (u, b, d) =
-    ap Typing.«Type» (e ∙ ap type_number (program_one_type p t u a b) ∙ sym d)
-one_answer p (Typing.«Type» m) (Typing.Fault r i) (t, a, e) b = absurd (never_both p t (reason_meant r) i a b)
-one_answer p (Typing.Fault r i) (Typing.«Type» n) a (u, b, d) = absurd (never_both p u (reason_meant r) i b a)
-one_answer p (Typing.Fault r i) (Typing.Fault q j) a b =
-    let h = one_fault p (reason_meant r) (reason_meant q) i j a b in
-    ap₂ Typing.Fault (same_reason r q h.0) h.1
+one_answer p (Ok m) (Ok n) (t, a, e) (u, b, d) = ap Ok (e ∙ ap type_number (program_one_type p t u a b) ∙ sym d)
+one_answer p (Ok m) (Err d) (t, a, e) b = absurd (never_both p t (reason_meant d.reason) d.at a b)
+one_answer p (Err e) (Ok n) a (u, b, d) = absurd (never_both p u (reason_meant e.reason) e.at b a)
+one_answer p (Err e) (Err d) a b =
+    let h = one_fault p (reason_meant e.reason) (reason_meant d.reason) e.at d.at a b in
+    ap Err (ap₂ (λ (r : Reason) (i : ℕ). record { reason = r; at = i }) (same_reason e.reason d.reason h.0) h.1)
 
 -- no two answers satisfy the contract, nor do two tables
 pub checked_once : {w v u : List ℕ} {P : Held} {r q : Typing} → Checkable w P

@@ -2,6 +2,8 @@
 use mathlib.Core.List.{List, ◌∷◌}
 use mathlib.Core.Option.{Option, none, some}
 use mathlib.Core.Path.{◌≡◌, refl, sym, ap, subst, ◌∙◌}
+use Rattle.std.specs.Prelude as P
+use Rattle.std.specs.Prelude.{true, false, is_some, None, Some, Ok, Err}
 use Prim.Native.Nat.{ℕ, suc, ◌≤◌, ◌<◌}
 use native.Mathlib.Omega.{arith}
 use lib.ListN.{length}
@@ -21,12 +23,10 @@ use Rattle.layout.specs.Decode.{ParamsAt, params_more}
 use Rattle.layout.proofs.NameLaws.{named_at}
 use Rattle.layout.proofs.VariablesWords.{row_without, token_without}
 use Rattle.numbers.specs.Meanings.{reason_meant}
-use Rattle.rules.specs.Sight.{Variables, variables_none, variables_more, find_variable, found}
+use Rattle.rules.specs.Sight.{Variables, variables_none, variables_more, find_variable}
 use Rattle.phrase_types.specs.Inferred.{looked}
 use Rattle.checker.specs.Ruled.{ParameterAt, Bound}
 use Rattle.numbers.specs.declared.Reason.TheVariants.{TooManyParameters, ParameterTwice, TooManyRefs}
-use Rattle.rules.specs.declared.sight.Found.{Found}
-use Rattle.checker.specs.declared.programs.Verdict.{Verdict}
 use Rattle.rules.proofs.TellLaws.{type_told, fault_told, tells_as}
 use Rattle.phrase_types.proofs.KeptLaws.{kept_self, kept_put, variables_put}
 use Rattle.phrase_types.proofs.ScopeLaws.{look_tells, stand_few}
@@ -58,13 +58,13 @@ told_nothing (some u) r q i j e = absurd (let z : ◌≡◌ {A = ℕ} 0 1 = cc i
 module _ {ts : List Token} (few : length ts ≤ TOKENS) {w : List ℕ} {x : ℕ} {y : Name} (called : Named ts x y) {n : ℕ} {Γ : Scope Ty}
     (scope : Variables ts w n Γ) where
   -- where the search finds a variable the scope has one
-  pub found_some : {t : ℕ} → find_variable w x n ≡ some t → (u : Ty) × (nearest y Γ ≡ some u)
+  pub found_some : {t : ℕ} → find_variable w x n ≡ Some t → (u : Ty) × (nearest y Γ ≡ some u)
   found_some e =
       let h = type_told (tells_as (ap (λ o. looked o 0) e) (look_tells few called 0 scope)) in
       (h.0, told_found (nearest y Γ) no_binding 0 h.0 h.1)
 
   -- and where it finds none the scope has none
-  pub found_none : find_variable w x n ≡ none → nearest y Γ ≡ none
+  pub found_none : find_variable w x n ≡ None → nearest y Γ ≡ none
   found_none e = told_nothing (nearest y Γ) no_binding _ 0 0 (fault_told (tells_as (ap (λ o. looked o 0) e)
       (look_tells few called 0 scope)))
 
@@ -73,6 +73,15 @@ pub variables_size : {ts : List Token} {w : List ℕ} {n : ℕ} {Γ : Scope Ty} 
 unfolding size
 variables_size variables_none = refl
 variables_size (variables_more e a b r) = ap suc (variables_size r) ∙ sym e
+
+-- a search that found none, and one that found some
+none_where : (o : P.Option ℕ) → is_some o ≡ false → o ≡ None
+none_where None e = refl
+none_where (Some t) e = cc
+
+some_where : (o : P.Option ℕ) → is_some o ≡ true → (t : ℕ) × (o ≡ Some t)
+some_where None e = cc
+some_where (Some t) e = (t, refl)
 
 -- ---- one parameter
 
@@ -85,7 +94,7 @@ module _ {w : List ℕ} {row : ℕ} (r : ParameterAt w row) {at : ℕ} (ea : at 
   deep e (params_more a n c t h) = e ∙ sym (row_without w row 2 r.inside (omega arith)) ∙ t
 
   -- a ninth
-  pub ninth_bound : {k : ℕ} → PARAMETERS ≤ k → Bound w w row k (Verdict.Wrong TooManyParameters at)
+  pub ninth_bound : {k : ℕ} → PARAMETERS ≤ k → Bound w w row k (Err record { reason = TooManyParameters; at = at })
   unfolding take_params
   ninth_bound {k} l = record {
     kept = kept_self w k;
@@ -105,27 +114,27 @@ module _ {w : List ℕ} {row : ℕ} (r : ParameterAt w row) {at : ℕ} (ea : at 
         subst (λ (s : Name). Named ts name s) (sym c)
         (subst (λ (z : ℕ). Named ts z (spelling_at ts q.at)) d (named_at st q.at n))
 
-    module _ (b : Found) (eb : found b ≡ find_variable w name k) where
+    module _ (b : P.Option ℕ) (eb : b ≡ find_variable w name k) where
       -- a name that another has
-      pub twice_bound : {t : ℕ} → b ≡ Found.Is t → Bound w w row k (Verdict.Wrong ParameterTwice at)
+      pub twice_bound : is_some b ≡ true → Bound w w row k (Err record { reason = ParameterTwice; at = at })
       unfolding take_params
       twice_bound e = record {
         kept = kept_self w k;
         right = λ ts count Γ q qs st ps vs.
             let s = variables_size vs in
-            let h = found_some (stand_few st) (named st ps) vs (sym eb ∙ ap found e) in
+            let h = found_some (stand_few st) (named st ps) vs (sym eb ∙ (some_where b e).1) in
             need_yes _ _ _ _ (omega arith) (unbound_some _ _ _ h.1) ∙ ap (bad (reason_meant ParameterTwice)) (sym (own ps));
       }
 
-      module _ (new : b ≡ Found.Nowhere) {number : ℕ} (ed : number ≡ row_word w row TYPE) where
+      module _ (new : is_some b ≡ false) {number : ℕ} (ed : number ≡ row_word w row TYPE) where
         -- too many `ref`
-        pub deep_bound : OVER ≤ number → Bound w w row k (Verdict.Wrong TooManyRefs at)
+        pub deep_bound : OVER ≤ number → Bound w w row k (Err record { reason = TooManyRefs; at = at })
         unfolding take_params
         deep_bound l = record {
           kept = kept_self w k;
           right = λ ts count Γ q qs st ps vs.
               let s = variables_size vs in
-              let h = found_none (stand_few st) (named st ps) vs (sym eb ∙ ap found new) in
+              let h = found_none (stand_few st) (named st ps) vs (sym eb ∙ none_where b new) in
               let m = number_refs q.type in
               let d = deep ed ps in
               need_yes _ _ _ _ (omega arith) (unbound_none _ _ _ h (need_no _ _ _ _ (λ x. omega (arith, m.1))))
@@ -133,13 +142,13 @@ module _ {w : List ℕ} {row : ℕ} (r : ParameterAt w row) {at : ℕ} (ea : at 
         }
 
         -- one more variable
-        pub fine_bound : {v : List ℕ} → number < OVER → v ≡ put_variable w k name number → Bound w v row k Verdict.Fine
+        pub fine_bound : {v : List ℕ} → number < OVER → v ≡ put_variable w k name number → Bound w v row k (Ok tt)
         unfolding take_params
-        fine_bound {v} l ev = subst (λ (v : List ℕ). Bound w v row k Verdict.Fine) (sym ev) record {
+        fine_bound {v} l ev = subst (λ (v : List ℕ). Bound w v row k (Ok tt)) (sym ev) record {
           kept = kept_put w k name number (omega arith);
           right = λ ts count Γ q qs st ps vs.
               let s = variables_size vs in
-              let h = found_none (stand_few st) (named st ps) vs (sym eb ∙ ap found new) in
+              let h = found_none (stand_few st) (named st ps) vs (sym eb ∙ none_where b new) in
               let m = number_refs q.type in
               let d = deep ed ps in (
                 variables_put r.long (omega arith) (named st ps) d vs,

@@ -1,6 +1,7 @@
 -- The loop over a program's functions, its last expression, and what the answer then says of the program.
 use mathlib.Core.List.{List, [], ◌∷◌}
 use mathlib.Core.Path.{◌≡◌, refl, sym, subst, ◌∙◌}
+use Rattle.std.specs.Prelude.{Ok, Err}
 use Prim.Native.Nat.{ℕ, ◌+◌, ◌≤◌, ◌<◌}
 use native.Mathlib.Numerals.{add-one}
 use native.Mathlib.Omega.{arith}
@@ -24,10 +25,9 @@ use Rattle.rules.specs.Sight.{variables_none, Functions, functions_given, InSigh
 use Rattle.rules.specs.Sight as Sight
 use Rattle.rules.specs.Asked.{Tells, tells_type, tells_fault}
 use Rattle.phrase_types.specs.Inferred.{Kept, Ready, Inferred}
-use Rattle.checker.specs.Ruled.{Rules, Next, Listed, Ruled, Concluded}
-use Rattle.numbers.specs.declared.Reason.{Reason}
-use Rattle.rules.specs.declared.Typing.{Typing}
-use Rattle.checker.specs.declared.programs.Verdict.{Verdict}
+use Rattle.checker.specs.Ruled.{Verdict, Rules, Next, Listed, Ruled, Concluded}
+use Rattle.rules.specs.declared.Fault.{Fault}
+use Rattle.rules.specs.Asked.{Typing}
 use Rattle.rules.proofs.TellLaws.{fault_is, tells_from}
 use Rattle.phrase_types.proofs.KeptLaws.{kept_self, kept_then}
 
@@ -115,7 +115,7 @@ module _ {w₀ w : List ℕ} {P : Held} {k : ℕ} (u : Underway w₀ w P k) wher
           (g.right ts f Δ d (subst (λ (p : List ℕ). Next ts f p k Δ d) (sym u.kept.rest) n))
 
       -- it is wrong
-      pub underway_stops : {r : Reason} {i : ℕ} → v ≡ Verdict.Wrong r i → Concluded w₀ w₁ P (Typing.Fault r i)
+      pub underway_stops : {fault : Fault} → v ≡ Err fault → Concluded w₀ w₁ P (Err fault)
       unfolding check_from
       underway_stops e = record {
         kept = kept_then u.kept g.kept;
@@ -125,7 +125,7 @@ module _ {w₀ w : List ℕ} {P : Held} {k : ℕ} (u : Underway w₀ w P k) wher
       }
 
       -- it is fine
-      pub underway_goes : v ≡ Verdict.Fine → Underway w₀ w₁ P (k + 1)
+      pub underway_goes : v ≡ Ok tt → Underway w₀ w₁ P (k + 1)
       unfolding check_from
       underway_goes e = record {
         kept = kept_then u.kept g.kept;
@@ -210,7 +210,7 @@ module _ {w₀ w : List ℕ} {P : Held} {k : ℕ} (u : Underway w₀ w P k) wher
 -- what the executable checker answers is the written type or fault
 told_answer : {p : Program} {r : Typing} {x : Res Ty} → Tells r x → Says (HasType p) (HasFault p) x → Answers r p
 told_answer (tells_type {t = t} e) (says h) = (t, h, e)
-told_answer {p} (tells_fault {i = i} e) (faults h) = subst (λ (q : Faults.Reason). HasFault p q i) (sym e) h
+told_answer {p} (tells_fault {e = fault} e) (faults h) = subst (λ (q : Faults.Reason). HasFault p q fault.at) (sym e) h
 
 -- so an answer that tells what it answers is right
 pub answers : (p : Program) {r : Typing} → Tells r (check p) → Answers r p

@@ -1,6 +1,7 @@
 -- The loop over a function's parameters: what is told halfway, how one more goes, and how it ends.
 use mathlib.Core.List.{List, [], ◌∷◌}
 use mathlib.Core.Path.{◌≡◌, refl, sym, subst, ◌∙◌}
+use Rattle.std.specs.Prelude.{Ok, Err}
 use Prim.Native.Nat.{ℕ, ◌+◌, ◌≤◌, ◌<◌}
 use native.Mathlib.Omega.{arith}
 use lib.ListN.{length}
@@ -14,9 +15,8 @@ use Rattle.layout.specs.Decode.{ParamsAt, params_more, FunctionAt}
 use Rattle.layout.proofs.VariablesWords.{row_without}
 use Rattle.rules.specs.Sight.{Variables, variables_none}
 use Rattle.phrase_types.specs.Inferred.{Kept}
-use Rattle.checker.specs.Ruled.{ParameterAt, BoundIs, Bound, Headings, Taken}
-use Rattle.numbers.specs.declared.Reason.{Reason}
-use Rattle.checker.specs.declared.programs.Verdict.{Verdict}
+use Rattle.checker.specs.Ruled.{Verdict, ParameterAt, BoundIs, Bound, Headings, Taken}
+use Rattle.rules.specs.declared.Fault.{Fault}
 use Rattle.phrase_types.proofs.KeptLaws.{kept_self, kept_then, kept_fewer, kept_row}
 
 -- k of d's parameters are the variables, and the rest are still to be taken
@@ -60,7 +60,7 @@ module _ {w₀ w : List ℕ} {row count k : ℕ} (h : Headings w₀ row) (ec : c
   counted a = let l = h.last in ec ∙ sym (row_without w₀ row 2 (omega arith) (omega arith)) ∙ a.count
 
   -- those that are all taken
-  pub taking_ends : count ≤ k → Taken w₀ w row Verdict.Fine
+  pub taking_ends : count ≤ k → Taken w₀ w row (Ok tt)
   unfolding take_params
   taking_ends l = record {
     kept = t.kept;
@@ -112,14 +112,14 @@ module _ {w₀ w : List ℕ} {row count k : ℕ} (h : Headings w₀ row) (ec : c
               (subst (λ (p : List ℕ). ParamsAt ts p (row + k + 1) (q ∷ qs)) (sym t.kept.rest) ps) s.variables)
 
       -- it is wrong
-      pub taking_stops : {r : Reason} {i : ℕ} → v ≡ Verdict.Wrong r i → Taken w₀ w' row (Verdict.Wrong r i)
+      pub taking_stops : {fault : Fault} → v ≡ Err fault → Taken w₀ w' row (Err fault)
       taking_stops e = record {
         kept = bound_kept;
         right = λ ts n f d st a. next_is ts n f d st a λ q qs Γ ps m x b. x ∙ subst (λ (v : Verdict). BoundIs ts w' k Γ q qs v) e b;
       }
 
       -- it is taken
-      pub taking_goes : v ≡ Verdict.Fine → Taking w₀ w' row count (k + 1)
+      pub taking_goes : v ≡ Ok tt → Taking w₀ w' row count (k + 1)
       taking_goes e = record {
         kept = bound_kept;
         few = omega arith;

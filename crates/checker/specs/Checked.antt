@@ -1,5 +1,5 @@
 -- What the checker asks and promises: of every program that the table holds, its type or its first fault.
-use Rattle.std.specs.Prelude.{List, ◌≡◌, ℕ}
+use Rattle.std.specs.Prelude.{Ok, Err, List, ◌≡◌, ℕ}
 use Rattle.language.specs.Tokens.{Token}
 use Rattle.language.specs.Trees.{Ty, Program}
 use Rattle.language.specs.Types.{HasType}
@@ -9,7 +9,7 @@ use Rattle.layout.specs.Table.{without_variables}
 use Rattle.layout.specs.Decode.{Holds}
 use Rattle.layout.specs.declared.Held.{Held}
 use Rattle.numbers.specs.Meanings.{reason_meant}
-use Rattle.rules.specs.declared.Typing.{Typing}
+use Rattle.rules.specs.Asked.{Typing}
 
 -- the table holds some program
 pub record Checkable (w : List ℕ) (P : Held) : Type 0 where
@@ -20,8 +20,8 @@ pub record Checkable (w : List ℕ) (P : Held) : Type 0 where
 -- what the answer says of the program p: its type, by the type's number, or its first fault and the token that this is
 -- told at
 abbrev pub Answers : Typing → Program → Type 0
-Answers (Typing.«Type» n) p = (t : Ty) × HasType p t × (n ≡ type_number t)
-Answers (Typing.Fault r i) p = HasFault p (reason_meant r) i
+Answers (Ok n) p = (t : Ty) × HasType p t × (n ≡ type_number t)
+Answers (Err e) p = HasFault p (reason_meant e.reason) e.at
 
 -- the answer is right of every program that the table held, and the variables are cleared
 pub record Checked (w w' : List ℕ) (P : Held) (r : Typing) : Type 0 where

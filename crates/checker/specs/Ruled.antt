@@ -1,6 +1,6 @@
 -- What is asked and promised of functions and programs: the verdict is what the executable checker of the language
 -- answers.
-use Rattle.std.specs.Prelude.{List, ◌∷◌, ◌≡◌, ℕ, ◌+◌, ◌≤◌, ◌<◌, length}
+use Rattle.std.specs.Prelude.{Result, Ok, Err, List, ◌∷◌, ◌≡◌, ℕ, ◌+◌, ◌≤◌, ◌<◌, length}
 use Rattle.std.proofs.Math.Decide.{dec_le}
 use Rattle.language.specs.Sizes.{TOKENS, NODES, TABLE, REFS, FUNCTIONS}
 use Rattle.language.specs.Tokens.{Token}
@@ -16,15 +16,18 @@ use Rattle.layout.specs.Decode.{ParamsAt, FunctionAt, Holds}
 use Rattle.layout.specs.declared.Held.{Held}
 use Rattle.numbers.specs.Meanings.{reason_meant}
 use Rattle.rules.specs.Sight.{Variables, Functions}
-use Rattle.rules.specs.Asked.{Tells}
+use Rattle.rules.specs.Asked.{Typing, Tells}
 use Rattle.phrase_types.specs.Inferred.{Kept, Ready}
-use Rattle.rules.specs.declared.Typing.{Typing}
-use Rattle.checker.specs.declared.programs.Verdict.{Verdict}
+use Rattle.rules.specs.declared.Fault.{Fault}
+
+-- that all is fine, or why it is not
+abbrev pub Verdict : Type 0
+Verdict = Result (Unit {0}) Fault
 
 -- the verdict on something: P where it is fine, and else why it is not
 abbrev pub Rules : {A : Type 0} → Verdict → Res A → (A → Type 0) → Type 0
-Rules {A} Verdict.Fine x P = (a : A) × (x ≡ ok a) × P a
-Rules (Verdict.Wrong r i) x P = x ≡ bad (reason_meant r) i
+Rules {A} (Ok _) x P = (a : A) × (x ≡ ok a) × P a
+Rules (Err e) x P = x ≡ bad (reason_meant e.reason) e.at
 
 -- ---- parameters
 
@@ -36,10 +39,10 @@ pub record ParameterAt (w : List ℕ) (row : ℕ) : Type 0 where
 
 -- it is bound as variable k, and the others follow; or that ends them all
 abbrev pub BoundIs : List Token → List ℕ → ℕ → Scope Ty → Param → List Param → Verdict → Type 0
-BoundIs ts w k Γ q qs Verdict.Fine =
+BoundIs ts w k Γ q qs (Ok _) =
     Variables ts w (k + 1) (push q.called q.type Γ)
     × (take_params (q ∷ qs) Γ ≡ take_params qs (push q.called q.type Γ))
-BoundIs ts w k Γ q qs (Verdict.Wrong r i) = take_params (q ∷ qs) Γ ≡ bad (reason_meant r) i
+BoundIs ts w k Γ q qs (Err e) = take_params (q ∷ qs) Γ ≡ bad (reason_meant e.reason) e.at
 
 -- parameter k, at row `row`, behind the parameters Γ
 pub record Bound (w w' : List ℕ) (row k : ℕ) (r : Verdict) : Type 0 where

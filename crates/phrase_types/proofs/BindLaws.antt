@@ -3,6 +3,8 @@ use mathlib.Core.Bool.{Bool, true, false, ◌&&◌}
 use mathlib.Core.List.{List, [], ◌∷◌}
 use mathlib.Core.Option.{some}
 use mathlib.Core.Path.{◌≡◌, refl, sym, ap, ap₂, subst, ◌∙◌}
+use Rattle.rules.specs.declared.Fault.{Fault}
+use Rattle.std.specs.Prelude.{Ok, Err}
 use Prim.Native.Nat.{ℕ, zero, suc, ◌+◌, ◌≤◌, ◌<◌}
 use native.Mathlib.Numerals.{add-one}
 use native.Mathlib.Omega.{arith}
@@ -27,11 +29,10 @@ use Rattle.numbers.specs.Meanings.{reason_meant}
 use Rattle.rules.specs.Sight.{Variables, InSight, callee_in, Means, expected_in}
 use Rattle.rules.specs.Asked.{Tells, Children, AsksCall, suits}
 use Rattle.phrase_types.specs.Inferred.{Kept, Told, ToldAll, TellsAll, tells_types, tells_wrong}
-use Rattle.numbers.specs.declared.Reason.{Reason}
-use Rattle.rules.specs.declared.Typing.{Typing}
+use Rattle.rules.specs.Asked.{Typing}
 use Rattle.rules.specs.declared.sight.Callee.{Callee}
 use Rattle.rules.specs.declared.sight.Taker.{Taker}
-use Rattle.phrase_types.specs.declared.expressions.Passed.{Passed}
+use Rattle.phrase_types.specs.Inferred.{Passing}
 use Rattle.rules.proofs.TellLaws.{fault_is, type_told, fault_told, tells_from}
 use Rattle.phrase_types.proofs.KeptLaws.{variables_kept, variables_put}
 use Rattle.phrase_types.proofs.ScopeLaws.{callee_means}
@@ -62,7 +63,7 @@ module _ {p w w' : List ℕ} {seen binds : ℕ} (same : p ≡ without_variables 
 
   -- its body's answer is that of a `let`, where the body sees what is bound
   pub let_goes : {node x n : ℕ} {r : Typing} → row_word p node KIND ≡ LET → x ≡ token_value p (row_word p node OWN + 1)
-      → Told p w (row_word p node FIRST) seen binds (Typing.«Type» n)
+      → Told p w (row_word p node FIRST) seen binds (Ok n)
       → Told (without_variables (put_variable w' binds x n)) (put_variable w' binds x n) (row_word p node SECOND) seen (binds + 1) r
       → Told p w node seen binds r
   unfolding infer build shape_of entry
@@ -80,22 +81,22 @@ module _ {p w w' : List ℕ} {seen binds : ℕ} (same : p ≡ without_variables 
 -- an answer by its case, and back
 types_are : {w : List ℕ} {c : Taker} {k : ℕ} {b : Bool} {n : ℕ} {s : Bool} {x : Res (List Ty)} (ts : List Ty) → x ≡ ok ts
     → n ≡ k + length ts
-    → s ≡ (b && suits w c k ts) → TellsAll w c k b (Passed.Typed n s) x
-types_are {w} {c} {k} {b} {n} {s} ts e p q = subst (λ (x : Res (List Ty)). TellsAll w c k b (Passed.Typed n s) x) (sym e) (tells_types p q)
+    → s ≡ (b && suits w c k ts) → TellsAll w c k b (Ok record { count = n; suited = s }) x
+types_are {w} {c} {k} {b} {n} {s} ts e p q = subst (λ (x : Res (List Ty)). TellsAll w c k b (Ok record { count = n; suited = s }) x) (sym e) (tells_types p q)
 
-wrong_is : {w : List ℕ} {c : Taker} {k : ℕ} {b : Bool} {r : Reason} {i : ℕ} {x : Res (List Ty)} → x ≡ bad (reason_meant r) i
-    → TellsAll w c k b (Passed.Wrong r i) x
-wrong_is {w} {c} {k} {b} {r} {i} e = subst (λ (x : Res (List Ty)). TellsAll w c k b (Passed.Wrong r i) x) (sym e) (tells_wrong refl)
+wrong_is : {w : List ℕ} {c : Taker} {k : ℕ} {b : Bool} {fault : Fault} {x : Res (List Ty)} → x ≡ bad (reason_meant fault.reason) fault.at
+    → TellsAll w c k b (Err fault) x
+wrong_is {w} {c} {k} {b} {fault} e = subst (λ (x : Res (List Ty)). TellsAll w c k b (Err fault) x) (sym e) (tells_wrong refl)
 
 -- what was told
-pub types_told : {w : List ℕ} {c : Taker} {k : ℕ} {b : Bool} {n : ℕ} {s : Bool} {x : Res (List Ty)} → TellsAll w c k b (Passed.Typed n s) x
+pub types_told : {w : List ℕ} {c : Taker} {k : ℕ} {b : Bool} {n : ℕ} {s : Bool} {x : Res (List Ty)} → TellsAll w c k b (Ok record { count = n; suited = s }) x
     → (ts : List Ty) × (x ≡ ok ts) × (n ≡ k + length ts) × (s ≡ (b && suits w c k ts))
 types_told (tells_types {ts = ts} p q) = (ts, refl, p, q)
 
 -- what was told
-pub wrong_told : {w : List ℕ} {c : Taker} {k : ℕ} {b : Bool} {r : Reason} {i : ℕ} {x : Res (List Ty)}
-    → TellsAll w c k b (Passed.Wrong r i) x → x ≡ bad (reason_meant r) i
-wrong_told (tells_wrong {i = i} p) = ap (λ q. bad q i) (sym p)
+pub wrong_told : {w : List ℕ} {c : Taker} {k : ℕ} {b : Bool} {fault : Fault} {x : Res (List Ty)}
+    → TellsAll w c k b (Err fault) x → x ≡ bad (reason_meant fault.reason) fault.at
+wrong_told (tells_wrong {e = fault} p) = ap (λ q. bad q fault.at) (sym p)
 
 and_true : (b : Bool) → b ≡ (b && true)
 and_true true = refl
@@ -117,7 +118,7 @@ unfolding args_at
 an_argument f ts p i h = rw (ne_eqb i 0 h) refl
 
 -- one more argument's answer with those of the later ones
-one_more : {w : List ℕ} {c : Taker} {k n v : ℕ} {b : Bool} {q : Passed} {x : Res (List Ty)} {t : Ty} → n ≡ type_number t
+one_more : {w : List ℕ} {c : Taker} {k n v : ℕ} {b : Bool} {q : Passing} {x : Res (List Ty)} {t : Ty} → n ≡ type_number t
     → v ≡ expected_in w c k
     → TellsAll w c (k + 1) (b && eqb n v) q x → {y : Res (List Ty)} → ((ts : List Ty) → x ≡ ok ts → y ≡ ok (t ∷ ts))
     → ((r : Faults.Reason) (i : ℕ) → x ≡ bad r i → y ≡ bad r i)
@@ -127,18 +128,18 @@ one_more {w} {c} {k} {n} {v} {b} {t = t} p o (tells_types {ts = ts} e d) f g =
     types_are (t ∷ ts) (f ts refl) (e ∙ omega arith)
     (d ∙ ap (λ (j : ℕ). (b && eqb n v) && suits w c j ts) (add-one k) ∙ and_and b (eqb n v) (suits w c (suc k) ts)
     ∙ ap (λ (z : Bool). b && (z && suits w c (suc k) ts)) (ap₂ eqb p o))
-one_more p o (tells_wrong {q = r} {i = i} e) f g = wrong_is (g r i refl ∙ ap (λ r. bad r i) (sym e))
+one_more p o (tells_wrong {e = fault} {q = r} e) f g = wrong_is (g r fault.at refl ∙ ap (λ r. bad r fault.at) (sym e))
 
 module _ {p w : List ℕ} {row seen binds : ℕ} {c : Taker} {k : ℕ} {b : Bool} where
   -- no argument
-  pub args_end : row ≡ 0 → ToldAll p w row seen binds c k b (Passed.Typed k b)
+  pub args_end : row ≡ 0 → ToldAll p w row seen binds c k b (Ok record { count = k; suited = b })
   unfolding infers suits
   args_end e ts f Δ Γ st = types_are [] (ap (λ es. infers Δ es Γ) (no_argument f ts p row e)) (omega arith) (and_true b)
 
   module _ (some_row : row ≡ 0 → ⊥) where
     -- a fault of the first
-    pub args_stop : {r : Reason} {i : ℕ} → Told p w (row_word p row EXPRESSION) seen binds (Typing.Fault r i)
-        → ToldAll p w row seen binds c k b (Passed.Wrong r i)
+    pub args_stop : {fault : Fault} → Told p w (row_word p row EXPRESSION) seen binds (Err fault)
+        → ToldAll p w row seen binds c k b (Err fault)
     unfolding infers RightArgs
     args_stop h ts zero Δ Γ st = absurd (some_row st.whole)
     args_stop h ts (suc f) Δ Γ st =
@@ -147,7 +148,7 @@ module _ {p w : List ℕ} {row seen binds : ℕ} {c : Taker} {k : ℕ} {b : Bool
         ∙ after_bad _ (fault_told (h ts f Δ Γ record { depth = st.depth; sight = st.sight; whole = a.exp.1; scope = st.scope })))
 
     -- the later ones' answer, with the first
-    pub args_go : {n v : ℕ} {q : Passed} → v ≡ expected_in p c k → Told p w (row_word p row EXPRESSION) seen binds (Typing.«Type» n)
+    pub args_go : {n v : ℕ} {q : Passing} → v ≡ expected_in p c k → Told p w (row_word p row EXPRESSION) seen binds (Ok n)
         → ToldAll p w (row_word p row NEXT) seen binds c (k + 1) (b && eqb n v) q → ToldAll p w row seen binds c k b q
     unfolding infers RightArgs
     args_go o h g ts zero Δ Γ st = absurd (some_row st.whole)
@@ -162,8 +163,8 @@ module _ {p w : List ℕ} {row seen binds : ℕ} {c : Taker} {k : ℕ} {b : Bool
 
 module _ {p w : List ℕ} {node seen binds : ℕ} (kind : row_word p node KIND ≡ CALL) {c : Callee} where
   -- a fault of its arguments is the call's
-  pub call_stops : {r : Reason} {i : ℕ} → ToldAll p w (row_word p node FIRST) seen binds (Taker.Call c) 0 true (Passed.Wrong r i)
-      → Told p w node seen binds (Typing.Fault r i)
+  pub call_stops : {fault : Fault} → ToldAll p w (row_word p node FIRST) seen binds (Taker.Call c) 0 true (Err fault)
+      → Told p w node seen binds (Err fault)
   unfolding infer build shape_of entry
   call_stops h =
       told_shape a_call (ap shape_of kind) λ ts f Δ Γ st nd.
@@ -173,7 +174,7 @@ module _ {p w : List ℕ} {node seen binds : ℕ} (kind : row_word p node KIND �
   -- and when all have types the call asks
   pub call_goes : {x n i : ℕ} {s : Bool} {r : Typing} → x ≡ token_value p (row_word p node OWN) → c ≡ callee_in p x seen
       → i ≡ row_word p node OWN
-      → ToldAll p w (row_word p node FIRST) seen binds (Taker.Call c) 0 true (Passed.Typed n s) → AsksCall p c n s i r → Told p w node seen binds r
+      → ToldAll p w (row_word p node FIRST) seen binds (Taker.Call c) 0 true (Ok record { count = n; suited = s }) → AsksCall p c n s i r → Told p w node seen binds r
   unfolding build shape_of entry
   call_goes {x} {n} {s = s} {r = r} ex ec ei h asks =
       told_shape a_call (ap shape_of kind) λ ts f Δ Γ st nd.

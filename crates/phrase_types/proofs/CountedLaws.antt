@@ -2,6 +2,8 @@
 use mathlib.Core.Bool.{Bool, true}
 use mathlib.Core.List.{List}
 use mathlib.Core.Path.{◌≡◌, refl, sym, ap, subst, subst₂, ◌∙◌}
+use Rattle.rules.specs.declared.Fault.{Fault}
+use Rattle.std.specs.Prelude.{Ok, Err}
 use Prim.Native.Nat.{ℕ, suc, ◌+◌, ◌≤◌, ◌<◌}
 use native.Mathlib.Omega.{arith}
 use lib.ListN.{length}
@@ -19,10 +21,9 @@ use Rattle.layout.proofs.NameLaws.{named_at}
 use Rattle.layout.proofs.VariablesWords.{token_without}
 use Rattle.rules.specs.Asked.{Tells, AsksFor}
 use Rattle.phrase_types.specs.Inferred.{Kept, Stands, Ready, Told, Inferred, ReadyAll, ToldAll, InferredAll}
-use Rattle.numbers.specs.declared.Reason.{Reason}
-use Rattle.rules.specs.declared.Typing.{Typing}
+use Rattle.rules.specs.Asked.{Typing}
 use Rattle.rules.specs.declared.sight.Taker.TheVariants as Taker
-use Rattle.phrase_types.specs.declared.expressions.Passed.{Passed}
+use Rattle.phrase_types.specs.Inferred.{Passing}
 use Rattle.rules.proofs.TellLaws.{fault_is, type_told, fault_told}
 use Rattle.rules.proofs.ShapeLaws.{for_shape}
 use Rattle.phrase_types.proofs.KeptLaws.{kept_then, kept_fewer, kept_put}
@@ -49,14 +50,14 @@ module _ {p w : List ℕ} {node seen binds : ℕ} (kind : counts (row_word p nod
   stands_bounds st nd = record { depth = st.depth; sight = st.sight; whole = (nd.loops kind).bounds.1; scope = st.scope }
 
   -- a fault of its bounds
-  bounds_stop : {r : Reason} {i : ℕ} → ToldAll p w (row_word p node START) seen binds Taker.For 0 true (Passed.Wrong r i)
-      → Told p w node seen binds (Typing.Fault r i)
+  bounds_stop : {fault : Fault} → ToldAll p w (row_word p node START) seen binds Taker.For 0 true (Err fault)
+      → Told p w node seen binds (Err fault)
   unfolding infer build
   bounds_stop h = told_for λ ts f Δ Γ b st nd. fault_is (after_bad _ (wrong_told (h ts f Δ Γ (stands_bounds st nd))))
 
   module _ {w' : List ℕ} (same : p ≡ without_variables w') (kept : Kept w w' binds) (long : TABLE ≤ length w') (room : binds < TOKENS)
       {x m n : ℕ} {s : Bool} (ex : x ≡ token_value p (row_word p node OWN + 1)) (ei : m ≡ type_number int)
-      (h : ToldAll p w (row_word p node START) seen binds Taker.For 0 true (Passed.Typed n s)) where
+      (h : ToldAll p w (row_word p node START) seen binds Taker.For 0 true (Ok record { count = n; suited = s })) where
     pass_told : {r : Typing}
         → Told (without_variables (put_variable w' binds x m)) (put_variable w' binds x m) (row_word p node PASS) seen (binds + 1) r
         → {ts : List Token} {f : ℕ} {Δ : Scope Sig} {Γ : Scope Ty} → Stands Right p w node seen binds ts (suc f) Δ Γ
@@ -68,9 +69,9 @@ module _ {p w : List ℕ} {node seen binds : ℕ} (kind : counts (row_word p nod
         under_told same kept long room g ts st.depth f Δ Γ y int st.sight st.scope (nd.loops kind).body.1 nm ei
 
     -- a fault of its body
-    pass_stops : {r : Reason} {i : ℕ}
-        → Told (without_variables (put_variable w' binds x m)) (put_variable w' binds x m) (row_word p node PASS) seen (binds + 1) (Typing.Fault r i)
-        → Told p w node seen binds (Typing.Fault r i)
+    pass_stops : {fault : Fault}
+        → Told (without_variables (put_variable w' binds x m)) (put_variable w' binds x m) (row_word p node PASS) seen (binds + 1) (Err fault)
+        → Told p w node seen binds (Err fault)
     unfolding infer build
     pass_stops g = told_for λ ts f Δ Γ b st nd.
         let u = types_told (h ts f Δ Γ (stands_bounds st nd)) in
@@ -78,7 +79,7 @@ module _ {p w : List ℕ} {node seen binds : ℕ} (kind : counts (row_word p nod
 
     -- all have types: the `for` asks
     for_goes : {v i : ℕ} {r : Typing} → i ≡ row_word p node OWN
-        → Told (without_variables (put_variable w' binds x m)) (put_variable w' binds x m) (row_word p node PASS) seen (binds + 1) (Typing.«Type» v)
+        → Told (without_variables (put_variable w' binds x m)) (put_variable w' binds x m) (row_word p node PASS) seen (binds + 1) (Ok v)
         → AsksFor n s v i r → Told p w node seen binds r
     unfolding build
     for_goes {v} {r = r} eo g asks = told_for λ ts f Δ Γ b st nd.
@@ -101,12 +102,12 @@ module _ {w : List ℕ} {node seen binds : ℕ} (r : Ready w node seen binds) (k
       subst (λ (row : ℕ). (covered_all w row < covered w node) × ReadyAll w row seen binds Taker.For 0) (ready_row r 2 (omega arith) ∙ sym e)
       (fewer_bounds w q.f r.tokens q.row (ready_counts r kind), ready_list r q.f _ h.0 h.1 (q.bounds (ready_counts r kind)) tt)
 
-  module _ {row : ℕ} (er : row ≡ row_word w node START) {w₁ : List ℕ} {s : Passed} (h : InferredAll w w₁ row seen binds Taker.For 0 true s) where
-    bounds_told : {q : Passed} → s ≡ q → ToldAll pf w (row_word pf node START) seen binds Taker.For 0 true q
-    bounds_told e = subst₂ (λ (s : Passed) (j : ℕ). ToldAll pf w j seen binds Taker.For 0 true s) e (plain r 2 (omega arith) er) h.right
+  module _ {row : ℕ} (er : row ≡ row_word w node START) {w₁ : List ℕ} {s : Passing} (h : InferredAll w w₁ row seen binds Taker.For 0 true s) where
+    bounds_told : {q : Passing} → s ≡ q → ToldAll pf w (row_word pf node START) seen binds Taker.For 0 true q
+    bounds_told e = subst₂ (λ (s : Passing) (j : ℕ). ToldAll pf w j seen binds Taker.For 0 true s) e (plain r 2 (omega arith) er) h.right
 
     -- a fault of a bound
-    pub bounds_inferred : {q : Reason} {i : ℕ} → s ≡ Passed.Wrong q i → Inferred w w₁ node seen binds (Typing.Fault q i)
+    pub bounds_inferred : {fault : Fault} → s ≡ Err fault → Inferred w w₁ node seen binds (Err fault)
     bounds_inferred e = record { kept = h.kept; right = bounds_stop (ready_counts r kind) (bounds_told e) }
 
     module _ {x m j : ℕ} {v : List ℕ} (ex : x ≡ token_value w (row_word w node OWN + 1)) (ei : m ≡ type_number int)
@@ -121,7 +122,7 @@ module _ {w : List ℕ} {node seen binds : ℕ} (r : Ready w node seen binds) (k
             ready_with r h.kept int q.f _ (behind_named r h.kept l.named ex) ei l.body.1 (q.body (ready_counts r kind)),
           )
 
-      module _ {n : ℕ} {b : Bool} (es : s ≡ Passed.Typed n b) {w₂ : List ℕ} {t : Typing} (g : Inferred v w₂ j seen (binds + 1) t) where
+      module _ {n : ℕ} {b : Bool} (es : s ≡ Ok record { count = n; suited = b }) {w₂ : List ℕ} {t : Typing} (g : Inferred v w₂ j seen (binds + 1) t) where
         body_inferred : {q : Typing} → t ≡ q → Inferred (put_variable w₁ binds x m) w₂ (row_word pf node PASS) seen (binds + 1) q
         body_inferred e =
             inferred_as e (subst₂ (λ (v : List ℕ) (j : ℕ). Inferred v w₂ j seen (binds + 1) t) ev (plain r 3 (omega arith) ej) g)
@@ -136,7 +137,7 @@ module _ {w : List ℕ} {node seen binds : ℕ} (r : Ready w node seen binds) (k
             ∙ token_without w (row_word w node OWN + 1) 3 (ready_looped r kind) (omega arith))
 
         -- a fault of its body
-        pub pass_inferred : {q : Reason} {i : ℕ} → t ≡ Typing.Fault q i → Inferred w w₂ node seen binds (Typing.Fault q i)
+        pub pass_inferred : {fault : Fault} → t ≡ Err fault → Inferred w w₂ node seen binds (Err fault)
         pass_inferred e = record {
           kept = pass_kept;
           right = pass_stops (ready_counts r kind) (sym h.kept.rest) h.kept (omega (arith, r.long, h.kept.long)) (ready_binds r)
@@ -144,7 +145,7 @@ module _ {w : List ℕ} {node seen binds : ℕ} (r : Ready w node seen binds) (k
         }
 
         -- a `for` asks
-        pub counted_inferred : {k i : ℕ} {q : Typing} → t ≡ Typing.«Type» k → i ≡ row_word w node OWN → AsksFor n b k i q
+        pub counted_inferred : {k i : ℕ} {q : Typing} → t ≡ Ok k → i ≡ row_word w node OWN → AsksFor n b k i q
             → Inferred w w₂ node seen binds q
         counted_inferred e eo asks = record {
           kept = pass_kept;

@@ -2,6 +2,8 @@
 use mathlib.Core.Bool.{Bool, true, ◌&&◌}
 use mathlib.Core.List.{List}
 use mathlib.Core.Path.{◌≡◌, sym, ap, subst, subst₂, ◌∙◌}
+use Rattle.rules.specs.declared.Fault.{Fault}
+use Rattle.std.specs.Prelude.{Ok, Err}
 use Prim.Native.Nat.{ℕ, ◌+◌, ◌≤◌, ◌<◌}
 use native.Mathlib.Omega.{arith}
 use lib.Dec.{eqb}
@@ -15,11 +17,10 @@ use Rattle.layout.specs.Decode.{counts}
 use Rattle.rules.specs.Sight.{find_variable, callee_in, Rowed, expected_in}
 use Rattle.rules.specs.Asked.{Children, Constant, AsksOne, AsksTwo, AsksIf, AsksCall}
 use Rattle.phrase_types.specs.Inferred.{looked, Ready, Told, Inferred, ReadyAll, ToldAll, InferredAll}
-use Rattle.numbers.specs.declared.Reason.{Reason}
-use Rattle.rules.specs.declared.Typing.{Typing}
+use Rattle.rules.specs.Asked.{Typing}
 use Rattle.rules.specs.declared.sight.Callee.{Callee}
 use Rattle.rules.specs.declared.sight.Taker.{Taker}
-use Rattle.phrase_types.specs.declared.expressions.Passed.{Passed}
+use Rattle.phrase_types.specs.Inferred.{Passing}
 use Rattle.phrase_types.proofs.KeptLaws.{kept_self, kept_then, kept_fewer, kept_put, told_before, told_all_before}
 use Rattle.phrase_types.proofs.ScopeLaws.{sight_headed}
 use Rattle.rules.proofs.PlainLaws.{callee_plain, rowed_plain, expected_plain, asks_plain}
@@ -65,7 +66,7 @@ module _ {w : List ℕ} {node seen binds : ℕ} (r : Ready w node seen binds) wh
   -- a constant
   pub constant_inferred : {k m n : ℕ} → k ≡ row_word w node KIND → (k ≡ NAME → ⊥) → (k ≡ CALL → ⊥) → (counts k ≡ true → ⊥)
       → Children k m → m ≡ 0 → Constant k n
-      → Inferred w w node seen binds (Typing.«Type» n)
+      → Inferred w w node seen binds (Ok n)
   constant_inferred {k} {n = n} ek nn nc nf has z c =
       let e = plain 0 (omega arith) ek in
       record {
@@ -78,16 +79,16 @@ module _ {w : List ℕ} {node seen binds : ℕ} (r : Ready w node seen binds) wh
 
   module _ {w₁ : List ℕ} {j : ℕ} {s : Typing} (ej : j ≡ row_word w node FIRST) (h : Inferred w w₁ j seen binds s) where
     -- a fault of the first child
-    pub first_inferred : {m : ℕ} → Children (row_word w node KIND) m → 1 ≤ m → {q : Reason} {i : ℕ} → s ≡ Typing.Fault q i
-        → Inferred w w₁ node seen binds (Typing.Fault q i)
+    pub first_inferred : {m : ℕ} → Children (row_word w node KIND) m → 1 ≤ m → {fault : Fault} → s ≡ Err fault
+        → Inferred w w₁ node seen binds (Err fault)
     first_inferred has l e = record {
       kept = h.kept;
       right = first_stops (children_plain has) l (told_at 2 (omega arith) ej (inferred_as e h).right);
     }
 
-    module _ {m : ℕ} (es : s ≡ Typing.«Type» m) where
+    module _ {m : ℕ} (es : s ≡ Ok m) where
       -- what is told of the first child
-      pub first_told : Told p w (row_word p node FIRST) seen binds (Typing.«Type» m)
+      pub first_told : Told p w (row_word p node FIRST) seen binds (Ok m)
       first_told = told_at 2 (omega arith) ej (inferred_as es h).right
 
       -- a node with one child asks
@@ -110,14 +111,14 @@ module _ {w : List ℕ} {node seen binds : ℕ} (r : Ready w node seen binds) wh
           other_plain e = other (sym (ready_row r 0 (omega arith)) ∙ e)
 
           -- a fault of the second of two
-          pub second_inferred : {q : Reason} {i : ℕ} → t ≡ Typing.Fault q i → Inferred w w₂ node seen binds (Typing.Fault q i)
+          pub second_inferred : {fault : Fault} → t ≡ Err fault → Inferred w w₂ node seen binds (Err fault)
           second_inferred e = record {
             kept = kept_then h.kept g.kept;
             right = second_stops (children_plain has) other_plain first_told (second_told e);
           }
 
           -- a node with two children asks
-          pub two_inferred : {k i n : ℕ} {q : Typing} → t ≡ Typing.«Type» n → k ≡ row_word w node KIND → i ≡ row_word w node OWN
+          pub two_inferred : {k i n : ℕ} {q : Typing} → t ≡ Ok n → k ≡ row_word w node KIND → i ≡ row_word w node OWN
               → AsksTwo k m n i q
               → Inferred w w₂ node seen binds q
           two_inferred e ek ei asks = record {
@@ -128,26 +129,26 @@ module _ {w : List ℕ} {node seen binds : ℕ} (r : Ready w node seen binds) wh
 
         module _ (has : Children (row_word w node KIND) 3) where
           -- a fault of the first branch of an `if`
-          pub then_inferred : {q : Reason} {i : ℕ} → t ≡ Typing.Fault q i → Inferred w w₂ node seen binds (Typing.Fault q i)
+          pub then_inferred : {fault : Fault} → t ≡ Err fault → Inferred w w₂ node seen binds (Err fault)
           then_inferred e = record {
             kept = kept_then h.kept g.kept;
             right = then_stops (children_plain has) first_told (second_told e);
           }
 
-          module _ {n : ℕ} (et : t ≡ Typing.«Type» n) {w₃ : List ℕ} {j₃ : ℕ} {u : Typing} (ej₃ : j₃ ≡ row_word w node THIRD)
+          module _ {n : ℕ} (et : t ≡ Ok n) {w₃ : List ℕ} {j₃ : ℕ} {u : Typing} (ej₃ : j₃ ≡ row_word w node THIRD)
               (f : Inferred w₂ w₃ j₃ seen binds u) where
             third_told : {q : Typing} → u ≡ q → Told p w (row_word p node THIRD) seen binds q
             third_told e = told_at 4 (omega arith) ej₃ (told_before (kept_then h.kept g.kept) (inferred_as e f).right)
 
             -- a fault of its second branch
-            pub else_inferred : {q : Reason} {i : ℕ} → u ≡ Typing.Fault q i → Inferred w w₃ node seen binds (Typing.Fault q i)
+            pub else_inferred : {fault : Fault} → u ≡ Err fault → Inferred w w₃ node seen binds (Err fault)
             else_inferred e = record {
               kept = kept_then (kept_then h.kept g.kept) f.kept;
               right = else_stops (children_plain has) first_told (second_told et) (third_told e);
             }
 
             -- an `if` asks
-            pub if_inferred : {l i : ℕ} {q : Typing} → u ≡ Typing.«Type» l → i ≡ row_word w node OWN → AsksIf m n l i q
+            pub if_inferred : {l i : ℕ} {q : Typing} → u ≡ Ok l → i ≡ row_word w node OWN → AsksIf m n l i q
                 → Inferred w w₃ node seen binds q
             if_inferred e ei asks = record {
               kept = kept_then (kept_then h.kept g.kept) f.kept;
@@ -175,15 +176,15 @@ module _ {w : List ℕ} {node seen binds : ℕ} (r : Ready w node seen binds) wh
 
   module _ (kind : row_word w node KIND ≡ CALL) {x row : ℕ} {c : Callee} (ex : x ≡ token_value w (row_word w node OWN))
       (ec : c ≡ callee_in w x seen)
-      (er : row ≡ row_word w node FIRST) {w₁ : List ℕ} {s : Passed} (h : InferredAll w w₁ row seen binds (Taker.Call c) 0 true s) where
+      (er : row ≡ row_word w node FIRST) {w₁ : List ℕ} {s : Passing} (h : InferredAll w w₁ row seen binds (Taker.Call c) 0 true s) where
     kind_plain : row_word p node KIND ≡ CALL
     kind_plain = ready_row r 0 (omega arith) ∙ kind
 
-    args_told : {q : Passed} → s ≡ q → ToldAll p w (row_word p node FIRST) seen binds (Taker.Call c) 0 true q
-    args_told e = subst₂ (λ (s : Passed) (j : ℕ). ToldAll p w j seen binds (Taker.Call c) 0 true s) e (plain 2 (omega arith) er) h.right
+    args_told : {q : Passing} → s ≡ q → ToldAll p w (row_word p node FIRST) seen binds (Taker.Call c) 0 true q
+    args_told e = subst₂ (λ (s : Passing) (j : ℕ). ToldAll p w j seen binds (Taker.Call c) 0 true s) e (plain 2 (omega arith) er) h.right
 
     -- a fault of an argument
-    pub arguments_inferred : {q : Reason} {i : ℕ} → s ≡ Passed.Wrong q i → Inferred w w₁ node seen binds (Typing.Fault q i)
+    pub arguments_inferred : {fault : Fault} → s ≡ Err fault → Inferred w w₁ node seen binds (Err fault)
     arguments_inferred e = record { kept = h.kept; right = call_stops kind_plain (args_told e) }
 
     rowed : Rowed (without_variables w₁) c
@@ -194,7 +195,7 @@ module _ {w : List ℕ} {node seen binds : ℕ} (r : Ready w node seen binds) wh
     callee_ready = (omega (arith, r.long, h.kept.long), rowed_plain w₁ c rowed)
 
     -- a call asks
-    pub call_inferred : {n i : ℕ} {b : Bool} {q : Typing} → s ≡ Passed.Typed n b → i ≡ row_word w node OWN → AsksCall w₁ c n b i q
+    pub call_inferred : {n i : ℕ} {b : Bool} {q : Typing} → s ≡ Ok record { count = n; suited = b } → i ≡ row_word w node OWN → AsksCall w₁ c n b i q
         → Inferred w w₁ node seen binds q
     call_inferred {n} {i} {b} {q} e ei asks =
         let l = ready_called r kind in
@@ -210,14 +211,20 @@ module _ {w : List ℕ} {node seen binds : ℕ} (r : Ready w node seen binds) wh
 -- ---- lists
 
 -- the same flag
-pub inferred_all_as : {w w' : List ℕ} {row seen binds : ℕ} {c : Taker} {k : ℕ} {b d : Bool} {q : Passed} → b ≡ d
+pub inferred_all_as : {w w' : List ℕ} {row seen binds : ℕ} {c : Taker} {k : ℕ} {b d : Bool} {q : Passing} → b ≡ d
     → InferredAll w w' row seen binds c k b q
     → InferredAll w w' row seen binds c k d q
 inferred_all_as {w} {w'} {row} {seen} {binds} {c} {k} {q = q} e h = subst (λ (b : Bool). InferredAll w w' row seen binds c k b q) e h
 
+-- the same answer
+pub inferred_all_on : {w w' : List ℕ} {row seen binds : ℕ} {c : Taker} {k : ℕ} {b : Bool} {r q : Passing} → r ≡ q
+    → InferredAll w w' row seen binds c k b r
+    → InferredAll w w' row seen binds c k b q
+inferred_all_on {w} {w'} {row} {seen} {binds} {c} {k} {b} e h = subst (λ (r : Passing). InferredAll w w' row seen binds c k b r) e h
+
 -- no expression is left
 pub end_inferred : {w : List ℕ} {row seen binds : ℕ} {c : Taker} {k : ℕ} {b : Bool} → row ≡ 0
-    → InferredAll w w row seen binds c k b (Passed.Typed k b)
+    → InferredAll w w row seen binds c k b (Ok record { count = k; suited = b })
 end_inferred {w} {binds = binds} e = record { kept = kept_self w binds; right = args_end e }
 
 module _ {w : List ℕ} {row seen binds : ℕ} {c : Taker} {k : ℕ} (r : ReadyAll w row seen binds c k) (some_row : row ≡ 0 → ⊥)
@@ -227,11 +234,11 @@ module _ {w : List ℕ} {row seen binds : ℕ} {c : Taker} {k : ℕ} (r : ReadyA
       subst (λ (j : ℕ). Told (without_variables w) w j seen binds q) (ej ∙ sym (args_row r some_row 2 (omega arith))) (inferred_as e h).right
 
   -- a fault of the first argument
-  pub stop_inferred : {b : Bool} {q : Reason} {i : ℕ} → s ≡ Typing.Fault q i → InferredAll w w₁ row seen binds c k b (Passed.Wrong q i)
+  pub stop_inferred : {b : Bool} {fault : Fault} → s ≡ Err fault → InferredAll w w₁ row seen binds c k b (Err fault)
   stop_inferred e = record { kept = h.kept; right = args_stop some_row (argument_told e) }
 
   -- the later arguments answer, with the first
-  pub more_inferred : {n v j₂ : ℕ} {w₂ : List ℕ} {b d : Bool} {q : Passed} → s ≡ Typing.«Type» n → v ≡ expected_in w c k
+  pub more_inferred : {n v j₂ : ℕ} {w₂ : List ℕ} {b d : Bool} {q : Passing} → s ≡ Ok n → v ≡ expected_in w c k
       → j₂ ≡ row_word w row NEXT → d ≡ (b && eqb n v)
       → InferredAll w₁ w₂ j₂ seen binds c (k + 1) d q → InferredAll w w₂ row seen binds c k b q
   more_inferred {n} {v} {b = b} {q = q} e ev ej₂ ed g =

@@ -19,9 +19,9 @@ use Rattle.layout.proofs.VariablesWords.{row_without, length_put_variable, witho
 use Rattle.rules.specs.Sight.{Variables, variables_none, variables_more}
 use Rattle.rules.specs.Asked.{Tells}
 use Rattle.phrase_types.specs.Inferred.{Kept, Stands, Told, ToldAll, TellsAll}
-use Rattle.rules.specs.declared.Typing.{Typing}
+use Rattle.rules.specs.Asked.{Typing}
 use Rattle.rules.specs.declared.sight.Taker.{Taker}
-use Rattle.phrase_types.specs.declared.expressions.Passed.{Passed}
+use Rattle.phrase_types.specs.Inferred.{Passing}
 
 -- nothing done
 pub kept_self : (w : List ℕ) (binds : ℕ) → Kept w w binds
@@ -92,7 +92,7 @@ module _ {v w : List ℕ} {binds : ℕ} (k : Kept v w binds) where
       subst (λ (p : List ℕ). Tells r (infer Δ (tree_at f ts p node) Γ)) k.rest (h ts f Δ Γ (stands_kept k st))
 
   -- of a list
-  pub told_all_before : {row seen n : ℕ} {c : Taker} {b : Bool} {r : Passed} → ToldAll (without_variables w) w row seen binds c n b r
+  pub told_all_before : {row seen n : ℕ} {c : Taker} {b : Bool} {r : Passing} → ToldAll (without_variables w) w row seen binds c n b r
       → ToldAll (without_variables v) v row seen binds c n b r
   told_all_before {row} {n = n} {c = c} {b = b} {r = r} h ts f Δ Γ st =
       subst (λ (p : List ℕ). TellsAll p c n b r (infers Δ (args_at f ts p row) Γ)) k.rest (h ts f Δ Γ (stands_kept k st))

@@ -1,6 +1,5 @@
 pub mod KeptLaws
 pub mod ScopeLaws
-mod Naming
 mod NodeLaws
 mod BindLaws
 pub mod Covering

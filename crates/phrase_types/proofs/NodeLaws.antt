@@ -4,6 +4,8 @@ use mathlib.Core.Bool.{true}
 use mathlib.Core.List.{List}
 use mathlib.Core.Option.{some}
 use mathlib.Core.Path.{◌≡◌, refl, sym, ap, subst, subst₂, ◌∙◌}
+use Rattle.rules.specs.declared.Fault.{Fault}
+use Rattle.std.specs.Prelude.{Ok, Err}
 use Prim.Native.Nat.{ℕ, zero, suc, ◌≤◌}
 use native.Mathlib.Omega.{arith}
 use Rattle.language.specs.Tokens.{Token, entry, NAME, LET, spelling_at}
@@ -22,8 +24,7 @@ use Rattle.layout.proofs.Shapes.{shape_kind, kind_of_shape, Parted, is_follow, i
 use Rattle.rules.specs.Sight.{find_variable}
 use Rattle.rules.specs.Asked.{Tells, Children, Constant, AsksOne, AsksTwo, AsksIf}
 use Rattle.phrase_types.specs.Inferred.{Stands, looked, Told}
-use Rattle.numbers.specs.declared.Reason.{Reason}
-use Rattle.rules.specs.declared.Typing.{Typing}
+use Rattle.rules.specs.Asked.{Typing}
 use Rattle.rules.proofs.TellLaws.{type_is, fault_is, type_told, fault_told}
 use Rattle.phrase_types.proofs.ScopeLaws.{look_tells, sight_few}
 
@@ -53,10 +54,10 @@ not_let k other s e d = other (kind_of_shape k s e ∙ ap shape_kind d)
 
 -- ---- faults of children
 
-module _ (ts : List Token) (Δ : Scope Sig) (Γ : Scope Ty) (i : ℕ) (a b c : Exp) (es : Exps) {r : Reason} {j : ℕ} where
+module _ (ts : List Token) (Δ : Scope Sig) (Γ : Scope Ty) (i : ℕ) (a b c : Exp) (es : Exps) {fault : Fault} where
   -- the first child's is the node's
-  first_wrong : (s : Shape) → 1 ≤ children s → Tells (Typing.Fault r j) (infer Δ a Γ)
-      → Tells (Typing.Fault r j) (infer Δ (build ts s i a b c es) Γ)
+  first_wrong : (s : Shape) → 1 ≤ children s → Tells (Err fault) (infer Δ a Γ)
+      → Tells (Err fault) (infer Δ (build ts s i a b c es) Γ)
   unfolding infer build
   first_wrong a_name l h = absurd (omega arith)
   first_wrong Shape.a_number l h = absurd (omega arith)
@@ -74,8 +75,8 @@ module _ (ts : List Token) (Δ : Scope Sig) (Γ : Scope Ty) (i : ℕ) (a b c : E
   first_wrong (a_binary o) l h = fault_is (after_bad _ (fault_told h))
 
   -- and the second's, of a node whose children see the same
-  second_wrong : (s : Shape) → Parted s 2 → (s ≡ a_let → ⊥) → {t : Ty} → infer Δ a Γ ≡ ok t → Tells (Typing.Fault r j) (infer Δ b Γ)
-      → Tells (Typing.Fault r j) (infer Δ (build ts s i a b c es) Γ)
+  second_wrong : (s : Shape) → Parted s 2 → (s ≡ a_let → ⊥) → {t : Ty} → infer Δ a Γ ≡ ok t → Tells (Err fault) (infer Δ b Γ)
+      → Tells (Err fault) (infer Δ (build ts s i a b c es) Γ)
   unfolding infer build
   second_wrong s is_follow n e h = fault_is (after_ok _ e (after_bad _ (fault_told h)))
   second_wrong s is_while n e h = fault_is (after_ok _ e (after_bad _ (fault_told h)))
@@ -117,8 +118,8 @@ module _ {p w : List ℕ} {node seen binds : ℕ} where
 
   module _ {m : ℕ} (has : Children (row_word p node KIND) m) where
     -- a fault of the first child
-    pub first_stops : {r : Reason} {j : ℕ} → 1 ≤ m → Told p w (row_word p node FIRST) seen binds (Typing.Fault r j)
-        → Told p w node seen binds (Typing.Fault r j)
+    pub first_stops : {fault : Fault} → 1 ≤ m → Told p w (row_word p node FIRST) seen binds (Err fault)
+        → Told p w node seen binds (Err fault)
     first_stops l h =
         told_node λ ts f Δ Γ st n.
         let a : 1 ≤ children n.shape = let e = has n.shape n.known in omega arith in
@@ -128,7 +129,7 @@ module _ {p w : List ℕ} {node seen binds : ℕ} where
 
   -- a node with one child asks
   pub one_goes : {k i n : ℕ} {r : Typing} → Children (row_word p node KIND) 1 → k ≡ row_word p node KIND → i ≡ row_word p node OWN
-      → Told p w (row_word p node FIRST) seen binds (Typing.«Type» n) → AsksOne k n i r → Told p w node seen binds r
+      → Told p w (row_word p node FIRST) seen binds (Ok n) → AsksOne k n i r → Told p w node seen binds r
   one_goes {n = n} {r = r} has ek ei h asks =
       told_node λ ts f Δ Γ st nd.
       let a = has nd.shape nd.known in
@@ -138,10 +139,10 @@ module _ {p w : List ℕ} {node seen binds : ℕ} where
   -- ---- two children
 
   module _ (has : Children (row_word p node KIND) 2) (other : row_word p node KIND ≡ LET
-      → ⊥) {m : ℕ} (h : Told p w (row_word p node FIRST) seen binds (Typing.«Type» m)) where
+      → ⊥) {m : ℕ} (h : Told p w (row_word p node FIRST) seen binds (Ok m)) where
     -- a fault of the second
-    pub second_stops : {r : Reason} {j : ℕ} → Told p w (row_word p node SECOND) seen binds (Typing.Fault r j)
-        → Told p w node seen binds (Typing.Fault r j)
+    pub second_stops : {fault : Fault} → Told p w (row_word p node SECOND) seen binds (Err fault)
+        → Told p w node seen binds (Err fault)
     second_stops g =
         told_node λ ts f Δ Γ st nd.
         let a = has nd.shape nd.known in
@@ -151,7 +152,7 @@ module _ {p w : List ℕ} {node seen binds : ℕ} where
 
     -- both have types: the node asks
     pub two_goes : {k i n : ℕ} {r : Typing} → k ≡ row_word p node KIND → i ≡ row_word p node OWN
-        → Told p w (row_word p node SECOND) seen binds (Typing.«Type» n) → AsksTwo k m n i r → Told p w node seen binds r
+        → Told p w (row_word p node SECOND) seen binds (Ok n) → AsksTwo k m n i r → Told p w node seen binds r
     two_goes {n = n} {r = r} ek ei g asks =
         told_node λ ts f Δ Γ st nd.
         let a = has nd.shape nd.known in
@@ -162,7 +163,7 @@ module _ {p w : List ℕ} {node seen binds : ℕ} where
 
   -- ---- three children
 
-  module _ (has : Children (row_word p node KIND) 3) {m : ℕ} (h : Told p w (row_word p node FIRST) seen binds (Typing.«Type» m)) where
+  module _ (has : Children (row_word p node KIND) 3) {m : ℕ} (h : Told p w (row_word p node FIRST) seen binds (Ok m)) where
     if_shape : {r : Typing}
         → ((ts : List Token) (f : ℕ) (Δ : Scope Sig) (Γ : Scope Ty) → Stands Right p w node seen binds ts (suc f) Δ Γ
         → (b : Ty) → infer Δ (tree_at f ts p (row_word p node FIRST)) Γ ≡ ok b → m ≡ type_number b
@@ -176,15 +177,15 @@ module _ {p w : List ℕ} {node seen binds : ℕ} where
         (g ts f Δ Γ st q.0 q.1 q.2 (nd.second (omega arith)).1 (nd.third (omega arith)).1)
 
     -- a fault of the first branch
-    pub then_stops : {r : Reason} {j : ℕ} → Told p w (row_word p node SECOND) seen binds (Typing.Fault r j)
-        → Told p w node seen binds (Typing.Fault r j)
+    pub then_stops : {fault : Fault} → Told p w (row_word p node SECOND) seen binds (Err fault)
+        → Told p w node seen binds (Err fault)
     unfolding infer build
     then_stops g = if_shape λ ts f Δ Γ st b e k x y. fault_is (after_ok _ e (after_bad _ (fault_told (g ts f Δ Γ (stands_child st x)))))
 
-    module _ {n : ℕ} (g : Told p w (row_word p node SECOND) seen binds (Typing.«Type» n)) where
+    module _ {n : ℕ} (g : Told p w (row_word p node SECOND) seen binds (Ok n)) where
       -- of the second
-      pub else_stops : {r : Reason} {j : ℕ} → Told p w (row_word p node THIRD) seen binds (Typing.Fault r j)
-          → Told p w node seen binds (Typing.Fault r j)
+      pub else_stops : {fault : Fault} → Told p w (row_word p node THIRD) seen binds (Err fault)
+          → Told p w node seen binds (Err fault)
       unfolding infer build
       else_stops d =
           if_shape λ ts f Δ Γ st b e k x y.
@@ -192,7 +193,7 @@ module _ {p w : List ℕ} {node seen binds : ℕ} where
           fault_is (after_ok _ e (after_ok _ q.1 (after_bad _ (fault_told (d ts f Δ Γ (stands_child st y))))))
 
       -- all three have types: the `if` asks
-      pub if_goes : {l i : ℕ} {r : Typing} → i ≡ row_word p node OWN → Told p w (row_word p node THIRD) seen binds (Typing.«Type» l)
+      pub if_goes : {l i : ℕ} {r : Typing} → i ≡ row_word p node OWN → Told p w (row_word p node THIRD) seen binds (Ok l)
           → AsksIf m n l i r
           → Told p w node seen binds r
       unfolding build
@@ -218,7 +219,7 @@ module _ {p w : List ℕ} {node seen binds : ℕ} where
   -- a constant has its type
   pub constant_goes : {k n : ℕ} → k ≡ row_word p node KIND → Children (row_word p node KIND) 0 → (row_word p node KIND ≡ NAME → ⊥)
       → (row_word p node KIND ≡ CALL → ⊥) → (counts (row_word p node KIND) ≡ true → ⊥)
-      → Constant k n → Told p w node seen binds (Typing.«Type» n)
+      → Constant k n → Told p w node seen binds (Ok n)
   constant_goes {n = n} ek has nn nc nf c =
       told_node λ ts f Δ Γ st nd.
       let q = subst (λ (k : ℕ). Constant k n) ek c ts nd.shape Δ Γ (row_word p node OWN) _ _ _ _ nd.known (sym (has nd.shape

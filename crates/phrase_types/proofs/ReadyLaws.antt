@@ -2,6 +2,7 @@
 use mathlib.Core.Bool.{true}
 use mathlib.Core.List.{List}
 use mathlib.Core.Path.{◌≡◌, sym, ap, subst, subst₂, ◌∙◌}
+use Rattle.std.specs.Prelude.{Ok}
 use Prim.Native.Nat.{ℕ, zero, suc, ◌+◌, ◌≤◌, ◌<◌}
 use native.Mathlib.Omega.{arith}
 use lib.ListN.{length}
@@ -21,7 +22,6 @@ use Rattle.layout.specs.Functions.{Headed}
 use Rattle.rules.specs.Sight.{InSight, Rowed, Readable, callee_in}
 use Rattle.rules.specs.Asked.{Children}
 use Rattle.phrase_types.specs.Inferred.{Kept, Ready, Told, ReadyAll}
-use Rattle.rules.specs.declared.Typing.TheVariants as Typing
 use Rattle.rules.specs.declared.sight.Callee.{Callee}
 use Rattle.rules.specs.declared.sight.Taker.{Taker}
 use Rattle.rules.proofs.TellLaws.{type_told}
@@ -243,7 +243,7 @@ module _ {w : List ℕ} {node seen binds : ℕ} (r : Ready w node seen binds) wh
 
     -- the body of a `let` can be checked
     pub ready_body : {x n j : ℕ} {v : List ℕ} → row_word w node KIND ≡ LET → x ≡ token_value w (row_word w node OWN + 1)
-        → Told p w (row_word p node FIRST) seen binds (Typing.«Type» n) → v ≡ put_variable w' binds x n → j ≡ row_word w node SECOND
+        → Told p w (row_word p node FIRST) seen binds (Ok n) → v ≡ put_variable w' binds x n → j ≡ row_word w node SECOND
         → (covered v j < covered w node) × Ready v j seen (binds + 1)
     ready_body {x} {n} kind ex h ev ej =
         let c = ready_parts in

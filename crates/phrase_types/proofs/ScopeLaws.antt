@@ -30,9 +30,9 @@ use Rattle.rules.specs.declared.sight.Callee.{Callee}
 -- ---- variables
 
 -- one step of both searches
-look_step : (b : Bool) (n : ℕ) (t : Ty) (i : ℕ) (o : Option ℕ) (q : Option Ty) → n ≡ type_number t
+look_step : (b : Bool) (n : ℕ) (t : Ty) (i : ℕ) (o : P.Option ℕ) (q : Option Ty) → n ≡ type_number t
     → Tells (looked o i) (told q no_binding i)
-    → Tells (looked (cond b (some n) o) i) (told (cond b (some t) q) no_binding i)
+    → Tells (looked (cond b (P.Some n) o) i) (told (cond b (some t) q) no_binding i)
 unfolding told
 look_step true n t i o q e h = tells_type e
 look_step false n t i o q e h = h

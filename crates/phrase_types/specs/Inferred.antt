@@ -1,7 +1,6 @@
 -- What the functions that call each other ask and promise: the answer of a node, and of a list of expressions, is what
 -- the executable checker of the language answers, whatever the words stand for.
-use Rattle.std.specs.Prelude.{Bool, ◌&&◌, List, ◌≡◌, ℕ, ◌+◌, ◌≤◌, ◌<◌, length}
-use Rattle.std.proofs.Math.Option.{Option, none, some}
+use Rattle.std.specs.Prelude.{Option, None, Some, Result, Ok, Err, Bool, ◌&&◌, List, ◌≡◌, ℕ, ◌+◌, ◌≤◌, ◌<◌, length}
 use Rattle.language.specs.Sizes.{NODES, TABLE}
 use Rattle.language.specs.Tokens.{Token}
 use Rattle.language.specs.Trees.{Ty, Scope}
@@ -14,10 +13,9 @@ use Rattle.layout.specs.Rows.{below, under}
 use Rattle.layout.specs.Decode.{tree_at, args_at, Right, RightArgs}
 use Rattle.numbers.specs.Meanings.{reason_meant}
 use Rattle.rules.specs.Sight.{Variables, find_variable, InSight, Readable}
-use Rattle.rules.specs.Asked.{Tells, suits}
-use Rattle.numbers.specs.declared.Reason.{Reason}
+use Rattle.rules.specs.Asked.{Typing, Tells, suits}
+use Rattle.rules.specs.declared.Fault.{Fault}
 use Rattle.numbers.specs.declared.Reason.TheVariants.{NoBinding}
-use Rattle.rules.specs.declared.Typing.{Typing}
 use Rattle.rules.specs.declared.sight.Taker.{Taker}
 use Rattle.phrase_types.specs.declared.expressions.Passed.{Passed}
 
@@ -62,8 +60,8 @@ pub record Inferred (w w' : List ℕ) (node seen binds : ℕ) (r : Typing) : Typ
 
 -- a name's answer, by the type's number that was found
 abbrev pub looked : Option ℕ → ℕ → Typing
-looked (some n) i = Typing.«Type» n
-looked none i = Typing.Fault NoBinding i
+looked (Some n) i = Ok n
+looked None i = Err record { reason = NoBinding; at = i }
 
 -- the answer of the name at row `node`
 abbrev pub name_answer : List ℕ → ℕ → ℕ → Typing
@@ -71,13 +69,16 @@ name_answer w node binds = looked (find_variable w (token_value w (row_word w no
 
 -- ---- lists: the arguments of a call, the bounds of a `for`
 
+-- what is answered of them, or the fault that is told instead
+abbrev pub Passing : Type 0
+Passing = Result Passed Fault
+
 -- Of expressions that c takes, k of which come before: how many there are with those, and whether they suit, as those
 -- did or did not (b).
-pub data TellsAll (w : List ℕ) (c : Taker) (k : ℕ) (b : Bool) : Passed → Res (List Ty) → Type 0 where
+pub data TellsAll (w : List ℕ) (c : Taker) (k : ℕ) (b : Bool) : Passing → Res (List Ty) → Type 0 where
   tells_types : {n : ℕ} {s : Bool} {ts : List Ty} → n ≡ k + length ts → s ≡ (b && suits w c k ts)
-      → TellsAll w c k b (Passed.Typed n s) (ok ts)
-  tells_wrong : {r : Reason} {q : Faults.Reason} {i : ℕ} → reason_meant r ≡ q
-      → TellsAll w c k b (Passed.Wrong r i) (bad q i)
+      → TellsAll w c k b (Ok record { count = n; suited = s }) (ok ts)
+  tells_wrong : {e : Fault} {q : Faults.Reason} → reason_meant e.reason ≡ q → TellsAll w c k b (Err e) (bad q e.at)
 
 -- they can be checked, k of the list's before them
 pub record ReadyAll (w : List ℕ) (row seen binds : ℕ) (c : Taker) (k : ℕ) : Type 0 where
@@ -92,12 +93,12 @@ pub record ReadyAll (w : List ℕ) (row seen binds : ℕ) (c : Taker) (k : ℕ) 
   pub few : k + row < NODES
 
 -- their answer is the written checker's
-abbrev pub ToldAll : List ℕ → List ℕ → ℕ → ℕ → ℕ → Taker → ℕ → Bool → Passed → Type 0
+abbrev pub ToldAll : List ℕ → List ℕ → ℕ → ℕ → ℕ → Taker → ℕ → Bool → Passing → Type 0
 ToldAll p w row seen binds c k b r =
     (ts : List Token) (f : ℕ) (Δ : Scope Sig) (Γ : Scope Ty) → Stands RightArgs p w row seen binds ts f Δ Γ
     → TellsAll p c k b r (infers Δ (args_at f ts p row) Γ)
 
 -- what is left and what is told
-pub record InferredAll (w w' : List ℕ) (row seen binds : ℕ) (c : Taker) (k : ℕ) (b : Bool) (r : Passed) : Type 0 where
+pub record InferredAll (w w' : List ℕ) (row seen binds : ℕ) (c : Taker) (k : ℕ) (b : Bool) (r : Passing) : Type 0 where
   pub kept : Kept w w' binds
   pub right : ToldAll (without_variables w) w row seen binds c k b r

@@ -1,6 +1,6 @@
 // Expressions: the checker calls itself on a node's children, from left to right, before the node asks
 // anything. A child covers fewer tokens than its node, which is the number that falls (S131).
-ghost use Rattle.std.specs.Prelude.{◌≡◌, ◌+◌, ◌≤◌, ◌<◌, length, true, ◌&&◌, eqb};
+ghost use Rattle.std.specs.Prelude.{◌≡◌, ◌+◌, ◌≤◌, ◌<◌, length, true};
 ghost use Rattle.language.specs.Sizes.{TOKENS, NODES, TABLE};
 ghost use Rattle.language.specs.Tokens.{LET};
 ghost use Rattle.layout.specs.Table.{KIND, OWN, row_word};
@@ -12,19 +12,19 @@ ghost use Rattle.phrase_types.specs.Inferred.{name_answer, Ready, Inferred, Read
 use language::kinds;
 use layout::{rows, token, types, variables};
 use numbers::Reason;
-use rules::sight::{Found, Taker};
-use rules::{Typing, operators, sight};
+use rules::sight::Taker;
+use rules::{Fault, operators, sight};
 
 // The expressions of a list, which are the arguments of a call or the bounds of a `for`: how many, and whether
 // each has the type that is wanted of it.
 #[derive(Clone, Copy)]
-pub enum Passed {
-    Typed(usize, bool),
-    Wrong(Reason, u32),
+pub struct Passed {
+    pub count: usize,
+    pub suited: bool,
 }
 
 // A name has the type of the nearest variable that is called so.
-fn name(table: &[u32], node: usize, binds: usize) -> Typing
+fn name(table: &[u32], node: usize, binds: usize) -> Result<u32, Fault>
     requires { (TABLE ≤ length table.now) × (node < NODES) × (row_word table.now node OWN < TOKENS)
         × (binds ≤ TOKENS) }
     ensures { result ≡ name_answer table.now node binds }
@@ -32,64 +32,49 @@ fn name(table: &[u32], node: usize, binds: usize) -> Typing
     let at = rows::word(table, node, rows::OWN);
     let token = rows::link(table, node, rows::OWN);
     let number = token::value(table, token);
-    let nearest = sight::variable(table, binds, number);
-    match nearest {
-        Found::Is(t) => Typing::Type(t),
-        Found::Nowhere => Typing::Fault(Reason::NoBinding, at),
-    }
+    sight::variable(table, binds, number).ok_or(Fault {
+        reason: Reason::NoBinding,
+        at,
+    })
 }
 
 // The type of the tree at `node`, where the first `seen` functions and `binds` variables are in sight.
 #[cycle(typing)]
-pub fn type_at(table: &mut [u32], node: usize, seen: usize, binds: usize) -> Typing
+pub fn type_at(table: &mut [u32], node: usize, seen: usize, binds: usize) -> Result<u32, Fault>
     requires { Ready table.old node seen binds }
     ensures { Inferred table.old table.new node seen binds result }
 {
     let kind = rows::word(table, node, rows::KIND);
-    if kind == kinds::NAME {
-        return name(table, node, binds);
+    match kind {
+        kinds::NAME => name(table, node, binds),
+        rows::CALL => call(table, node, seen, binds),
+        kinds::LET => bind(table, node, seen, binds),
+        _ if operators::counts(kind) => counted(table, node, seen, binds),
+        _ => match operators::children(kind) {
+            0 => Ok(operators::constant(kind)),
+            1 => over_one(table, node, seen, binds),
+            2 => over_two(table, node, seen, binds),
+            _ => branch(table, node, seen, binds),
+        },
     }
-    if kind == rows::CALL {
-        return call(table, node, seen, binds);
-    }
-    if kind == kinds::LET {
-        return bind(table, node, seen, binds);
-    }
-    if operators::counts(kind) {
-        return counted(table, node, seen, binds);
-    }
-    let count = operators::children(kind);
-    if count == 0 {
-        return Typing::Type(operators::constant(kind));
-    }
-    if count == 1 {
-        return over_one(table, node, seen, binds);
-    }
-    if count == 2 {
-        return over_two(table, node, seen, binds);
-    }
-    branch(table, node, seen, binds)
 }
 
 // A node with one child.
 #[cycle(typing)]
-fn over_one(table: &mut [u32], node: usize, seen: usize, binds: usize) -> Typing
+fn over_one(table: &mut [u32], node: usize, seen: usize, binds: usize) -> Result<u32, Fault>
     requires { Ready table.old node seen binds × Children (row_word table.old node KIND) 1 }
     ensures { Inferred table.old table.new node seen binds result }
 {
     let kind = rows::word(table, node, rows::KIND);
     let at = rows::word(table, node, rows::OWN);
     let child = rows::link(table, node, rows::FIRST);
-    let inside = type_at(table, child, seen, binds);
-    match inside {
-        Typing::Fault(r, i) => Typing::Fault(r, i),
-        Typing::Type(t) => operators::after_child(kind, t, at),
-    }
+    let inside = type_at(table, child, seen, binds)?;
+    operators::after_child(kind, inside, at)
 }
 
 // A node with two children, both of which see what the node sees.
 #[cycle(typing)]
-fn over_two(table: &mut [u32], node: usize, seen: usize, binds: usize) -> Typing
+fn over_two(table: &mut [u32], node: usize, seen: usize, binds: usize) -> Result<u32, Fault>
     requires { Ready table.old node seen binds × Children (row_word table.old node KIND) 2
         × (row_word table.old node KIND ≡ LET → ⊥) }
     ensures { Inferred table.old table.new node seen binds result }
@@ -98,22 +83,14 @@ fn over_two(table: &mut [u32], node: usize, seen: usize, binds: usize) -> Typing
     let at = rows::word(table, node, rows::OWN);
     let left = rows::link(table, node, rows::FIRST);
     let right = rows::link(table, node, rows::SECOND);
-    let first = type_at(table, left, seen, binds);
-    match first {
-        Typing::Fault(r, i) => Typing::Fault(r, i),
-        Typing::Type(t) => {
-            let second = type_at(table, right, seen, binds);
-            match second {
-                Typing::Fault(r, i) => Typing::Fault(r, i),
-                Typing::Type(u) => operators::after_children(kind, t, u, at),
-            }
-        }
-    }
+    let first = type_at(table, left, seen, binds)?;
+    let second = type_at(table, right, seen, binds)?;
+    operators::after_children(kind, first, second, at)
 }
 
 // `let` types what it binds, and its body with that variable in sight.
 #[cycle(typing)]
-fn bind(table: &mut [u32], node: usize, seen: usize, binds: usize) -> Typing
+fn bind(table: &mut [u32], node: usize, seen: usize, binds: usize) -> Result<u32, Fault>
     requires { Ready table.old node seen binds × (row_word table.old node KIND ≡ LET) }
     ensures { Inferred table.old table.new node seen binds result }
 {
@@ -121,19 +98,14 @@ fn bind(table: &mut [u32], node: usize, seen: usize, binds: usize) -> Typing
     let number = token::value(table, token + 1);
     let bound = rows::link(table, node, rows::FIRST);
     let body = rows::link(table, node, rows::SECOND);
-    let first = type_at(table, bound, seen, binds);
-    match first {
-        Typing::Fault(r, i) => Typing::Fault(r, i),
-        Typing::Type(t) => {
-            variables::put(table, binds, number, t);
-            type_at(table, body, seen, binds + 1)
-        }
-    }
+    let first = type_at(table, bound, seen, binds)?;
+    variables::put(table, binds, number, first);
+    type_at(table, body, seen, binds + 1)
 }
 
 // `for` types its bounds, and its body with its name in sight, which is an int, before it asks.
 #[cycle(typing)]
-fn counted(table: &mut [u32], node: usize, seen: usize, binds: usize) -> Typing
+fn counted(table: &mut [u32], node: usize, seen: usize, binds: usize) -> Result<u32, Fault>
     requires { Ready table.old node seen binds × (counts (row_word table.old node KIND) ≡ true) }
     ensures { Inferred table.old table.new node seen binds result }
 {
@@ -142,23 +114,15 @@ fn counted(table: &mut [u32], node: usize, seen: usize, binds: usize) -> Typing
     let number = token::value(table, token + 1);
     let start = rows::link(table, node, rows::START);
     let body = rows::link(table, node, rows::PASS);
-    let bounds = arguments(table, start, seen, binds, Taker::For, 0, true);
-    match bounds {
-        Passed::Wrong(r, i) => Typing::Fault(r, i),
-        Passed::Typed(n, ints) => {
-            variables::put(table, binds, number, types::INT);
-            let pass = type_at(table, body, seen, binds + 1);
-            match pass {
-                Typing::Fault(r, i) => Typing::Fault(r, i),
-                Typing::Type(t) => operators::counted(n, ints, t, at),
-            }
-        }
-    }
+    let bounds = arguments(table, start, seen, binds, Taker::For, 0, true)?;
+    variables::put(table, binds, number, types::INT);
+    let pass = type_at(table, body, seen, binds + 1)?;
+    operators::counted(bounds.count, bounds.suited, pass, at)
 }
 
 // `if`, its condition and its branches.
 #[cycle(typing)]
-fn branch(table: &mut [u32], node: usize, seen: usize, binds: usize) -> Typing
+fn branch(table: &mut [u32], node: usize, seen: usize, binds: usize) -> Result<u32, Fault>
     requires { Ready table.old node seen binds × Children (row_word table.old node KIND) 3 }
     ensures { Inferred table.old table.new node seen binds result }
 {
@@ -166,28 +130,15 @@ fn branch(table: &mut [u32], node: usize, seen: usize, binds: usize) -> Typing
     let test = rows::link(table, node, rows::FIRST);
     let chosen = rows::link(table, node, rows::SECOND);
     let other = rows::link(table, node, rows::THIRD);
-    let condition = type_at(table, test, seen, binds);
-    match condition {
-        Typing::Fault(r, i) => Typing::Fault(r, i),
-        Typing::Type(b) => {
-            let first = type_at(table, chosen, seen, binds);
-            match first {
-                Typing::Fault(r, i) => Typing::Fault(r, i),
-                Typing::Type(t) => {
-                    let second = type_at(table, other, seen, binds);
-                    match second {
-                        Typing::Fault(r, i) => Typing::Fault(r, i),
-                        Typing::Type(u) => operators::branches(b, t, u, at),
-                    }
-                }
-            }
-        }
-    }
+    let condition = type_at(table, test, seen, binds)?;
+    let first = type_at(table, chosen, seen, binds)?;
+    let second = type_at(table, other, seen, binds)?;
+    operators::branches(condition, first, second, at)
 }
 
 // A call types all its arguments before it asks whom it calls.
 #[cycle(typing)]
-fn call(table: &mut [u32], node: usize, seen: usize, binds: usize) -> Typing
+fn call(table: &mut [u32], node: usize, seen: usize, binds: usize) -> Result<u32, Fault>
     requires { Ready table.old node seen binds × (row_word table.old node KIND ≡ CALL) }
     ensures { Inferred table.old table.new node seen binds result }
 {
@@ -196,21 +147,8 @@ fn call(table: &mut [u32], node: usize, seen: usize, binds: usize) -> Typing
     let number = token::value(table, token);
     let callee = sight::called(table, seen, number);
     let row = rows::link(table, node, rows::FIRST);
-    let passed = arguments(table, row, seen, binds, Taker::Call(callee), 0, true);
-    match passed {
-        Passed::Wrong(r, i) => Typing::Fault(r, i),
-        Passed::Typed(n, suited) => operators::call(table, callee, n, suited, at),
-    }
-}
-
-// Whether all suit so far, when one more has the type that is found where another is wanted.
-fn still(suited: bool, found: u32, wanted: u32) -> bool
-    ensures { result ≡ (suited && eqb found wanted) }
-{
-    if suited {
-        return found == wanted;
-    }
-    false
+    let passed = arguments(table, row, seen, binds, Taker::Call(callee), 0, true)?;
+    operators::call(table, callee, passed.count, passed.suited, at)
 }
 
 // The expressions of a list from row `row` on, the first of which is its expression k.
@@ -223,22 +161,17 @@ fn arguments(
     taker: Taker,
     k: usize,
     suited: bool,
-) -> Passed
+) -> Result<Passed, Fault>
     requires { ReadyAll table.old row seen binds taker k }
     ensures { InferredAll table.old table.new row seen binds taker k suited result }
 {
     if row == 0 {
-        return Passed::Typed(k, suited);
+        return Ok(Passed { count: k, suited });
     }
     let child = rows::link(table, row, rows::EXPRESSION);
     let next = rows::link(table, row, rows::NEXT);
     let wanted = sight::expected(table, taker, k);
-    let first = type_at(table, child, seen, binds);
-    match first {
-        Typing::Fault(r, i) => Passed::Wrong(r, i),
-        Typing::Type(t) => {
-            let suits = still(suited, t, wanted);
-            arguments(table, next, seen, binds, taker, k + 1, suits)
-        }
-    }
+    let first = type_at(table, child, seen, binds)?;
+    let suits = suited && first == wanted;
+    arguments(table, next, seen, binds, taker, k + 1, suits)
 }

@@ -2,7 +2,7 @@
 use mathlib.Core.Bool.{Bool, true, false}
 use mathlib.Core.List.{List, [], ◌∷◌}
 use mathlib.Core.Path.{◌≡◌, refl, sym, subst, ◌∙◌}
-use Prim.Native.Nat.{ℕ}
+use Prim.Native.Nat.{ℕ, ◌≤◌}
 use native.Mathlib.Omega.{arith}
 use lib.ListN.{length}
 use Rattle.language.specs.Trees.{Ty, int}
@@ -25,40 +25,29 @@ bounds_three three = refl
 last_decided : Decided true (◌≡◌ {A = List Ty} [] [])
 last_decided = ((λ _. refl), λ d _. clash d)
 
-suits_two : (w : List ℕ) (us : List Ty) → length us ≡ 2 → Decided (suits w Taker.For 0 us) (Bounds us)
+suits_bounds : (w : List ℕ) (us : List Ty) → 2 ≤ length us → length us ≤ 3 → Decided (suits w Taker.For 0 us) (Bounds us)
 unfolding suits
-suits_two w [] n = absurd (omega arith)
-suits_two w (t ∷ []) n = absurd (omega arith)
-suits_two w (t ∷ u ∷ []) n =
+suits_bounds w [] l m = absurd (omega arith)
+suits_bounds w (t ∷ []) l m = absurd (omega arith)
+suits_bounds w (t ∷ u ∷ []) l m =
     decided_as (λ e. subst Bounds (sym e) two) bounds_two
     (decided_more _ _ t int (u ∷ []) (int ∷ []) (decided_type t int)
     (decided_more _ true u int [] [] (decided_type u int) last_decided))
-suits_two w (t ∷ u ∷ v ∷ us) n = absurd (omega arith)
-
-suits_three : (w : List ℕ) (us : List Ty) → length us ≡ 3 → Decided (suits w Taker.For 0 us) (Bounds us)
-unfolding suits
-suits_three w [] n = absurd (omega arith)
-suits_three w (t ∷ []) n = absurd (omega arith)
-suits_three w (t ∷ u ∷ []) n = absurd (omega arith)
-suits_three w (t ∷ u ∷ v ∷ []) n =
+suits_bounds w (t ∷ u ∷ v ∷ []) l m =
     decided_as (λ e. subst Bounds (sym e) three) bounds_three
     (decided_more _ _ t int (u ∷ v ∷ []) (int ∷ int ∷ []) (decided_type t int)
     (decided_more _ _ u int (v ∷ []) (int ∷ []) (decided_type u int)
     (decided_more _ true v int [] [] (decided_type v int) last_decided)))
-suits_three w (t ∷ u ∷ v ∷ x ∷ us) n = absurd (omega arith)
+suits_bounds w (t ∷ u ∷ v ∷ x ∷ us) l m = absurd (omega arith)
 
 bounds_length : {us : List Ty} → Bounds us → (length us ≡ 2 → ⊥) → (length us ≡ 3 → ⊥) → ⊥
 bounds_length two a b = a refl
 bounds_length three a b = b refl
 
 module _ {n : ℕ} {b : Bool} where
-  -- a start and an end
-  pub bounded_two : n ≡ 2 → Bounded n b b
-  bounded_two e w us l s = rw s (suits_two w us (sym l ∙ e))
-
-  -- and a step
-  pub bounded_three : n ≡ 3 → Bounded n b b
-  bounded_three e w us l s = rw s (suits_three w us (sym l ∙ e))
+  -- a start and an end, and maybe a step
+  pub bounded_few : 2 ≤ n → n ≤ 3 → Bounded n b b
+  bounded_few l m w us e s = rw s (suits_bounds w us (omega arith) (omega arith))
 
   -- nothing else
   pub bounded_not : (n ≡ 2 → ⊥) → (n ≡ 3 → ⊥) → Bounded n b false

@@ -2,6 +2,7 @@
 use mathlib.Core.Bool.{Bool, true, false, ◌&&◌}
 use mathlib.Core.List.{List, [], ◌∷◌, map}
 use mathlib.Core.Path.{◌≡◌, refl, sym, ap, subst, ◌∙◌}
+use Rattle.std.specs.Prelude.{Err}
 use Prim.Native.Nat.{ℕ, suc, ◌+◌}
 use native.Mathlib.Omega.{arith}
 use lib.Dec.{eqb}
@@ -16,9 +17,9 @@ use Rattle.language.proofs.Executable.Checks.{after_ok, after_bad, told_some, to
 use Rattle.language.proofs.Executable.Checker.{infer}
 use Rattle.layout.specs.Table.{TYPE, ARITY, RESULT, row_word}
 use Rattle.layout.specs.Decode.{ParamsAt, params_none, params_more}
-use Rattle.rules.specs.Asked.{suits, Matches, AsksCall}
+use Rattle.rules.specs.Asked.{Typing, suits, Matches, AsksCall}
 use Rattle.numbers.specs.declared.Reason.TheVariants.{NoFunction}
-use Rattle.rules.specs.declared.Typing.{Typing}
+use Rattle.rules.specs.declared.Fault.{Fault}
 use Rattle.rules.specs.declared.sight.Callee.{Callee}
 use Rattle.rules.specs.declared.sight.Taker.TheVariants as Taker
 use Rattle.rules.proofs.TellLaws.{fault_is, tells_from}
@@ -83,8 +84,8 @@ module _ (w : List ℕ) {c : Callee} {n : ℕ} {b : Bool} (i : ℕ) where
       (m record { takes = int ∷ []; gives = int } us refl refl l (λ v. rw s (suits_putchar w us v)))
 
   -- and that of a call of nobody
-  pub call_nobody : c ≡ Callee.Nobody → AsksCall w c n b i (Typing.Fault NoFunction i)
+  pub call_nobody : c ≡ Callee.Nobody → AsksCall w c n b i (Err record { reason = NoFunction; at = i })
   unfolding infer
   call_nobody e =
-      subst (λ (c : Callee). AsksCall w c n b i (Typing.Fault NoFunction i)) (sym e) λ ts f Δ Γ z es us h k l s.
+      subst (λ (c : Callee). AsksCall w c n b i (Err record { reason = NoFunction; at = i })) (sym e) λ ts f Δ Γ z es us h k l s.
       fault_is (after_ok _ k (after_bad _ (told_none _ _ h)))

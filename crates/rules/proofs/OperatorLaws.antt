@@ -1,6 +1,10 @@
 -- What operators answer by the numbers of their operands' types, one law for each way through the code.
 use mathlib.Core.Option.{none, some}
 use mathlib.Core.Path.{◌≡◌, refl, sym, ap, subst, ◌∙◌}
+use Rattle.std.specs.Prelude.{Ok, Err}
+use mathlib.Core.Bool.{true, false}
+use lib.Dec.{eqb}
+use borrow.Author.Tests.{eqb-true, eqb-false}
 use Prim.Native.Nat.{ℕ, ◌+◌, ◌-◌, ◌≤◌, ◌<◌}
 use native.Mathlib.Decide.{dec_lt}
 use native.Mathlib.Omega.{arith}
@@ -15,21 +19,21 @@ use Rattle.language.proofs.Executable.Checks.{ok, bad, told, told_some, told_non
 use Rattle.language.proofs.Executable.Operators.{if_yes, arithmetic, both, unop, binop}
 use Rattle.layout.specs.Types.{REF, FULL}
 use Rattle.layout.specs.Rows.{unary_kind, binary_kind}
-use Rattle.rules.specs.Asked.{Tells, Prefixed, Between, as_arithmetic, operand, result, Operand, Result}
+use Rattle.rules.specs.Asked.{Typing, Tells, Prefixed, Between, as_arithmetic, operand, result, Operand, Result}
 use Rattle.numbers.specs.declared.Reason.TheVariants.{WrongOperands}
-use Rattle.rules.specs.declared.Typing.{Typing}
-use Rattle.rules.proofs.TellLaws.{type_is, fault_is}
+use Rattle.rules.specs.declared.Fault.{Fault}
+use Rattle.rules.proofs.TellLaws.{type_is, fault_is, tells_as}
 
 -- ---- types by their numbers
 
 module _ (t u : Ty) {m n : ℕ} (p : m ≡ type_number t) (q : n ≡ type_number u) where
   -- equal numbers are equal types
-  pub is_type : m ≡ n → t ≡ u
-  is_type e = one_number t u (sym p ∙ e ∙ q)
+  pub is_type : eqb m n ≡ true → t ≡ u
+  is_type e = one_number t u (sym p ∙ eqb-true _ _ e ∙ q)
 
   -- and different numbers different types
-  pub isnt_type : (m ≡ n → ⊥) → t ≡ u → ⊥
-  isnt_type h e = h (p ∙ ap type_number e ∙ sym q)
+  pub isnt_type : eqb m n ≡ false → t ≡ u → ⊥
+  isnt_type h e = eqb-false _ _ h (p ∙ ap type_number e ∙ sym q)
 
 -- ---- what is asked holds or does not
 
@@ -61,11 +65,11 @@ both_not (no p) e t h = refl
 
 module _ {n : ℕ} (i : ℕ) (t : Ty) (p : n ≡ type_number t) where
   -- what a reference holds
-  pub fetch_some : REF < n → Tells (Typing.«Type» (n - REF)) (told (unop fetch t) (unsuited fetch) i)
+  pub fetch_some : REF < n → Tells (Ok (n - REF)) (told (unop fetch t) (unsuited fetch) i)
   unfolding unop type_number told
   fetch_some = go t p
     where
-      go : (t : Ty) → n ≡ type_number t → REF < n → Tells (Typing.«Type» (n - REF)) (told (unop fetch t) (unsuited fetch) i)
+      go : (t : Ty) → n ≡ type_number t → REF < n → Tells (Ok (n - REF)) (told (unop fetch t) (unsuited fetch) i)
       go int p h = absurd (omega arith)
       go bool p h = absurd (omega arith)
       go unit p h = absurd (omega arith)
@@ -85,7 +89,7 @@ module _ {n : ℕ} (i : ℕ) (t : Ty) (p : n ≡ type_number t) where
       go (ref u) p h = let k = number_refs u in absurd (omega (arith, k.0))
 
   -- one `ref` more, where there is room for it
-  pub new_some : n < FULL → Tells (Typing.«Type» (n + REF)) (told (unop new t) (unsuited new) i)
+  pub new_some : n < FULL → Tells (Ok (n + REF)) (told (unop new t) (unsuited new) i)
   unfolding unop type_number
   new_some h =
       let k = number_refs t in
@@ -206,16 +210,16 @@ module _ {k m n : ℕ} (i : ℕ) {r : Typing} where
 module _ {k m n : ℕ} (i : ℕ) (other : k ≡ BECOMES → ⊥) {v : ℕ} (wants : Operand k m v) where
   -- both operands of the type that the operator wants
   pub between_fine : {x : ℕ} → Result k m x → m ≡ v → n ≡ v
-      → Between k m n i (Typing.«Type» x)
+      → Between k m n i (Ok x)
   between_fine gives a b o t u d p q =
       let h = not_assign k other o d in
       let w = wants o t h d p in
       type_is (result o t) (told_some _ _ (binop_both o h t u
-      ∙ both_are _ _ _ (is_type t (operand o t) p w a) (is_type u (operand o t) q w b))) (gives o t h d p)
+      ∙ both_are _ _ _ (one_number t (operand o t) (sym p ∙ a ∙ w)) (one_number u (operand o t) (sym q ∙ b ∙ w)))) (gives o t h d p)
 
   -- or not both
-  pub between_other : (m ≡ v → n ≡ v → ⊥) → Between k m n i (Typing.Fault WrongOperands i)
-  between_other a o t u d p q =
+  pub between_other : (m ≡ v → n ≡ v → ⊥) → {r : Typing} → r ≡ Err record { reason = WrongOperands; at = i } → Between k m n i r
+  between_other a e o t u d p q =
       let h = not_assign k other o d in
       let w = wants o t h d p in
-      fault_is (told_none _ _ (binop_both o h t u ∙ both_not _ _ _ λ x y. a (p ∙ ap type_number x ∙ sym w) (q ∙ ap type_number y ∙ sym w)))
+      tells_as (sym e) (fault_is (told_none _ _ (binop_both o h t u ∙ both_not _ _ _ λ x y. a (p ∙ ap type_number x ∙ sym w) (q ∙ ap type_number y ∙ sym w))))

@@ -17,8 +17,7 @@ use Rattle.layout.proofs.VariablesWords.{without_before, row_without, function_w
 use Rattle.layout.proofs.VariablesTrees.{function_alike}
 use Rattle.layout.specs.Functions.{Headed, function_name, find_function}
 use Rattle.rules.specs.Sight.{callee_by, callee_in, Means, Rowed, wanted_in, Readable, expected_in}
-use Rattle.rules.specs.Asked.{suits, AsksCall}
-use Rattle.rules.specs.declared.Typing.{Typing}
+use Rattle.rules.specs.Asked.{Typing, suits, AsksCall}
 use Rattle.rules.specs.declared.sight.Callee.{Callee}
 use Rattle.rules.specs.declared.sight.Taker.{Taker}
 

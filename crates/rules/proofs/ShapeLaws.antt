@@ -2,6 +2,7 @@
 use mathlib.Core.Bool.{Bool, true, false, cond, ◌||◌, false≢true}
 use mathlib.Core.Option.{some}
 use mathlib.Core.Path.{◌≡◌, refl, sym, ap, subst₂, ◌∙◌}
+use Rattle.std.specs.Prelude.{Ok, Err}
 use Prim.Native.Nat.{ℕ, ◌≤◌, ◌<◌}
 use native.Mathlib.Omega.{arith}
 use lib.Dec.{eqb, leb, ltb}
@@ -18,9 +19,8 @@ use Rattle.layout.specs.Decode.{Shape, a_for, shape_of, counts, build}
 use Rattle.layout.proofs.Shapes.{shape_kind, kind_of_shape, range_counts, unary_high, binary_between, children_by_entries, children_most}
 use Rattle.layout.proofs.Shapes.{Parted, is_name, is_number, is_float, is_constant, is_call, is_for, is_unary, is_group, is_block}
 use Rattle.layout.proofs.Shapes.{is_binary, is_follow, is_let, is_while, parted}
-use Rattle.rules.specs.Asked.{Tells, Children, Constant, AsksOne, AsksTwo, Prefixed, Between, Follows, Repeats}
+use Rattle.rules.specs.Asked.{Typing, Tells, Children, Constant, AsksOne, AsksTwo, Prefixed, Between, Follows, Repeats}
 use Rattle.rules.specs.Asked.{as_arithmetic, Operand, Result}
-use Rattle.rules.specs.declared.Typing.{Typing}
 use Rattle.rules.proofs.TellLaws.{type_is, tells_from}
 
 -- ---- how many children
@@ -132,11 +132,11 @@ constant_is {k} {n} a f b c d ts s Δ Γ i x y z es sh ch nn nc nf = go s (parte
 
 module _ (k : ℕ) {n : ℕ} (i : ℕ) where
   -- a Group and a Block have their child's type
-  pub one_inside : k < PREFIX → AsksOne k n i (Typing.«Type» n)
+  pub one_inside : k < PREFIX → AsksOne k n i (Ok n)
   unfolding infer build shape_kind
   one_inside l ts s Δ Γ a b c es t sh ch e p = go s (parted s ch) (kind_of_shape k s sh)
     where
-      go : (s : Shape) → Parted s 1 → k ≡ shape_kind s → Tells (Typing.«Type» n) (infer Δ (build ts s i a b c es) Γ)
+      go : (s : Shape) → Parted s 1 → k ≡ shape_kind s → Tells (Ok n) (infer Δ (build ts s i a b c es) Γ)
       go s is_group d = type_is t e p
       go s is_block d = type_is t e p
       go s (is_unary {o}) d = absurd (omega (arith, unary_high o))

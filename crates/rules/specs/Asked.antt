@@ -1,10 +1,11 @@
 -- What a node asks when its children are typed, and when an answer tells what the executable checker of the language
 -- answers.
-use Rattle.std.specs.Prelude.{Bool, true, false, ◌&&◌, List, [], ◌∷◌, ◌≡◌, ℕ, suc, eqb, length}
+use Rattle.std.specs.Prelude as P
+use Rattle.std.specs.Prelude.{Ok, Err, Bool, true, false, ◌&&◌, List, [], ◌∷◌, ◌≡◌, ℕ, suc, eqb, length}
 use Rattle.std.proofs.Math.Option.{some}
 use Rattle.std.proofs.Math.Decide.{ℕ_discrete}
 use Rattle.language.specs.Tokens.{Token, NAME, LET}
-use Rattle.language.specs.Trees.{Name, Ty, int, bool, unit, float, ref, TyDiscrete, Unary, Binary, add, sub}
+use Rattle.language.specs.Trees.{Name, Ty, int, bool, unit, float, ref, TyDiscrete, Unary, fetch, new, Binary, add, sub}
 use Rattle.language.specs.Trees.{mul, div, less, equal, and, or, assign, Exp, branch, call, counted, Exps}
 use Rattle.language.specs.Trees.{Scope, push, nearest}
 use Rattle.language.specs.Types.{Bounds, Sig}
@@ -19,17 +20,20 @@ use Rattle.layout.specs.Rows.{CALL, unary_kind, binary_kind}
 use Rattle.layout.specs.Decode.{Shape, shape_of, children, counts, build}
 use Rattle.numbers.specs.Meanings.{reason_meant}
 use Rattle.rules.specs.Sight.{Means, expected_in}
-use Rattle.numbers.specs.declared.Reason.{Reason}
-use Rattle.rules.specs.declared.Typing.{Typing}
+use Rattle.rules.specs.declared.Fault.{Fault}
 use Rattle.rules.specs.declared.sight.Callee.{Callee}
 use Rattle.rules.specs.declared.sight.Taker.{Taker}
 
 -- ---- answers
 
+-- a type's number, or the fault that is told instead
+abbrev pub Typing : Type 0
+Typing = P.Result ℕ Fault
+
 -- the code's answer tells what the written checker answers
 pub data Tells : Typing → Res Ty → Type 0 where
-  tells_type : {n : ℕ} {t : Ty} → n ≡ type_number t → Tells (Typing.«Type» n) (ok t)
-  tells_fault : {r : Reason} {q : Faults.Reason} {i : ℕ} → reason_meant r ≡ q → Tells (Typing.Fault r i) (bad q i)
+  tells_type : {n : ℕ} {t : Ty} → n ≡ type_number t → Tells (Ok n) (ok t)
+  tells_fault : {e : Fault} {q : Faults.Reason} → reason_meant e.reason ≡ q → Tells (Err e) (bad q e.at)
 
 -- the types ts are those that are wanted from expression k of a list on
 unfoldable pub suits : List ℕ → Taker → ℕ → List Ty → Bool
@@ -80,6 +84,13 @@ Between kind m n i r =
 abbrev pub Alike : ℕ → ℕ → ℕ → Typing → Type 0
 Alike m n i r = (t u : Ty) → m ≡ type_number t → n ≡ type_number u
     → Tells r (told (if_yes (TyDiscrete t u) u) wrong_operand i)
+
+-- of `!`, and of `ref`
+abbrev pub Fetched : ℕ → ℕ → Typing → Type 0
+Fetched n i r = (t : Ty) → n ≡ type_number t → Tells r (told (unop fetch t) (unsuited fetch) i)
+
+abbrev pub Referred : ℕ → ℕ → Typing → Type 0
+Referred n i r = (t : Ty) → n ≡ type_number t → Tells r (told (unop new t) (unsuited new) i)
 
 -- of `:=`
 abbrev pub Assigns : ℕ → ℕ → ℕ → Typing → Type 0

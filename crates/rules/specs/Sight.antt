@@ -11,8 +11,6 @@ use Rattle.layout.specs.Table.{TYPE, ARITY, row_word, function_row, variable_nam
 use Rattle.layout.specs.Names.{Stand, Named}
 use Rattle.layout.specs.Functions.{find_function}
 use Rattle.layout.specs.Decode.{FunctionAt}
-use Rattle.rules.specs.declared.sight.Found.{Found}
-use Rattle.rules.specs.declared.sight.Found.TheVariants.{Is, Nowhere}
 use Rattle.rules.specs.declared.sight.Callee.{Callee}
 use Rattle.rules.specs.declared.sight.Taker.{Taker}
 
@@ -26,14 +24,9 @@ pub data Variables (ts : List Token) (w : List ℕ) : ℕ → Scope Ty → Type 
       → Variables ts w m (push x t Γ)
 
 -- the type's number of the nearest of the first n variables whose name has the number x
-unfoldable pub find_variable : List ℕ → ℕ → ℕ → Option ℕ
-find_variable w x zero = none
-find_variable w x (suc n) = cond (eqb x (variable_name w n)) (some (variable_type w n)) (find_variable w x n)
-
--- what the search says
-abbrev pub found : Found → Option ℕ
-found (Is t) = some t
-found Nowhere = none
+unfoldable pub find_variable : List ℕ → ℕ → ℕ → P.Option ℕ
+find_variable w x zero = P.None
+find_variable w x (suc n) = cond (eqb x (variable_name w n)) (P.Some (variable_type w n)) (find_variable w x n)
 
 -- ---- functions
 

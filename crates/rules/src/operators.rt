@@ -3,11 +3,11 @@ ghost use Rattle.std.specs.Prelude.{◌≡◌, ◌≤◌, length};
 ghost use Rattle.language.specs.Sizes.{TABLE};
 ghost use Rattle.layout.specs.Decode.{counts};
 ghost use Rattle.rules.specs.Sight.{Rowed};
-ghost use Rattle.rules.specs.Asked.{Children, Constant, AsksOne, AsksTwo, AsksIf, AsksCall, Prefixed};
+ghost use Rattle.rules.specs.Asked.{Children, Constant, AsksOne, AsksTwo, AsksIf, AsksCall, Prefixed, Fetched, Referred};
 ghost use Rattle.rules.specs.Asked.{Between, Alike, Assigns, Follows, Repeats, Matches, Operand, Result};
 ghost use Rattle.rules.specs.Asked.{Bounded, AsksFor};
 
-use crate::Typing;
+use crate::{Fault, need};
 use crate::sight::Callee;
 use language::kinds;
 use layout::{rows, types};
@@ -24,97 +24,76 @@ const FETCH: u32 = rows::PREFIX + kinds::BANG;
 pub fn children(kind: u32) -> usize
     ensures { Children kind result }
 {
-    if rows::PREFIX <= kind {
-        return 1;
+    match kind {
+        kinds::LPAR | kinds::LBRACE | rows::PREFIX.. => 1,
+        kinds::IF => 3,
+        kinds::LET | kinds::WHILE | kinds::PLUS..kinds::FLOAT_NUMBER => 2,
+        // A number with a point, a call or a `for`: these kinds come last, behind the words.
+        _ => 0,
     }
-    // A number with a point, a call or a `for`: these kinds come last.
-    if kinds::FLOAT_NUMBER <= kind {
-        return 0;
-    }
-    if kind == kinds::LPAR {
-        return 1;
-    }
-    if kind == kinds::LBRACE {
-        return 1;
-    }
-    if kind == kinds::IF {
-        return 3;
-    }
-    if kind == kinds::LET {
-        return 2;
-    }
-    if kind == kinds::WHILE {
-        return 2;
-    }
-    if kind < kinds::PLUS {
-        return 0;
-    }
-    2
 }
 
 // Is it a `for`? Its row has the kind of the mark between its start and its end.
+#[tactic(auto, unfolding(layout::specs::Decode::counts))]
 pub fn counts(kind: u32) -> bool
     ensures { result ≡ counts kind }
 {
-    if kind == kinds::UPTO {
-        return true;
-    }
-    kind == kinds::THROUGH
+    kind == kinds::UPTO || kind == kinds::THROUGH
 }
 
 // The type of a number, with a point or without, `true`, `false` or `tt`.
 pub fn constant(kind: u32) -> u32
     ensures { Constant kind result }
 {
-    if kind == kinds::NUMBER {
-        return types::INT;
+    match kind {
+        kinds::NUMBER => types::INT,
+        kinds::FLOAT_NUMBER => types::FLOAT,
+        kinds::TT => types::UNIT,
+        _ => types::BOOL,
     }
-    if kind == kinds::FLOAT_NUMBER {
-        return types::FLOAT;
-    }
-    if kind == kinds::TT {
-        return types::UNIT;
-    }
-    types::BOOL
 }
 
 // An operand that must be of one type, which is the result's too.
-fn alike(found: u32, wanted: u32, at: u32) -> Typing
+fn alike(found: u32, wanted: u32, at: u32) -> Result<u32, Fault>
     ensures { Alike found wanted at result }
 {
-    if found == wanted {
-        return Typing::Type(wanted);
-    }
-    Typing::Fault(Reason::WrongOperand, at)
+    need(found == wanted, Reason::WrongOperand, at)?;
+    Ok(wanted)
 }
 
-fn unary(kind: u32, found: u32, at: u32) -> Typing
+// What a reference holds.
+fn fetched(found: u32, at: u32) -> Result<u32, Fault>
+    ensures { Fetched found at result }
+{
+    need(types::REF < found, Reason::WrongOperand, at)?;
+    Ok(found - types::REF)
+}
+
+// A reference to it.
+fn referred(found: u32, at: u32) -> Result<u32, Fault>
+    ensures { Referred found at result }
+{
+    need(found < types::FULL, Reason::TooManyRefs, at)?;
+    Ok(found + types::REF)
+}
+
+fn unary(kind: u32, found: u32, at: u32) -> Result<u32, Fault>
     ensures { Prefixed kind found at result }
 {
-    if kind == NEGATE {
-        return alike(found, types::INT, at);
+    match kind {
+        NEGATE => alike(found, types::INT, at),
+        DENY => alike(found, types::BOOL, at),
+        FETCH => fetched(found, at),
+        _ => referred(found, at),
     }
-    if kind == DENY {
-        return alike(found, types::BOOL, at);
-    }
-    if kind == FETCH {
-        if types::REF < found {
-            return Typing::Type(found - types::REF);
-        }
-        return Typing::Fault(Reason::WrongOperand, at);
-    }
-    if found < types::FULL {
-        return Typing::Type(found + types::REF);
-    }
-    Typing::Fault(Reason::TooManyRefs, at)
 }
 
 // A node's answer once its one child is typed. A Group has its inside's type, and so has a Block.
-pub fn after_child(kind: u32, found: u32, at: u32) -> Typing
+pub fn after_child(kind: u32, found: u32, at: u32) -> Result<u32, Fault>
     ensures { AsksOne kind found at result }
 {
     if kind < rows::PREFIX {
-        return Typing::Type(found);
+        return Ok(found);
     }
     unary(kind, found, at)
 }
@@ -124,149 +103,115 @@ pub fn after_child(kind: u32, found: u32, at: u32) -> Typing
 fn operand(kind: u32, first: u32) -> u32
     ensures { Operand kind first result }
 {
-    if kind == kinds::AND {
-        return types::BOOL;
+    match kind {
+        kinds::AND | kinds::OR => types::BOOL,
+        kinds::EQUAL => types::INT,
+        _ if first == types::FLOAT => types::FLOAT,
+        _ => types::INT,
     }
-    if kind == kinds::OR {
-        return types::BOOL;
-    }
-    if kind == kinds::EQUAL {
-        return types::INT;
-    }
-    if first == types::FLOAT {
-        return types::FLOAT;
-    }
-    types::INT
 }
 
 // The type of its result: arithmetic gives what it takes.
 fn result(kind: u32, first: u32) -> u32
     ensures { Result kind first result }
 {
-    if kind < kinds::AND {
-        return first;
-    }
-    types::BOOL
+    if kind < kinds::AND { first } else { types::BOOL }
 }
 
 // What is assigned to a cell must have the type of what the cell holds.
-fn assigned(first: u32, second: u32, at: u32) -> Typing
+fn assigned(first: u32, second: u32, at: u32) -> Result<u32, Fault>
     ensures { Assigns first second at result }
 {
-    if types::REF < first {
-        let held = first - types::REF;
-        if held == second {
-            return Typing::Type(types::UNIT);
-        }
-    }
-    Typing::Fault(Reason::WrongOperands, at)
+    let fits = types::REF < first && first - types::REF == second;
+    need(fits, Reason::WrongOperands, at)?;
+    Ok(types::UNIT)
 }
 
-fn binary(kind: u32, first: u32, second: u32, at: u32) -> Typing
+// Both operands of an operator must be of the type that it takes.
+fn binary(kind: u32, first: u32, second: u32, at: u32) -> Result<u32, Fault>
     ensures { Between kind first second at result }
 {
     if kind == kinds::BECOMES {
         return assigned(first, second, at);
     }
     let wanted = operand(kind, first);
-    if first == wanted {
-        if second == wanted {
-            return Typing::Type(result(kind, first));
-        }
-    }
-    Typing::Fault(Reason::WrongOperands, at)
+    need(first == wanted && second == wanted, Reason::WrongOperands, at)?;
+    Ok(result(kind, first))
 }
 
 // `;` wants its left side to be of type unit.
-fn follow(first: u32, second: u32, at: u32) -> Typing
+fn follow(first: u32, second: u32, at: u32) -> Result<u32, Fault>
     ensures { Follows first second at result }
 {
-    if first == types::UNIT {
-        return Typing::Type(second);
-    }
-    Typing::Fault(Reason::NotUnit, at)
+    need(first == types::UNIT, Reason::NotUnit, at)?;
+    Ok(second)
 }
 
 // `while` wants a bool, and a body of type unit.
-fn repeat(condition: u32, body: u32, at: u32) -> Typing
+fn repeat(condition: u32, body: u32, at: u32) -> Result<u32, Fault>
     ensures { Repeats condition body at result }
 {
-    if condition == types::BOOL {
-        if body == types::UNIT {
-            return Typing::Type(types::UNIT);
-        }
-        return Typing::Fault(Reason::NotUnit, at);
-    }
-    Typing::Fault(Reason::NotBool, at)
+    need(condition == types::BOOL, Reason::NotBool, at)?;
+    need(body == types::UNIT, Reason::NotUnit, at)?;
+    Ok(types::UNIT)
 }
 
 // A node's answer once its two children are typed.
-pub fn after_children(kind: u32, first: u32, second: u32, at: u32) -> Typing
+pub fn after_children(kind: u32, first: u32, second: u32, at: u32) -> Result<u32, Fault>
     ensures { AsksTwo kind first second at result }
 {
-    if kind == kinds::SEMI {
-        return follow(first, second, at);
+    match kind {
+        kinds::SEMI => follow(first, second, at),
+        kinds::WHILE => repeat(first, second, at),
+        _ => binary(kind, first, second, at),
     }
-    if kind == kinds::WHILE {
-        return repeat(first, second, at);
-    }
-    binary(kind, first, second, at)
 }
 
 // `if` wants a bool, and branches of one type.
-pub fn branches(condition: u32, first: u32, second: u32, at: u32) -> Typing
+pub fn branches(condition: u32, first: u32, second: u32, at: u32) -> Result<u32, Fault>
     ensures { AsksIf condition first second at result }
 {
-    if condition == types::BOOL {
-        if first == second {
-            return Typing::Type(first);
-        }
-        return Typing::Fault(Reason::BranchesDiffer, at);
-    }
-    Typing::Fault(Reason::NotBool, at)
+    need(condition == types::BOOL, Reason::NotBool, at)?;
+    need(first == second, Reason::BranchesDiffer, at)?;
+    Ok(first)
 }
 
 // Will bounds do, so many, which are all ints or not? There are a start and an end, and maybe a step.
 fn bounded(count: usize, ints: bool) -> bool
     ensures { Bounded count ints result }
 {
-    if count == 2 {
-        return ints;
+    match count {
+        2 | 3 => ints,
+        _ => false,
     }
-    if count == 3 {
-        return ints;
-    }
-    false
 }
 
 // `for` wants bounds that will do, and a body of type unit.
-pub fn counted(count: usize, ints: bool, body: u32, at: u32) -> Typing
+pub fn counted(count: usize, ints: bool, body: u32, at: u32) -> Result<u32, Fault>
     ensures { AsksFor count ints body at result }
 {
-    if bounded(count, ints) {
-        if body == types::UNIT {
-            return Typing::Type(types::UNIT);
-        }
-        return Typing::Fault(Reason::NotUnit, at);
-    }
-    Typing::Fault(Reason::NotInt, at)
+    need(bounded(count, ints), Reason::NotInt, at)?;
+    need(body == types::UNIT, Reason::NotUnit, at)?;
+    Ok(types::UNIT)
 }
 
 // A call that has so many arguments, of a function that takes so many and gives this result.
-fn matched(arity: usize, res: u32, count: usize, suited: bool, at: u32) -> Typing
+fn matched(arity: usize, res: u32, count: usize, suited: bool, at: u32) -> Result<u32, Fault>
     ensures { Matches arity res count suited at result }
 {
-    if count == arity {
-        if suited {
-            return Typing::Type(res);
-        }
-        return Typing::Fault(Reason::WrongArgument, at);
-    }
-    Typing::Fault(Reason::WrongNumber, at)
+    need(count == arity, Reason::WrongNumber, at)?;
+    need(suited, Reason::WrongArgument, at)?;
+    Ok(res)
 }
 
 // A call asks whether its callee is in sight, takes as many arguments, and these.
-pub fn call(table: &[u32], callee: Callee, count: usize, suited: bool, at: u32) -> Typing
+pub fn call(
+    table: &[u32],
+    callee: Callee,
+    count: usize,
+    suited: bool,
+    at: u32,
+) -> Result<u32, Fault>
     requires { (TABLE ≤ length table.now) × Rowed table.now callee }
     ensures { AsksCall table.now callee count suited at result }
 {
@@ -277,6 +222,9 @@ pub fn call(table: &[u32], callee: Callee, count: usize, suited: bool, at: u32) 
             matched(arity, result, count, suited, at)
         }
         Callee::Putchar => matched(1, types::INT, count, suited, at),
-        Callee::Nobody => Typing::Fault(Reason::NoFunction, at),
+        Callee::Nobody => Err(Fault {
+            reason: Reason::NoFunction,
+            at,
+        }),
     }
 }

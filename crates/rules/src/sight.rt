@@ -3,16 +3,9 @@
 ghost use Rattle.std.specs.Prelude.{◌≡◌, ℕ, ◌+◌, ◌≤◌, ◌<◌, length};
 ghost use Rattle.language.specs.Sizes.{TOKENS, TABLE};
 ghost use Rattle.layout.specs.Functions.{Headed};
-ghost use Rattle.rules.specs.Sight.{find_variable, found, callee_in, Rowed, wanted_in, Readable, expected_in};
+ghost use Rattle.rules.specs.Sight.{find_variable, callee_in, Rowed, wanted_in, Readable, expected_in};
 
 use layout::{PUTCHAR, functions, rows, types, variables};
-
-// A variable, by its type's number.
-#[derive(Clone, Copy)]
-pub enum Found {
-    Is(u32),
-    Nowhere,
-}
 
 // Whom a call means: the function at a row, or the one that is there before all others.
 #[derive(Clone, Copy)]
@@ -29,20 +22,17 @@ pub enum Taker {
     For,
 }
 
-// The nearest of the first `binds` variables that has this name.
-pub fn variable(table: &[u32], binds: usize, name: u32) -> Found
+// The type's number of the nearest of the first `binds` variables that has this name.
+pub fn variable(table: &[u32], binds: usize, name: u32) -> Option<u32>
     requires { (TABLE ≤ length table.now) × (binds ≤ TOKENS) }
-    ensures { found result ≡ find_variable table.now name binds }
+    ensures { result ≡ find_variable table.now name binds }
 {
-    let mut i = binds;
-    while 0 < i {
-        let k = i - 1;
+    for k in (0..binds).rev() {
         if variables::name(table, k) == name {
-            return Found::Is(variables::type_number(table, k));
+            return Some(variables::type_number(table, k));
         }
-        i = k;
     }
-    Found::Nowhere
+    None
 }
 
 // The callee of this name: the newest of the first `seen` functions, or `putchar`.
@@ -59,6 +49,7 @@ pub fn called(table: &[u32], seen: usize, name: u32) -> Callee
 }
 
 // The number of the type that a callee wants of its argument k, 0 where it has none.
+#[tactic(auto, unfolding(language::specs::Meaning::type_number))]
 pub fn wanted(table: &[u32], callee: Callee, k: usize) -> u32
     requires { (TABLE ≤ length table.now) × Rowed table.now callee }
     ensures { result ≡ wanted_in table.now callee k }
@@ -70,17 +61,13 @@ pub fn wanted(table: &[u32], callee: Callee, k: usize) -> u32
             }
             0
         }
-        Callee::Putchar => {
-            if k == 0 {
-                return types::INT;
-            }
-            0
-        }
-        Callee::Nobody => 0,
+        Callee::Putchar if k == 0 => types::INT,
+        Callee::Putchar | Callee::Nobody => 0,
     }
 }
 
 // The number of the type that is wanted of expression k of a list: a bound is an int.
+#[tactic(auto, unfolding(language::specs::Meaning::type_number))]
 pub fn expected(table: &[u32], taker: Taker, k: usize) -> u32
     requires { (TABLE ≤ length table.now) × Readable table.now taker }
     ensures { result ≡ expected_in table.now taker k }

@@ -35,7 +35,9 @@ use Rattle.reader.specs.Findings as Reader
 use Rattle.reader.specs.Findings.{Standing}
 use Rattle.reader.specs.declared.Found as found
 use Rattle.checker.specs.Checked as Checker
-use Rattle.rules.specs.declared.Typing as typing
+use Rattle.rules.specs.Asked.{Typing}
+use Rattle.rules.specs.declared.Fault.{Fault}
+use Rattle.std.specs.Prelude.{Ok, Err}
 use Rattle.sheets.specs.Sheets.{wiped, byte_of, OfProgram, Typed, OfTokens, Read, Placed, OfSource, Examined}
 use Rattle.sheets.specs.declared.Verdict.{Verdict}
 use Rattle.sheets.specs.declared.Seen.{Seen}
@@ -73,19 +75,19 @@ module _ (w w' : List ℕ) (P : Held) where
   checked_long : w' ≡ without_variables w → length w' ≡ length w
   checked_long e = ap length e ∙ length_without w
 
-  pub typed_type : (r : typing.Typing) (n : ℕ) → Checker.Checked w w' P r → r ≡ typing.TheVariants.«Type» n
+  pub typed_type : (r : Typing) (n : ℕ) → Checker.Checked w w' P r → r ≡ Ok n
       → Typed w w' P (Verdict.Proper P n)
   typed_type r n c q = record {
-    told = λ ts p h. (refl, subst (λ (r : typing.Typing). Checker.Answers r p) q (c.right ts p h));
+    told = λ ts p h. (refl, subst (λ (r : Typing). Checker.Answers r p) q (c.right ts p h));
     holds = checked_holds c.table;
     rest = checked_rest c.table;
     long = checked_long c.table;
   }
 
-  pub typed_fault : (r : typing.Typing) (y : Reason) (i : ℕ) → Checker.Checked w w' P r → r ≡ typing.TheVariants.Fault y i
-      → Typed w w' P (Verdict.Denied (Refusal.Types y) i)
-  typed_fault r y i c q = record {
-    told = λ ts p h. (reason_meant y, subst (λ (r : typing.Typing). Checker.Answers r p) q (c.right ts p h), refl);
+  pub typed_fault : (r : Typing) (e : Fault) → Checker.Checked w w' P r → r ≡ Err e
+      → Typed w w' P (Verdict.Denied (Refusal.Types e.reason) e.at)
+  typed_fault r e c q = record {
+    told = λ ts p h. (reason_meant e.reason, subst (λ (r : Typing). Checker.Answers r p) q (c.right ts p h), refl);
     holds = checked_holds c.table;
     rest = checked_rest c.table;
     long = checked_long c.table;

@@ -18,7 +18,6 @@ ghost use Rattle.sheets.specs.Forms.{origin_of, place_of};
 use layout::Held;
 use numbers::Refusal;
 use reader::Found;
-use rules::Typing;
 use stored::Stored;
 use tokens::answer::Split;
 use tokens::edition::{Edition, Known, named};
@@ -63,14 +62,11 @@ fn typed(table: &mut [u32], program: Held) -> Verdict
     ensures { Typed table.old table.new program result }
 {
     match checker::type_of(table, program) {
-        Typing::Type(type_number) => Verdict::Proper {
+        Ok(type_number) => Verdict::Proper {
             program,
             type_number,
         },
-        Typing::Fault(why, at) => {
-            let ordinal = at as usize;
-            Verdict::Denied(Refusal::Types(why), ordinal)
-        }
+        Err(fault) => Verdict::Denied(Refusal::Types(fault.reason), fault.at as usize),
     }
 }
 

@@ -1,21 +1,20 @@
-use Rattle.checker.proofs.BodyLaws.{deep_fits, type_fits, fault_fits, other_fits}
+use borrow.Author.Tests.{ltb-true, ltb-false}
+use Rattle.rules.proofs.TellLaws.{handed_on, handed_as}
+use Rattle.checker.proofs.BodyLaws.{deep_fits, fault_fits, tested_fits}
 use Rattle.checker.proofs.programs.body.Goals as goal
 
-pub returns-then-result-ge-OVER : goal.returns-then-result-ge-OVER
-returns-then-result-ge-OVER c =
-    deep_fits c.requires c.word-at.ensures c.word-result.ensures c.if-result-ge-OVER.true
+pub returns-in_err-need : goal.returns-in_err-need
+returns-in_err-need c =
+    rw (handed_as c.from_residual.ensures.1 c.in_err-need.ensures.1)
+    (deep_fits c.requires c.word-at.ensures c.word-result.ensures (ltb-false _ _ c.in_err-need.ensures.0))
 
-pub returns-then-t-result : goal.returns-then-t-result
-returns-then-t-result c =
-    type_fits c.requires c.word-at.ensures c.word-result.ensures c.if-result-ge-OVER.false c.link-root.ensures c.link-count.ensures
-    c.type_at-typed.ensures c.in-Type.is c.if-t-result.true
+pub returns-in_err-found : goal.returns-in_err-found
+returns-in_err-found c =
+    rw (handed_on c.from_residual-in_err-found.ensures.1)
+    (fault_fits c.requires c.word-at.ensures c.word-result.ensures (ltb-true _ _ c.in_ok-need.ensures) c.link-root.ensures
+    c.link-count.ensures c.type_at.ensures c.in_err-found.was)
 
-pub returns-in-Fault : goal.returns-in-Fault
-returns-in-Fault c =
-    fault_fits c.requires c.word-at.ensures c.word-result.ensures c.if-result-ge-OVER.false c.link-root.ensures
-    c.link-count.ensures c.type_at-typed.ensures c.in-Fault.is
-
-pub returns-else-t-result : goal.returns-else-t-result
-returns-else-t-result c =
-    other_fits c.requires c.word-at.ensures c.word-result.ensures c.if-result-ge-OVER.false c.link-root.ensures
-    c.link-count.ensures c.type_at-typed.ensures c.in-Type.is c.if-t-result.false
+pub returns : goal.returns
+returns c =
+    tested_fits c.requires c.word-at.ensures c.word-result.ensures (ltb-true _ _ c.in_ok-need.ensures) c.link-root.ensures
+    c.link-count.ensures c.type_at.ensures c.in_ok-found.was _ c.need-2.ensures

@@ -1,3 +1,8 @@
+use mathlib.Core.Path.{ap, ◌∙◌}
+use Rattle.std.proofs.Common.{arith}
+use Rattle.std.proofs.lemmas.Bool.Decides.{nat_tests}
+use Rattle.std.specs.Prelude.{Err}
+use Rattle.rules.proofs.TellLaws.{handed_on}
 use Rattle.rules.proofs.OperatorLaws.{between_assign, between_fine, between_other}
 use Rattle.rules.proofs.operators.binary.Goals as goal
 
@@ -5,14 +10,12 @@ pub returns-then-kind-eq-BECOMES : goal.returns-then-kind-eq-BECOMES
 returns-then-kind-eq-BECOMES c =
     between_assign _ c.if-kind-eq-BECOMES.true c.assigned.ensures
 
-pub returns-then-second-wanted : goal.returns-then-second-wanted
-returns-then-second-wanted c =
-    between_fine _ c.if-kind-eq-BECOMES.false c.operand-wanted.ensures c.result.ensures c.if-first-wanted.true c.if-second-wanted.true
+pub returns-in_err-need : goal.returns-in_err-need
+returns-in_err-need c =
+    between_other _ c.if-kind-eq-BECOMES.false c.operand-wanted.ensures (λ a b. grind (arith, nat_tests))
+    (handed_on c.from_residual.ensures.1 ∙ ap Err c.in_err-need.ensures.1)
 
-pub returns-else-second-wanted : goal.returns-else-second-wanted
-returns-else-second-wanted c =
-    between_other _ c.if-kind-eq-BECOMES.false c.operand-wanted.ensures (λ a b. c.if-second-wanted.false b)
-
-pub returns-else-first-wanted : goal.returns-else-first-wanted
-returns-else-first-wanted c =
-    between_other _ c.if-kind-eq-BECOMES.false c.operand-wanted.ensures (λ a b. c.if-first-wanted.false a)
+pub returns : goal.returns
+returns c =
+    between_fine _ c.if-kind-eq-BECOMES.false c.operand-wanted.ensures c.result.ensures
+    (grind (arith, nat_tests)) (grind (arith, nat_tests))

@@ -1,10 +1,9 @@
-use Rattle.rules.proofs.BoundLaws.{bounded_two, bounded_three}
+use native.Mathlib.Omega.{arith}
+use Rattle.rules.proofs.BoundLaws.{bounded_few, bounded_not}
 use Rattle.rules.proofs.operators.bounded.Goals as goal
 
-pub returns-then-count-eq2 : goal.returns-then-count-eq2
-returns-then-count-eq2 c =
-    bounded_two c.if-count-eq2.true
+pub returns-in-2 : goal.returns-in-2
+returns-in-2 c = bounded_few (omega arith) (omega arith)
 
-pub returns-then-count-eq3 : goal.returns-then-count-eq3
-returns-then-count-eq3 c =
-    bounded_three c.if-count-eq3.true
+pub returns-in_default : goal.returns-in_default
+returns-in_default c = bounded_not (λ e. omega arith) (λ e. omega arith)

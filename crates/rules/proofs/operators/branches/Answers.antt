@@ -1,28 +1,31 @@
 use mathlib.Core.Path.{refl}
-use Rattle.rules.proofs.TellLaws.{type_is, fault_is}
-use Rattle.rules.proofs.OperatorLaws.{is_type, isnt_type}
-use Rattle.language.specs.Trees.{bool}
 use Rattle.language.specs.Meaning.{type_number}
+use Rattle.language.specs.Trees.{bool, TyDiscrete}
 use Rattle.language.proofs.Executable.Checks.{after_ok, need_yes, need_no}
 use Rattle.language.proofs.Executable.Checker.{infer}
+use Rattle.rules.specs.Asked.{tells_type}
+use Rattle.rules.proofs.TellLaws.{fault_need, tells_need, tells_from}
+use Rattle.rules.proofs.OperatorLaws.{is_type, isnt_type}
 use Rattle.rules.proofs.operators.branches.Goals as goal
 
-pub returns-then-first-second : goal.returns-then-first-second
+pub returns-in_err-need : goal.returns-in_err-need
 unfolding infer type_number
-returns-then-first-second c =
-    λ Δ Γ a b d v t u e k f p g q. type_is t
-    (after_ok _ e (after_ok _ f
-    (after_ok _ g (need_yes _ _ _ _ (is_type v bool k refl c.if-condition-eq-BOOL.true) (need_yes _ _ _ _ (is_type t u p q c.if-first-second.true) refl))))) p
+returns-in_err-need c =
+    λ Δ Γ a b d v t u e k f p g q. tells_from (after_ok _ e (after_ok _ f (after_ok _ g refl)))
+    (fault_need (TyDiscrete v bool) _ c.from_residual.ensures.1 c.in_err-need.ensures.1
+    (isnt_type v bool k refl c.in_err-need.ensures.0))
 
-pub returns-then-condition-eq-BOOL : goal.returns-then-condition-eq-BOOL
+pub returns-in_err-need-2 : goal.returns-in_err-need-2
 unfolding infer type_number
-returns-then-condition-eq-BOOL c =
-    λ Δ Γ a b d v t u e k f p g q. fault_is
-    (after_ok _ e (after_ok _ f
-    (after_ok _ g (need_yes _ _ _ _ (is_type v bool k refl c.if-condition-eq-BOOL.true) (need_no _ _ _ _ (isnt_type t u p q c.if-first-second.false))))))
+returns-in_err-need-2 c =
+    λ Δ Γ a b d v t u e k f p g q. tells_from (after_ok _ e (after_ok _ f (after_ok _ g refl)))
+    (tells_need _ _ (TyDiscrete v bool) _ (is_type v bool k refl c.in_ok-need.ensures)
+    (fault_need (TyDiscrete t u) _ c.from_residual-in_err-need-2.ensures.1 c.in_err-need-2.ensures.1
+    (isnt_type t u p q c.in_err-need-2.ensures.0)))
 
 pub returns : goal.returns
 unfolding infer type_number
 returns c =
-    λ Δ Γ a b d v t u e k f p g q. fault_is
-    (after_ok _ e (after_ok _ f (after_ok _ g (need_no _ _ _ _ (isnt_type v bool k refl c.if-condition-eq-BOOL.false)))))
+    λ Δ Γ a b d v t u e k f p g q. tells_from (after_ok _ e (after_ok _ f (after_ok _ g refl)))
+    (tells_need _ _ (TyDiscrete v bool) _ (is_type v bool k refl c.in_ok-need.ensures)
+    (tells_need _ _ (TyDiscrete t u) _ (is_type t u p q c.in_ok-need-2.ensures) (tells_type p)))

@@ -1,29 +1,21 @@
 use mathlib.Core.Path.{refl}
+use native.Mathlib.Omega.{arith}
 use Rattle.language.specs.Meaning.{type_number}
 use Rattle.rules.proofs.ShapeLaws.{constant_is}
-use native.Mathlib.Omega.{arith}
 use Rattle.rules.proofs.operators.constant.Goals as goal
 
-pub returns-then-kind-eq-NUMBER : goal.returns-then-kind-eq-NUMBER
+pub returns-in-2 : goal.returns-in-2
 unfolding type_number
-returns-then-kind-eq-NUMBER c =
-    let h = c.if-kind-eq-NUMBER.true in
-    constant_is (λ e. refl) (λ e. omega (arith, h)) (λ e. omega (arith, h)) (λ e. omega (arith, h)) (λ e. omega (arith, h))
+returns-in-2 c = constant_is (λ e. refl) (λ e. omega arith) (λ e. omega arith) (λ e. omega arith) (λ e. omega arith)
 
-pub returns-then-kind-eq-FLOAT_NUMBER : goal.returns-then-kind-eq-FLOAT_NUMBER
+pub returns-in-39 : goal.returns-in-39
 unfolding type_number
-returns-then-kind-eq-FLOAT_NUMBER c =
-    let h = c.if-kind-eq-FLOAT_NUMBER.true in
-    constant_is (λ e. omega (arith, h)) (λ e. refl) (λ e. omega (arith, h)) (λ e. omega (arith, h)) (λ e. omega (arith, h))
+returns-in-39 c = constant_is (λ e. omega arith) (λ e. refl) (λ e. omega arith) (λ e. omega arith) (λ e. omega arith)
 
-pub returns-then-kind-eq-TT : goal.returns-then-kind-eq-TT
+pub returns-in-19 : goal.returns-in-19
 unfolding type_number
-returns-then-kind-eq-TT c =
-    let h = c.if-kind-eq-TT.true in
-    constant_is (λ e. omega (arith, h)) (λ e. omega (arith, h)) (λ e. omega (arith, h)) (λ e. omega (arith, h)) (λ e. refl)
+returns-in-19 c = constant_is (λ e. omega arith) (λ e. omega arith) (λ e. omega arith) (λ e. omega arith) (λ e. refl)
 
-pub returns : goal.returns
+pub returns-in_default : goal.returns-in_default
 unfolding type_number
-returns c =
-    constant_is (λ e. absurd (c.if-kind-eq-NUMBER.false e)) (λ e. absurd (c.if-kind-eq-FLOAT_NUMBER.false e)) (λ e. refl) (λ e. refl)
-    (λ e. absurd (c.if-kind-eq-TT.false e))
+returns-in_default c = constant_is (λ e. omega arith) (λ e. omega arith) (λ e. refl) (λ e. refl) (λ e. omega arith)

@@ -1,30 +1,31 @@
 use mathlib.Core.Path.{refl}
-use Rattle.rules.proofs.TellLaws.{type_is, fault_is}
-use Rattle.rules.proofs.OperatorLaws.{is_type, isnt_type}
-use Rattle.language.specs.Trees.{unit}
 use Rattle.language.specs.Meaning.{type_number}
-use Rattle.language.proofs.Executable.Checks.{after_ok, need_yes, need_no}
+use Rattle.language.specs.Trees.{unit, TyDiscrete}
+use Rattle.language.specs.Types.{Bounds}
+use Rattle.language.proofs.Executable.Checks.{after_ok}
 use Rattle.language.proofs.Executable.Checker.{infer}
+use Rattle.rules.specs.Asked.{tells_type}
+use Rattle.rules.proofs.TellLaws.{fault_need, tells_need, tells_from}
+use Rattle.rules.proofs.OperatorLaws.{is_type, isnt_type}
 use Rattle.rules.proofs.operators.counted.Goals as goal
 
-pub returns-then-body-eq-UNIT : goal.returns-then-body-eq-UNIT
-unfolding infer type_number
-returns-then-body-eq-UNIT c =
-    λ w Δ Γ x th es e us t h n s g m. type_is unit
-    (after_ok _ h (after_ok _ g
-    (need_yes _ _ _ _ ((c.bounded.ensures w us n s).0 c.if-bounded.true)
-    (need_yes _ _ _ _ (is_type t unit m refl c.if-body-eq-UNIT.true) refl)))) refl
+pub returns-in_err-need : goal.returns-in_err-need
+unfolding infer
+returns-in_err-need c =
+    λ w Δ Γ x th es e us t h n s g m. tells_from (after_ok _ h (after_ok _ g refl))
+    (fault_need _ _ c.from_residual.ensures.1 c.in_err-need.ensures.1 ((c.bounded.ensures w us n s).1 c.in_err-need.ensures.0))
 
-pub returns-then-bounded : goal.returns-then-bounded
+pub returns-in_err-need-2 : goal.returns-in_err-need-2
 unfolding infer type_number
-returns-then-bounded c =
-    λ w Δ Γ x th es e us t h n s g m. fault_is
-    (after_ok _ h (after_ok _ g
-    (need_yes _ _ _ _ ((c.bounded.ensures w us n s).0 c.if-bounded.true)
-    (need_no _ _ _ _ (isnt_type t unit m refl c.if-body-eq-UNIT.false)))))
+returns-in_err-need-2 c =
+    λ w Δ Γ x th es e us t h n s g m. tells_from (after_ok _ h (after_ok _ g refl))
+    (tells_need _ _ _ _ ((c.bounded.ensures w us n s).0 c.in_ok-need.ensures)
+    (fault_need (TyDiscrete t unit) _ c.from_residual-in_err-need-2.ensures.1 c.in_err-need-2.ensures.1
+    (isnt_type t unit m refl c.in_err-need-2.ensures.0)))
 
 pub returns : goal.returns
-unfolding infer
+unfolding infer type_number
 returns c =
-    λ w Δ Γ x th es e us t h n s g m. fault_is
-    (after_ok _ h (after_ok _ g (need_no _ _ _ _ ((c.bounded.ensures w us n s).1 c.if-bounded.false))))
+    λ w Δ Γ x th es e us t h n s g m. tells_from (after_ok _ h (after_ok _ g refl))
+    (tells_need _ _ _ _ ((c.bounded.ensures w us n s).0 c.in_ok-need.ensures)
+    (tells_need _ _ (TyDiscrete t unit) _ (is_type t unit m refl c.in_ok-need-2.ensures) (tells_type refl)))

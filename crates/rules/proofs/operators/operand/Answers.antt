@@ -4,29 +4,22 @@ use native.Mathlib.Omega.{arith}
 use Rattle.rules.proofs.ShapeLaws.{operand_is, arithmetic_float, arithmetic_other}
 use Rattle.rules.proofs.operators.operand.Goals as goal
 
-pub returns-then-kind-eq-AND : goal.returns-then-kind-eq-AND
+pub returns-in-25 : goal.returns-in-25
 unfolding type_number
-returns-then-kind-eq-AND c =
-    operand_is _ (λ e. refl) (λ e. refl) (λ e. absurd (omega (arith, c.if-kind-eq-AND.true))) (λ x y z. absurd (x c.if-kind-eq-AND.true))
+returns-in-25 c =
+    operand_is _ (λ e. refl) (λ e. refl) (λ e. omega arith) (λ x y z. absurd (omega (arith, x, y)))
 
-pub returns-then-kind-eq-OR : goal.returns-then-kind-eq-OR
+pub returns-in-28 : goal.returns-in-28
 unfolding type_number
-returns-then-kind-eq-OR c =
-    operand_is _ (λ e. refl) (λ e. refl) (λ e. absurd (omega (arith, c.if-kind-eq-OR.true))) (λ x y z. absurd (y c.if-kind-eq-OR.true))
+returns-in-28 c =
+    operand_is _ (λ e. omega arith) (λ e. omega arith) (λ e. refl) (λ x y z. absurd (z c.in-28.is))
 
-pub returns-then-kind-eq-EQUAL : goal.returns-then-kind-eq-EQUAL
+pub returns-in_default : goal.returns-in_default
 unfolding type_number
-returns-then-kind-eq-EQUAL c =
-    operand_is _ (λ e. absurd (c.if-kind-eq-AND.false e)) (λ e. absurd (c.if-kind-eq-OR.false e)) (λ e. refl) (λ x y z. absurd (z c.if-kind-eq-EQUAL.true))
+returns-in_default c =
+    operand_is _ (λ e. omega arith) (λ e. omega arith) (λ e. omega arith) (λ x y z. arithmetic_float c.if-first-eq-FLOAT.true)
 
-pub returns-then-first-eq-FLOAT : goal.returns-then-first-eq-FLOAT
+pub returns-in_default-2 : goal.returns-in_default-2
 unfolding type_number
-returns-then-first-eq-FLOAT c =
-    operand_is _ (λ e. absurd (c.if-kind-eq-AND.false e)) (λ e. absurd (c.if-kind-eq-OR.false e))
-    (λ e. absurd (c.if-kind-eq-EQUAL.false e)) (λ x y z. arithmetic_float c.if-first-eq-FLOAT.true)
-
-pub returns : goal.returns
-unfolding type_number
-returns c =
-    operand_is _ (λ e. absurd (c.if-kind-eq-AND.false e)) (λ e. absurd (c.if-kind-eq-OR.false e))
-    (λ e. absurd (c.if-kind-eq-EQUAL.false e)) (λ x y z. arithmetic_other c.if-first-eq-FLOAT.false)
+returns-in_default-2 c =
+    operand_is _ (λ e. omega arith) (λ e. omega arith) (λ e. omega arith) (λ x y z. arithmetic_other c.if-first-eq-FLOAT.false)

@@ -1,24 +1,26 @@
 use mathlib.Core.Path.{refl}
-use Rattle.rules.proofs.TellLaws.{type_is, fault_is}
-use Rattle.rules.proofs.OperatorLaws.{is_type, isnt_type}
-use Rattle.language.specs.Trees.{bool, unit}
 use Rattle.language.specs.Meaning.{type_number}
-use Rattle.language.proofs.Executable.Checks.{need_yes, need_no}
+use Rattle.language.specs.Trees.{bool, unit, TyDiscrete}
+use Rattle.rules.specs.Asked.{tells_type}
+use Rattle.rules.proofs.TellLaws.{fault_need, tells_need}
+use Rattle.rules.proofs.OperatorLaws.{is_type, isnt_type}
 use Rattle.rules.proofs.operators.repeat.Goals as goal
 
-pub returns-then-body-eq-UNIT : goal.returns-then-body-eq-UNIT
+pub returns-in_err-need : goal.returns-in_err-need
 unfolding type_number
-returns-then-body-eq-UNIT c =
-    λ t u p q. type_is unit
-    (need_yes _ _ _ _ (is_type t bool p refl c.if-condition-eq-BOOL.true) (need_yes _ _ _ _ (is_type u unit q refl c.if-body-eq-UNIT.true) refl)) refl
+returns-in_err-need c =
+    λ t u p q. fault_need (TyDiscrete t bool) _ c.from_residual.ensures.1 c.in_err-need.ensures.1
+    (isnt_type t bool p refl c.in_err-need.ensures.0)
 
-pub returns-then-condition-eq-BOOL : goal.returns-then-condition-eq-BOOL
+pub returns-in_err-need-2 : goal.returns-in_err-need-2
 unfolding type_number
-returns-then-condition-eq-BOOL c =
-    λ t u p q. fault_is
-    (need_yes _ _ _ _ (is_type t bool p refl c.if-condition-eq-BOOL.true) (need_no _ _ _ _ (isnt_type u unit q refl c.if-body-eq-UNIT.false)))
+returns-in_err-need-2 c =
+    λ t u p q. tells_need _ _ (TyDiscrete t bool) _ (is_type t bool p refl c.in_ok-need.ensures)
+    (fault_need (TyDiscrete u unit) _ c.from_residual-in_err-need-2.ensures.1 c.in_err-need-2.ensures.1
+    (isnt_type u unit q refl c.in_err-need-2.ensures.0))
 
 pub returns : goal.returns
 unfolding type_number
 returns c =
-    λ t u p q. fault_is (need_no _ _ _ _ (isnt_type t bool p refl c.if-condition-eq-BOOL.false))
+    λ t u p q. tells_need _ _ (TyDiscrete t bool) _ (is_type t bool p refl c.in_ok-need.ensures)
+    (tells_need _ _ (TyDiscrete u unit) _ (is_type u unit q refl c.in_ok-need-2.ensures) (tells_type refl))

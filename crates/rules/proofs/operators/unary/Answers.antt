@@ -1,6 +1,6 @@
 use mathlib.Core.Path.{refl}
-use Rattle.rules.proofs.TellLaws.{fault_is}
-use Rattle.rules.proofs.OperatorLaws.{prefixed, prefixed_new, fetch_some, fetch_none, new_some, new_none}
+use native.Mathlib.Omega.{arith}
+use Rattle.rules.proofs.OperatorLaws.{prefixed, prefixed_new}
 use Rattle.language.specs.Trees.{int, bool, minus, not, fetch}
 use Rattle.language.specs.Faults.{unsuited}
 use Rattle.language.specs.Meaning.{type_number}
@@ -8,34 +8,18 @@ use Rattle.language.proofs.Executable.Operators.{unop}
 use Rattle.layout.specs.Rows.{unary_kind}
 use Rattle.rules.proofs.operators.unary.Goals as goal
 
-pub returns-then-kind-eq-NEGATE : goal.returns-then-kind-eq-NEGATE
+pub returns-in-86 : goal.returns-in-86
 unfolding unop unsuited unary_kind type_number
-returns-then-kind-eq-NEGATE c =
-    prefixed _ minus c.if-kind-eq-NEGATE.true (λ t p. c.alike.ensures t int p refl)
+returns-in-86 c = prefixed _ minus c.in-86.is (λ t p. c.alike.ensures t int p refl)
 
-pub returns-then-kind-eq-DENY : goal.returns-then-kind-eq-DENY
+pub returns-in-77 : goal.returns-in-77
 unfolding unop unsuited unary_kind type_number
-returns-then-kind-eq-DENY c =
-    prefixed _ not c.if-kind-eq-DENY.true (λ t p. c.alike-then-kind-eq-DENY.ensures t bool p refl)
+returns-in-77 c = prefixed _ not c.in-77.is (λ t p. c.alike-in-77.ensures t bool p refl)
 
-pub returns-then-found-gt-REF : goal.returns-then-found-gt-REF
+pub returns-in-95 : goal.returns-in-95
 unfolding unop unsuited unary_kind type_number
-returns-then-found-gt-REF c =
-    prefixed _ fetch c.if-kind-eq-FETCH.true (λ t p. fetch_some _ t p c.if-found-gt-REF.true)
+returns-in-95 c = prefixed _ fetch c.in-95.is c.fetched.ensures
 
-pub returns-then-kind-eq-FETCH : goal.returns-then-kind-eq-FETCH
+pub returns-in_default : goal.returns-in_default
 unfolding unop unsuited unary_kind type_number
-returns-then-kind-eq-FETCH c =
-    prefixed _ fetch c.if-kind-eq-FETCH.true (λ t p. fault_is (fetch_none _ t p c.if-found-gt-REF.false))
-
-pub returns-then-found-lt-FULL : goal.returns-then-found-lt-FULL
-unfolding unop unsuited unary_kind type_number
-returns-then-found-lt-FULL c =
-    prefixed_new _ c.if-kind-eq-NEGATE.false c.if-kind-eq-DENY.false c.if-kind-eq-FETCH.false
-    (λ t p. new_some _ t p c.if-found-lt-FULL.true)
-
-pub returns : goal.returns
-unfolding unop unsuited unary_kind type_number
-returns c =
-    prefixed_new _ c.if-kind-eq-NEGATE.false c.if-kind-eq-DENY.false c.if-kind-eq-FETCH.false
-    (λ t p. fault_is (new_none _ t p c.if-found-lt-FULL.false))
+returns-in_default c = prefixed_new _ (λ e. omega arith) (λ e. omega arith) (λ e. omega arith) c.referred.ensures
