@@ -1,11 +1,12 @@
 -- What came of a rate sheet with a call under it as the second sheet, and what is known by its profile.
-use Rattle.std.specs.Prelude.{Bool, true, false, cond, eqb, ℕ}
+use Rattle.std.specs.Prelude.{Bool, true, false, cond, eqb, ℕ, Result, Ok, Err}
 use Rattle.wording.specs.declared.ends.End.{End}
 use Rattle.wording.specs.declared.ends.End.TheVariants.{Passed, Counted, Value, Refused, Stopped}
 use Rattle.wording.specs.declared.limits.Most.{Most}
-use Rattle.grumpy.specs.declared.answers.PairChecked as pair_checked
-use Rattle.grumpy.specs.declared.answers.PairProfiled.{PairProfiled}
-use Rattle.grumpy.specs.declared.answers.PairRan as pair_ran
+use Rattle.grumpy.specs.Reports.{CheckedAt, ProfiledAt, RanAt}
+use Rattle.layout.specs.declared.values.Value as value
+use Rattle.numbers.specs.declared.Stop as stop
+use Rattle.sheets.specs.declared.Located.{Located}
 use Rattle.numbers.specs.declared.Refusal.{Refusal}
 use Rattle.pairs.specs.declared.Spot.{Spot}
 use Rattle.wording.specs.declared.causes.Cause as cause
@@ -23,27 +24,31 @@ refused_under r s = cond (is_long r) (sided true r s.at) (sided (eqb s.sheet 2) 
 abbrev pub passed_under : (type_number : ℕ) → End
 passed_under k = cond (eqb k 1) (Passed k) (Refused (cause.TheVariants.NoWage k) 0)
 
-abbrev pub checked_under : pair_checked.PairChecked → End
-checked_under (pair_checked.TheVariants.Passed k) = passed_under k
-checked_under (pair_checked.TheVariants.Refused r s) = refused_under r s
+abbrev pub checked_under : CheckedAt Spot → End
+checked_under (Ok k) = passed_under k
+checked_under (Err r) = refused_under r.why r.place
 
 -- a place in the call counts as the end of the sheet, which has `own` bytes
 abbrev pub own_place : (own : ℕ) → Spot → ℕ
 own_place own s = cond (eqb s.sheet 2) own s.at
 
-abbrev pub ran_under : (own : ℕ) → pair_ran.PairRan → End
-ran_under own (pair_ran.TheVariants.Value k v u n) = Value k v u n
-ran_under own (pair_ran.TheVariants.Stopped w s k u n) = Stopped (cause.TheVariants.Stopped w) (own_place own s) k u n
-ran_under own (pair_ran.TheVariants.Refused r s) = refused_under r s
+-- of a type with the number k, with the units used and the bytes printed
+abbrev pub ended_under : (own k u n : ℕ) → Result value.Value (Located stop.Stop Spot) → End
+ended_under own k u n (Ok v) = Value k v u n
+ended_under own k u n (Err s) = Stopped (cause.TheVariants.Stopped s.why) (own_place own s.place) k u n
 
-abbrev pub unread_under : pair_checked.PairChecked → Bool
-unread_under (pair_checked.TheVariants.Passed k) = false
-unread_under (pair_checked.TheVariants.Refused r s) = is_unread r
+abbrev pub ran_under : (own : ℕ) → RanAt Spot → End
+ran_under own (Ok r) = ended_under own r.type_number r.ending.units r.ending.printed r.ending.end
+ran_under own (Err r) = refused_under r.why r.place
 
-abbrev pub profiled_under : PairProfiled → End
-profiled_under (PairProfiled.Passed k n) = Counted k n
-profiled_under (PairProfiled.Refused r s) = refused_under r s
+abbrev pub unread_under : CheckedAt Spot → Bool
+unread_under (Ok k) = false
+unread_under (Err r) = is_unread r.why
 
-abbrev pub most_under : PairProfiled → Most
-most_under (PairProfiled.Passed k n) = Most.Units n
-most_under (PairProfiled.Refused r s) = Most.Unknown
+abbrev pub profiled_under : ProfiledAt Spot → End
+profiled_under (Ok p) = Counted p.type_number p.count
+profiled_under (Err r) = refused_under r.why r.place
+
+abbrev pub most_under : ProfiledAt Spot → Most
+most_under (Ok p) = Most.Units p.count
+most_under (Err r) = Most.Unknown

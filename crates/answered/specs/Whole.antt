@@ -1,31 +1,36 @@
 -- What came of a whole sheet, from what the box answered, and what is known by its profile.
-use Rattle.std.specs.Prelude.{Bool, false}
+use Rattle.std.specs.Prelude.{Bool, false, ℕ, Result, Ok, Err}
 use Rattle.wording.specs.declared.ends.End.{End}
 use Rattle.wording.specs.declared.ends.End.TheVariants.{Passed, Counted, Value, Refused, Stopped}
 use Rattle.wording.specs.declared.limits.Most.{Most}
-use Rattle.grumpy.specs.declared.answers.Checked as checked
-use Rattle.grumpy.specs.declared.answers.Profiled.{Profiled}
-use Rattle.grumpy.specs.declared.answers.Ran as ran
+use Rattle.grumpy.specs.Reports.{CheckedAt, ProfiledAt, RanAt}
+use Rattle.layout.specs.declared.values.Value as value
+use Rattle.numbers.specs.declared.Stop as stop
+use Rattle.sheets.specs.declared.Located.{Located}
 use Rattle.wording.specs.declared.causes.Cause as cause
 use Rattle.answered.specs.Refusals.{is_unread}
 
-abbrev pub checked_end : checked.Checked → End
-checked_end (checked.TheVariants.Passed k) = Passed k
-checked_end (checked.TheVariants.Refused r p) = Refused (cause.TheVariants.Refused r) p
+abbrev pub checked_end : CheckedAt ℕ → End
+checked_end (Ok k) = Passed k
+checked_end (Err r) = Refused (cause.TheVariants.Refused r.why) r.place
 
-abbrev pub ran_end : ran.Ran → End
-ran_end (ran.TheVariants.Value k v u n) = Value k v u n
-ran_end (ran.TheVariants.Stopped s p k u n) = Stopped (cause.TheVariants.Stopped s) p k u n
-ran_end (ran.TheVariants.Refused r p) = Refused (cause.TheVariants.Refused r) p
+-- of a type with the number k, with the units used and the bytes printed
+abbrev pub ended_end : (k u n : ℕ) → Result value.Value (Located stop.Stop ℕ) → End
+ended_end k u n (Ok v) = Value k v u n
+ended_end k u n (Err s) = Stopped (cause.TheVariants.Stopped s.why) s.place k u n
 
-abbrev pub unread_end : checked.Checked → Bool
-unread_end (checked.TheVariants.Passed k) = false
-unread_end (checked.TheVariants.Refused r p) = is_unread r
+abbrev pub ran_end : RanAt ℕ → End
+ran_end (Ok r) = ended_end r.type_number r.ending.units r.ending.printed r.ending.end
+ran_end (Err r) = Refused (cause.TheVariants.Refused r.why) r.place
 
-abbrev pub profiled_end : Profiled → End
-profiled_end (Profiled.Passed k n) = Counted k n
-profiled_end (Profiled.Refused r p) = Refused (cause.TheVariants.Refused r) p
+abbrev pub unread_end : CheckedAt ℕ → Bool
+unread_end (Ok k) = false
+unread_end (Err r) = is_unread r.why
 
-abbrev pub most_of : Profiled → Most
-most_of (Profiled.Passed k n) = Most.Units n
-most_of (Profiled.Refused r p) = Most.Unknown
+abbrev pub profiled_end : ProfiledAt ℕ → End
+profiled_end (Ok p) = Counted p.type_number p.count
+profiled_end (Err r) = Refused (cause.TheVariants.Refused r.why) r.place
+
+abbrev pub most_of : ProfiledAt ℕ → Most
+most_of (Ok p) = Most.Units p.count
+most_of (Err r) = Most.Unknown

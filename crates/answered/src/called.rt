@@ -1,10 +1,10 @@
 // What came of a rate sheet with a call under it, which is a sheet of its own: the second.
 ghost use Rattle.std.specs.Prelude.{◌≡◌};
-ghost use Rattle.answered.specs.Called.{sided, refused_under, passed_under, checked_under, own_place, ran_under};
+ghost use Rattle.answered.specs.Called.{sided, refused_under, passed_under, checked_under, own_place, ended_under, ran_under};
 ghost use Rattle.answered.specs.Called.{profiled_under, most_under, unread_under};
 
 use crate::refusals::{is_long, is_unread};
-use grumpy::answers::{PairChecked, PairProfiled, PairRan};
+use grumpy::answers::{Checked, Ended, Ending, Profiled, Ran};
 use numbers::Refusal;
 use pairs::Spot;
 use wording::causes::Cause;
@@ -47,12 +47,12 @@ fn passed(type_number: u32) -> End
 }
 
 // What came of its check.
-pub fn of_check(answer: PairChecked) -> End
+pub fn of_check(answer: Checked<Spot>) -> End
     ensures { result ≡ checked_under answer }
 {
     match answer {
-        PairChecked::Passed(type_number) => passed(type_number),
-        PairChecked::Refused(why, spot) => refused(why, spot),
+        Ok(type_number) => passed(type_number),
+        Err(r) => refused(r.why, r.place),
     }
 }
 
@@ -66,68 +66,68 @@ fn own_place(own: usize, spot: Spot) -> usize
     spot.at
 }
 
-// What came of its run; the sheet has so many bytes.
-pub fn of_run(own: usize, answer: PairRan) -> End
-    ensures { result ≡ ran_under own answer }
+// What came of a program that ended.
+fn told(own: usize, ended: Ended<Spot>) -> End
+    ensures { result ≡ ended_under own ended.type_number ended.ending.units ended.ending.printed ended.ending.end }
 {
-    match answer {
-        PairRan::Value {
-            type_number,
-            value,
-            units,
-            printed,
-        } => End::Value {
-            type_number,
+    let Ending {
+        end,
+        units,
+        printed,
+    } = ended.ending;
+    match end {
+        Ok(value) => End::Value {
+            type_number: ended.type_number,
             value,
             units,
             printed,
         },
-        PairRan::Stopped {
-            why,
-            spot,
-            type_number,
+        Err(stop) => End::Stopped {
+            why: Cause::Stopped(stop.why),
+            place: own_place(own, stop.place),
+            type_number: ended.type_number,
             units,
             printed,
-        } => {
-            let place = own_place(own, spot);
-            End::Stopped {
-                why: Cause::Stopped(why),
-                place,
-                type_number,
-                units,
-                printed,
-            }
-        }
-        PairRan::Refused(why, spot) => refused(why, spot),
+        },
+    }
+}
+
+// What came of its run; the sheet has so many bytes.
+pub fn of_run(own: usize, answer: Ran<Spot>) -> End
+    ensures { result ≡ ran_under own answer }
+{
+    match answer {
+        Ok(ended) => told(own, ended),
+        Err(r) => refused(r.why, r.place),
     }
 }
 
 // What came of its profile.
-pub fn of_profile(answer: PairProfiled) -> End
+pub fn of_profile(answer: Profiled<Spot>) -> End
     ensures { result ≡ profiled_under answer }
 {
     match answer {
-        PairProfiled::Passed(type_number, count) => End::Counted(type_number, count),
-        PairProfiled::Refused(why, spot) => refused(why, spot),
+        Ok(costs) => End::Counted(costs.type_number, costs.count),
+        Err(r) => refused(r.why, r.place),
     }
 }
 
 // What is known by that of the units that the call can use.
-pub fn known(answer: PairProfiled) -> Most
+pub fn known(answer: Profiled<Spot>) -> Most
     ensures { result ≡ most_under answer }
 {
     match answer {
-        PairProfiled::Passed(_, count) => Most::Units(count),
-        PairProfiled::Refused(_, _) => Most::Unknown,
+        Ok(costs) => Most::Units(costs.count),
+        Err(_) => Most::Unknown,
     }
 }
 
 // Is it, with the call, no program?
-pub fn unread(answer: PairChecked) -> bool
+pub fn unread(answer: Checked<Spot>) -> bool
     ensures { result ≡ unread_under answer }
 {
     match answer {
-        PairChecked::Passed(_) => false,
-        PairChecked::Refused(why, _) => is_unread(why),
+        Ok(_) => false,
+        Err(r) => is_unread(r.why),
     }
 }

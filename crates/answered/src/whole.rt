@@ -1,82 +1,85 @@
 // What came of a whole sheet, or of a stored one.
 ghost use Rattle.std.specs.Prelude.{◌≡◌};
-ghost use Rattle.answered.specs.Whole.{checked_end, ran_end, profiled_end, most_of, unread_end};
+ghost use Rattle.answered.specs.Whole.{checked_end, ended_end, ran_end, profiled_end, most_of, unread_end};
 
 use crate::refusals::is_unread;
-use grumpy::answers::{Checked, Profiled, Ran};
+use grumpy::answers::{Checked, Ended, Ending, Profiled, Ran};
 use wording::causes::Cause;
 use wording::ends::End;
 use wording::limits::Most;
 
 // What came of its check.
-pub fn of_check(answer: Checked) -> End
+pub fn of_check(answer: Checked<usize>) -> End
     ensures { result ≡ checked_end answer }
 {
     match answer {
-        Checked::Passed(type_number) => End::Passed(type_number),
-        Checked::Refused(why, place) => End::Refused(Cause::Refused(why), place),
+        Ok(type_number) => End::Passed(type_number),
+        Err(r) => End::Refused(Cause::Refused(r.why), r.place),
+    }
+}
+
+// What came of a program that ended.
+fn told(ended: Ended<usize>) -> End
+    ensures { result ≡ ended_end ended.type_number ended.ending.units ended.ending.printed ended.ending.end }
+{
+    let Ending {
+        end,
+        units,
+        printed,
+    } = ended.ending;
+    match end {
+        Ok(value) => End::Value {
+            type_number: ended.type_number,
+            value,
+            units,
+            printed,
+        },
+        Err(stop) => End::Stopped {
+            why: Cause::Stopped(stop.why),
+            place: stop.place,
+            type_number: ended.type_number,
+            units,
+            printed,
+        },
     }
 }
 
 // What came of its run.
-pub fn of_run(answer: Ran) -> End
+pub fn of_run(answer: Ran<usize>) -> End
     ensures { result ≡ ran_end answer }
 {
     match answer {
-        Ran::Value {
-            type_number,
-            value,
-            units,
-            printed,
-        } => End::Value {
-            type_number,
-            value,
-            units,
-            printed,
-        },
-        Ran::Stopped {
-            why,
-            place,
-            type_number,
-            units,
-            printed,
-        } => End::Stopped {
-            why: Cause::Stopped(why),
-            place,
-            type_number,
-            units,
-            printed,
-        },
-        Ran::Refused(why, place) => End::Refused(Cause::Refused(why), place),
+        Ok(ended) => told(ended),
+        Err(r) => End::Refused(Cause::Refused(r.why), r.place),
     }
 }
 
 // What came of its profile.
-pub fn of_profile(answer: Profiled) -> End
+pub fn of_profile(answer: Profiled<usize>) -> End
     ensures { result ≡ profiled_end answer }
 {
     match answer {
-        Profiled::Passed(type_number, count) => End::Counted(type_number, count),
-        Profiled::Refused(why, place) => End::Refused(Cause::Refused(why), place),
+        Ok(costs) => End::Counted(costs.type_number, costs.count),
+        Err(r) => End::Refused(Cause::Refused(r.why), r.place),
     }
 }
 
 // What is known by that of the units that it can use.
-pub fn known(answer: Profiled) -> Most
+pub fn known(answer: Profiled<usize>) -> Most
     ensures { result ≡ most_of answer }
 {
     match answer {
-        Profiled::Passed(_, count) => Most::Units(count),
-        Profiled::Refused(_, _) => Most::Unknown,
+        Ok(costs) => Most::Units(costs.count),
+        Err(_) => Most::Unknown,
     }
 }
 
 // Is it, as it stands, no program?
-pub fn unread(answer: Checked) -> bool
+pub fn unread(answer: Checked<usize>) -> bool
     ensures { result ≡ unread_end answer }
 {
     match answer {
-        Checked::Passed(_) => false,
-        Checked::Refused(why, _) => is_unread(why),
+        Ok(_) => false,
+        Err(r) => is_unread(r.why),
     }
 }

@@ -112,33 +112,24 @@ fn show(rt: &impl Print, sheet: &[u8], allowance: u64) {
     write(rt, b"\n");
 }
 
-fn report(rt: &impl Print, answer: Ran, out: &[u8]) {
+fn report(rt: &impl Print, answer: Ran<usize>, out: &[u8]) {
     match answer {
-        Ran::Value {
-            type_number,
-            value,
-            units,
-            printed,
-        } => {
-            three(rt, 0, 0, type_number);
-            number(rt, value);
-            field(rt, units as u64);
-            bytes(rt, out, printed);
+        Ok(ended) => {
+            match ended.ending.end {
+                Ok(value) => {
+                    three(rt, 0, 0, ended.type_number);
+                    number(rt, value);
+                }
+                Err(stop) => {
+                    three(rt, numbers::of_stop(stop.why), stop.place, ended.type_number);
+                    field(rt, 0);
+                }
+            }
+            field(rt, ended.ending.units as u64);
+            bytes(rt, out, ended.ending.printed);
         }
-        Ran::Stopped {
-            why,
-            place,
-            type_number,
-            units,
-            printed,
-        } => {
-            three(rt, numbers::of_stop(why), place, type_number);
-            field(rt, 0);
-            field(rt, units as u64);
-            bytes(rt, out, printed);
-        }
-        Ran::Refused(why, place) => {
-            three(rt, numbers::of_refusal(why), place, 0);
+        Err(r) => {
+            three(rt, numbers::of_refusal(r.why), r.place, 0);
             field(rt, 0);
             field(rt, 0);
         }

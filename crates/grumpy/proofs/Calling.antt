@@ -4,19 +4,23 @@ use mathlib.Core.List.{List}
 use mathlib.Core.Path.{◌≡◌, refl, sym, ap, subst, ◌∙◌}
 use Prim.Native.Nat.{ℕ, ◌+◌, ◌-◌, ◌*◌, ◌≤◌}
 use native.Mathlib.Omega.{arith}
+use Rattle.std.proofs.Common.{Result, Ok, Err}
 use lib.ListN.{length, set, length-set}
 use lib.Seq.{get_or-set_other, set-set, set_comm}
 use Rattle.language.specs.Sizes.{TOKENS, TABLE, ALLOWANCE}
 use Rattle.language.specs.Tokens.{Token, spell}
 use Rattle.language.specs.Trees.{int, Program}
 use Rattle.language.specs.Meaning.{run}
-use Rattle.language.specs.Answers.{Passes, Lent, Enough, run_ended}
+use Rattle.language.specs.Answers as Answers
+use Rattle.language.specs.Answers.{Passes, Lent, Enough, after_run, run_ended}
 use Rattle.language.specs.Edition.{text_in, pair_in}
 use Rattle.language.specs.Pairs.{joined}
 use Rattle.language.specs.Shift.{Job, call_of, decimal_with}
 use Rattle.language.proofs.Answers.Origins.{Fate, passes, passes_is, not_both}
 use Rattle.language.proofs.Answers.Editions.{text_in_lawful}
 use Rattle.numbers.specs.declared.Refusal.{Refusal}
+use Rattle.numbers.specs.declared.Stop.{Stop}
+use Rattle.layout.specs.declared.values.Value.{Value}
 use Rattle.layout.specs.Table.{zeros}
 use Rattle.layout.specs.Decode.{Holds}
 use Rattle.layout.specs.declared.Held.{Held}
@@ -24,8 +28,9 @@ use Rattle.layout.proofs.Clearing.{zeros_same}
 use Rattle.resolver.specs.Resolves.{Resolvable, Resolves}
 use Rattle.runner.specs.Contract.{Loaded}
 use Rattle.sheets.specs.Sheets.{OfSource, Passing, Examined}
+use Rattle.sheets.specs.declared.Located.{Located}
 use Rattle.sheets.specs.declared.Seen.{Seen}
-use Rattle.grumpy.specs.Outcomes.{Told, Executed}
+use Rattle.grumpy.specs.Outcomes.{end_meant, ending_meant, Told, Executed}
 use Rattle.grumpy.specs.Calls.{Admissible, laid, HoldsCall, Prepared, Prepares, Callable, CallRan, Called}
 use Rattle.grumpy.specs.declared.answers.Ending.{Ending}
 use Rattle.grumpy.proofs.Resolving.{resolved_rest}
@@ -152,14 +157,22 @@ module _ {w work : List ℕ} {P : Held} {j : Job} {allowance : ℕ} (x : Callabl
         allowed = x.allowed;
       }
 
-ran_told : {n : ℕ} {book out out' : List ℕ} {j : Job} {ts : List Token} {p : Program} (l : Lent) (r : Ending) → Enough l → l.allowance ≤ ALLOWANCE
-    → Passes (pair_in n book (call_of j)) ts p int → Told (run p l.allowance l.output) l.allowance out out' r → CallRan n book j l out out' r
-ran_told {ts = ts} l (Ending.Value v u k) g h x y =
-    record { tokens = ts; printed = y.printed; ran = run_ended g h x y.ends; output = y.output }
-ran_told {ts = ts} l (Ending.Stopped z i u k) g h x y =
-    record { tokens = ts; printed = y.printed; ran = run_ended g h x y.ends; output = y.output }
+printed_meant : (e : Result Value (Located Stop ℕ)) (u : ℕ) (bs : List ℕ) → (end_meant e u bs).printed ≡ bs
+printed_meant (Ok v) u bs = refl
+printed_meant (Err s) u bs = refl
 
-pub called_so : {w work out work' out' : List ℕ} {P : Held} {j : Job} {allowance : ℕ} {r : Ending} (w₂ : List ℕ) → Callable w work P j allowance
+ran_told : {n : ℕ} {book out out' : List ℕ} {j : Job} {ts : List Token} {p : Program} (l : Lent) (r : Ending ℕ) → Enough l → l.allowance ≤ ALLOWANCE
+    → Passes (pair_in n book (call_of j)) ts p int → Told (run p l.allowance l.output) l.allowance out out' r → CallRan n book j l out out' r
+ran_told {n} {book} {j = j} {ts = ts} l r g h x z = record {
+  tokens = ts;
+  printed = z.printed;
+  ran =
+      subst (Answers.Ran (pair_in n book (call_of j)) l (after_run (pair_in n book (call_of j)) ts int (ending_meant r z.printed)))
+      (printed_meant r.end r.units z.printed) (run_ended g h x z.ends);
+  output = z.output;
+}
+
+pub called_so : {w work out work' out' : List ℕ} {P : Held} {j : Job} {allowance : ℕ} {r : Ending ℕ} (w₂ : List ℕ) → Callable w work P j allowance
     → w₂ ≡ laid P j w → Executed w₂ work out work' out' P allowance r → Called w work out w₂ work' out' P j allowance r
 called_so {w} {work} {out} {work'} {out'} {P} {j} {allowance} {r} w₂ x e y = record {
   told = λ n book l p g o a.

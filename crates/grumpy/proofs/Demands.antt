@@ -20,10 +20,7 @@ use Rattle.language.proofs.Answers.Demand1.{Listed, ran_listed, checked_listed, 
 use Rattle.language.proofs.Answers.Demand3.{IsProgram, NoProgram}
 use Rattle.language.proofs.Writing.OneWriting.{LongProgram, long_exactly}
 use Rattle.language.proofs.Writing.SameSheet.{SameSheet, written_sheet}
-use Rattle.grumpy.specs.Reports.{checked_report, ran_report, wrote_report}
-use Rattle.grumpy.specs.declared.answers.Checked.{Checked}
-use Rattle.grumpy.specs.declared.answers.Ran.{Ran}
-use Rattle.grumpy.specs.declared.answers.Wrote.{Wrote}
+use Rattle.grumpy.specs.Reports.{CheckedAt, RanAt, Written, checked_report, ran_report, wrote_report}
 use Rattle.grumpy.proofs.AnyOrigin.{CheckDemand1, RunDemand1, check_listed, run_listed, RunDemand2, check_three, check_three_none}
 use Rattle.grumpy.proofs.AnyOrigin.{run_two, run_three, run_three_none}
 
@@ -31,12 +28,12 @@ use Rattle.grumpy.proofs.AnyOrigin.{run_two, run_three, run_three_none}
 
 -- Whatever edition is named and whatever is lent, what check tells is a row of the table, at the place that the row sets, and memory is
 -- left as it says.
-pub check_demand_one : {edition : ℕ} {source table t' : List ℕ} (r : Checked) → Check (text_in edition source) table (checked_report r) t'
+pub check_demand_one : {edition : ℕ} {source table t' : List ℕ} (r : CheckedAt ℕ) → Check (text_in edition source) table (checked_report r) t'
     → CheckDemand1 (Listed edition source) table (checked_report r) t'
 check_demand_one {edition} {source} r a = check_listed (Listed edition source) a (checked_listed edition source _ a.answer)
 
 -- The same of run; and where nothing is run, nothing is printed and the output is as it was.
-pub run_demand_one : {edition : ℕ} {source table work output : List ℕ} {allowance : ℕ} {t' w' o' : List ℕ} (r : Ran)
+pub run_demand_one : {edition : ℕ} {source table work output : List ℕ} {allowance : ℕ} {t' w' o' : List ℕ} (r : RanAt ℕ)
     → Run (text_in edition source) table work output allowance (ran_report r) t' w' o'
     → RunDemand1 (Listed edition source) table work output allowance (ran_report r) t' w' o'
 run_demand_one {edition} {source} r a = run_listed (Listed edition source) a (ran_listed edition source _ a.answer)
@@ -46,7 +43,7 @@ run_demand_one {edition} {source} r a = run_listed (Listed edition source) a (ra
 -- A sheet that passes, with memory and allowance in order, is answered exactly by the end of its meaning: value or stop and
 -- its place, units and bytes printed.
 pub demand_two : {edition : ℕ} {source table work output : List ℕ} {allowance : ℕ} {t' w' o' : List ℕ} {ts : List Token} {p : Program} {t : Ty}
-    → TABLE ≤ length table → WORK ≤ length work → allowance ≤ ALLOWANCE → Passes (text_in edition source) ts p t → (r : Ran)
+    → TABLE ≤ length table → WORK ≤ length work → allowance ≤ ALLOWANCE → Passes (text_in edition source) ts p t → (r : RanAt ℕ)
     → Run (text_in edition source) table work output allowance (ran_report r) t' w' o'
     → RunDemand2 (text_in edition source) ts p t output allowance (ran_report r) o'
 demand_two {edition} {source} long wide fair passes r a = run_two (text_in_lawful edition source) a long wide fair passes
@@ -55,7 +52,7 @@ demand_two {edition} {source} long wide fair passes r a = run_two (text_in_lawfu
 
 -- Check passes with the type t exactly when the text, not too long, splits into tokens, the tokens have a reading and the
 -- reading has the type t; it says "not a program" exactly when the text splits and no reading exists.
-module _ {edition : ℕ} {source table t' : List ℕ} (long : TABLE ≤ length table) (r : Checked)
+module _ {edition : ℕ} {source table t' : List ℕ} (long : TABLE ≤ length table) (r : CheckedAt ℕ)
     (a : Check (text_in edition source) table (checked_report r) t') where
   pub check_demand_three : (t : Ty) → (((checked_report r).told ≡ passed) × ((checked_report r).type ≡ type_number t)) ↔ IsProgram (text_in edition source) t
   check_demand_three t = check_three (text_in_lawful edition source) a long t
@@ -65,7 +62,7 @@ module _ {edition : ℕ} {source table t' : List ℕ} (long : TABLE ≤ length t
 
 -- Run ends in a value or a stop with the type t exactly then, and says "not a program" exactly then.
 module _ {edition : ℕ} {source table work output : List ℕ} {allowance : ℕ} {t' w' o' : List ℕ} (long : TABLE ≤ length table) (wide : WORK ≤ length work)
-    (fair : allowance ≤ ALLOWANCE) (r : Ran) (a : Run (text_in edition source) table work output allowance (ran_report r) t' w' o') where
+    (fair : allowance ≤ ALLOWANCE) (r : RanAt ℕ) (a : Run (text_in edition source) table work output allowance (ran_report r) t' w' o') where
   pub run_demand_three : (t : Ty) → (IsRun (ran_report r).told × ((ran_report r).type ≡ type_number t)) ↔ IsProgram (text_in edition source) t
   run_demand_three t = run_three (text_in_lawful edition source) a long wide fair t
 
@@ -82,7 +79,7 @@ pub record WriteDemand1 (edition : ℕ) (source table output : List ℕ) (report
   pub table_left : table' ≡ left report.told TABLE table
   pub unwritten : (y : Refusal) → report.told ≡ refused y → (report.written ≡ 0) × (output' ≡ output)
 
-module _ {edition : ℕ} {source table output t' o' : List ℕ} (r : Wrote) (a : Write (text_in edition source) table output (wrote_report r) t' o') where
+module _ {edition : ℕ} {source table output t' o' : List ℕ} (r : Written) (a : Write (text_in edition source) table output (wrote_report r) t' o') where
   pub write_demand_one : WriteDemand1 edition source table output (wrote_report r) t' o'
   write_demand_one = record {
     listed = wrote_listed edition source _ a.answer;

@@ -2,6 +2,7 @@ pub mod Leaving
 pub mod Runs
 pub mod Resolving
 pub mod Services
+pub mod Apart
 pub mod Determined
 pub mod AnyOrigin
 pub mod Demands
@@ -9,7 +10,6 @@ pub mod Rewriting
 pub mod StoreDemands
 pub mod StoredDemands
 pub mod HeadOffice
-pub mod Moves
 pub mod TwoSheets
 pub mod PairDemands
 pub mod Knowing

@@ -21,10 +21,9 @@ use Rattle.language.proofs.Answers.Demand3.{IsProgram, NoProgram}
 use Rattle.language.proofs.Answers.HeadOffice.{Sound}
 use Rattle.language.proofs.Answers.OneAnswer.{one_checked, some_checked, one_ran, some_ran}
 use Rattle.language.proofs.Answers.Pairs.{moved, check_joined, run_joined}
-use Rattle.grumpy.specs.Reports.{pair_checked_report, pair_ran_report}
-use Rattle.grumpy.specs.declared.answers.PairChecked.{PairChecked}
-use Rattle.grumpy.specs.declared.answers.PairRan.{PairRan}
-use Rattle.grumpy.proofs.TwoSheets.{ran_of, ran_back}
+use Rattle.pairs.specs.declared.Spot.{Spot}
+use Rattle.grumpy.specs.Reports.{CheckedAt, RanAt, pair_checked_report, pair_ran_report}
+use Rattle.grumpy.proofs.Apart.{same_pair_ran}
 use Rattle.grumpy.proofs.AnyOrigin as AnyOrigin
 use Rattle.grumpy.proofs.AnyOrigin.{CheckDemand1, RunDemand1, check_listed, run_listed, RunDemand2, check_three, check_three_none}
 use Rattle.grumpy.proofs.AnyOrigin.{run_two, run_three, run_three_none}
@@ -56,7 +55,7 @@ module _ (edition : ℕ) (first second : List ℕ) (l : Lent) where
 
 -- ---- check
 
-module _ {edition : ℕ} {first second table t' : List ℕ} (r : PairChecked) (a : Check (pair_in edition first second) table (pair_checked_report r) t') where
+module _ {edition : ℕ} {first second table t' : List ℕ} (r : CheckedAt Spot) (a : Check (pair_in edition first second) table (pair_checked_report r) t') where
   -- Whatever is lent, what is told is a row of the table, at the place that the row sets, and memory is left as it says.
   pub check_pair_one : CheckDemand1 (PairListed edition first second) table (pair_checked_report r) t'
   check_pair_one = check_listed (PairListed edition first second) a (pair_checked_listed edition first second _ a.answer)
@@ -75,7 +74,7 @@ module _ {edition : ℕ} {first second table t' : List ℕ} (r : PairChecked) (a
 
 -- ---- run
 
-module _ {edition : ℕ} {first second table work output : List ℕ} {allowance : ℕ} {t' w' o' : List ℕ} (r : PairRan)
+module _ {edition : ℕ} {first second table work output : List ℕ} {allowance : ℕ} {t' w' o' : List ℕ} (r : RanAt Spot)
     (a : Run (pair_in edition first second) table work output allowance (pair_ran_report r) t' w' o') where
   -- the same; and where nothing is run, nothing is printed and the output is as it was
   pub run_pair_one : RunDemand1 (PairListed edition first second) table work output allowance (pair_ran_report r) t' w' o'
@@ -95,10 +94,10 @@ module _ {edition : ℕ} {first second table work output : List ℕ} {allowance 
     run_pair_none = run_three_none (pair_in_lawful edition first second) a long wide fair
 
 -- more units change nothing but the end in 50 (R11.3)
-pub pair_more_units : {edition : ℕ} {first second table work output : List ℕ} {few many : ℕ} {t' w' o' t'' w'' o'' : List ℕ} (r q : PairRan)
+pub pair_more_units : {edition : ℕ} {first second table work output : List ℕ} {few many : ℕ} {t' w' o' t'' w'' o'' : List ℕ} (r q : RanAt Spot)
     → few ≤ many → many ≤ ALLOWANCE → Run (pair_in edition first second) table work output few (pair_ran_report r) t' w' o'
     → Run (pair_in edition first second) table work output many (pair_ran_report q) t'' w'' o'' → (number (pair_ran_report r).told ≡ 50 → ⊥)
     → (r ≡ q) × (o' ≡ o'') × (t' ≡ t'') × (w' ≡ w'')
 pair_more_units {edition} {first} {second} r q h k a b n =
     let e = AnyOrigin.more_units (pair_in_lawful edition first second) a h k b n in
-    (sym (ran_back r) ∙ ap ran_of e.0 ∙ ran_back q, e.1, e.2, e.3)
+    (same_pair_ran r q e.0, e.1, e.2, e.3)

@@ -23,14 +23,8 @@ use Rattle.language.proofs.Profiles.PaySheets.{EndlessSheet, DearSheet, PaySheet
 use Rattle.language.proofs.Profiles.PaySheets.{passed_exactly, within_count, pay_sheet_finishes}
 use Rattle.language.proofs.Stored.Editions.{stored_in_lawful}
 use Rattle.language.proofs.Stored.SameSheet.{sheet_stored}
-use Rattle.grumpy.specs.Reports.{checked_report, ran_report, wrote_report, profiled_report, pair_checked_report, pair_ran_report, pair_profiled_report}
-use Rattle.grumpy.specs.declared.answers.Checked.{Checked}
-use Rattle.grumpy.specs.declared.answers.Ran.{Ran}
-use Rattle.grumpy.specs.declared.answers.Profiled.{Profiled}
-use Rattle.grumpy.specs.declared.answers.Wrote.{Wrote}
-use Rattle.grumpy.specs.declared.answers.PairChecked.{PairChecked}
-use Rattle.grumpy.specs.declared.answers.PairProfiled.{PairProfiled}
-use Rattle.grumpy.specs.declared.answers.PairRan.{PairRan}
+use Rattle.pairs.specs.declared.Spot.{Spot}
+use Rattle.grumpy.specs.Reports.{CheckedAt, ProfiledAt, RanAt, Written, checked_report, ran_report, wrote_report, profiled_report, pair_checked_report, pair_ran_report, pair_profiled_report}
 use Rattle.grumpy.proofs.AnyOrigin.{check_lent}
 use Rattle.grumpy.proofs.PairDemands.{PairListed}
 
@@ -41,7 +35,7 @@ pub record ProfileDemand1 {P : Type 0} (Row : Lent → Told → P → Type 0) (t
   pub no_stop : (w : Stop) → report.told ≡ stopped w → ⊥
   pub table_left : table' ≡ left report.told TABLE table
 
-module _ {edition : ℕ} {source table t' : List ℕ} (r : Profiled) (a : Profile (text_in edition source) table (profiled_report r) t') where
+module _ {edition : ℕ} {source table t' : List ℕ} (r : ProfiledAt ℕ) (a : Profile (text_in edition source) table (profiled_report r) t') where
   pub profile_demand_one : ProfileDemand1 (Listed edition source) table (profiled_report r) t'
   profile_demand_one =
       record { listed = profiled_listed edition source _ a.answer; no_stop = profile_never_stops a.answer; table_left = a.table_left }
@@ -63,20 +57,20 @@ module _ {edition : ℕ} {source table t' : List ℕ} (r : Profiled) (a : Profil
     profile_pay_exactly t n = pay_exactly (text_in_lawful edition source) long a.answer t n
 
     -- R10.5: it passes exactly when check passes it, and neither 43 nor 45 describes it
-    pub profile_passed_exactly : {u' : List ℕ} (c : Checked) → Check (text_in edition source) table (checked_report c) u'
+    pub profile_passed_exactly : {u' : List ℕ} (c : CheckedAt ℕ) → Check (text_in edition source) table (checked_report c) u'
         → ((profiled_report r).told ≡ passed)
         ↔ (((checked_report c).told ≡ passed) × ((x : ℕ) → EndlessSheet (text_in edition source) x → ⊥) × (DearSheet (text_in edition source) → ⊥))
     profile_passed_exactly c b = passed_exactly (text_in_lawful edition source) long a.answer b.answer
 
   -- R10.6: whatever a run of it is lent, with an allowance of at least the count it uses no more and does not end in 50
-  pub profile_finishes : {words work output : List ℕ} {allowance : ℕ} {words' work' output' : List ℕ} (q : Ran) → (profiled_report r).told ≡ passed
+  pub profile_finishes : {words work output : List ℕ} {allowance : ℕ} {words' work' output' : List ℕ} (q : RanAt ℕ) → (profiled_report r).told ≡ passed
       → Run (text_in edition source) words work output allowance (ran_report q) words' work' output' → (profiled_report r).count ≤ allowance
       → WithinCount (profiled_report r).count (ran_report q)
   profile_finishes q e b k = pay_sheet_finishes (text_in_lawful edition source) a e b k
 
 -- ---- two sheets
 
-module _ {edition : ℕ} {first second table t' : List ℕ} (r : PairProfiled) (a : Profile (pair_in edition first second) table (pair_profiled_report r) t') where
+module _ {edition : ℕ} {first second table t' : List ℕ} (r : ProfiledAt Spot) (a : Profile (pair_in edition first second) table (pair_profiled_report r) t') where
   -- a row of the joined text, told of the sheet on which its byte falls
   pub profile_pair_one : ProfileDemand1 (PairListed edition first second) table (pair_profiled_report r) t'
   profile_pair_one =
@@ -103,14 +97,14 @@ module _ {edition : ℕ} {first second table t' : List ℕ} (r : PairProfiled) (
         ↔ PaySheet (pair_in edition first second) t n
     pair_pay_exactly t n = pay_exactly (pair_in_lawful edition first second) long a.answer t n
 
-    pub pair_passed_exactly : {u' : List ℕ} (c : PairChecked) → Check (pair_in edition first second) table (pair_checked_report c) u'
+    pub pair_passed_exactly : {u' : List ℕ} (c : CheckedAt Spot) → Check (pair_in edition first second) table (pair_checked_report c) u'
         → ((pair_profiled_report r).told ≡ passed)
         ↔ (((pair_checked_report c).told ≡ passed) × ((x : Place) → EndlessSheet (pair_in edition first second) x → ⊥)
         × (DearSheet (pair_in edition first second) → ⊥))
     pair_passed_exactly c b = passed_exactly (pair_in_lawful edition first second) long a.answer b.answer
 
 pub profile_pair_finishes : {edition : ℕ} {first second table table' : List ℕ} {words work output : List ℕ} {allowance : ℕ}
-    {words' work' output' : List ℕ} (r : PairProfiled) (q : PairRan) → Profile (pair_in edition first second) table (pair_profiled_report r) table'
+    {words' work' output' : List ℕ} (r : ProfiledAt Spot) (q : RanAt Spot) → Profile (pair_in edition first second) table (pair_profiled_report r) table'
     → (pair_profiled_report r).told ≡ passed
     → Run (pair_in edition first second) words work output allowance (pair_ran_report q) words' work' output'
     → (pair_profiled_report r).count ≤ allowance → WithinCount (pair_profiled_report r).count (pair_ran_report q)
@@ -121,7 +115,7 @@ profile_pair_finishes {edition} {first} {second} r q a e b k = pay_sheet_finishe
 -- R10.6 of a sheet that was stored: whoever runs its stored form with an allowance of at least the count that the profile told of its
 -- source uses no more and does not end in 50
 pub profile_stored_finishes : {edition : ℕ} {source table table' room out room' out' : List ℕ} {words work output : List ℕ} {allowance : ℕ}
-    {words' work' output' : List ℕ} (r : Profiled) (s : Wrote) (q : Ran) → Profile (text_in edition source) table (profiled_report r) table'
+    {words' work' output' : List ℕ} (r : ProfiledAt ℕ) (s : Written) (q : RanAt ℕ) → Profile (text_in edition source) table (profiled_report r) table'
     → (profiled_report r).told ≡ passed → Store (text_in edition source) room out (wrote_report s) room' out' → (wrote_report s).told ≡ passed
     → Run (stored_in edition (take (wrote_report s).written out')) words work output allowance (ran_report q) words' work' output'
     → (profiled_report r).count ≤ allowance → WithinCount (profiled_report r).count (ran_report q)
@@ -132,7 +126,7 @@ profile_stored_finishes {edition} {source} r s q a e b f c k =
 
 -- the same by the profile of the stored sheet itself, which no service tells: that of its own tokens
 pub stored_finishes : {edition : ℕ} {input table table' : List ℕ} {words work output : List ℕ} {allowance : ℕ} {words' work' output' : List ℕ}
-    {r : ProfileReport ℕ} (q : Ran) → Profile (stored_in edition input) table r table' → r.told ≡ passed
+    {r : ProfileReport ℕ} (q : RanAt ℕ) → Profile (stored_in edition input) table r table' → r.told ≡ passed
     → Run (stored_in edition input) words work output allowance (ran_report q) words' work' output'
     → r.count ≤ allowance → WithinCount r.count (ran_report q)
 stored_finishes {edition} {input} q a e b k = pay_sheet_finishes (stored_in_lawful edition input) a e b k

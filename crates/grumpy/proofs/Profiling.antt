@@ -2,6 +2,7 @@
 use mathlib.Core.List.{List}
 use mathlib.Core.Path.{◌≡◌, refl, sym, ap, subst, ◌∙◌}
 use Prim.Native.Nat.{ℕ, ◌≤◌, ◌<◌}
+use Rattle.std.proofs.Common.{Err}
 use native.Mathlib.Omega.{arith}
 use lib.ListN.{length}
 use Rattle.language.specs.Sizes.{TOKENS, PAY_COUNT, TABLE}
@@ -28,9 +29,8 @@ use Rattle.sheets.specs.Sheets.{OfSource, Examined}
 use Rattle.sheets.specs.declared.Form.{Form}
 use Rattle.sheets.specs.declared.Seen.{Seen}
 use Rattle.sheets.proofs.FormLaws.{form_lawful, form_nowhere, form_place}
-use Rattle.grumpy.specs.Reports.{profiled_report}
+use Rattle.grumpy.specs.Reports.{ProfiledAt, profiled_report}
 use Rattle.grumpy.specs.Profilings.{profiled_of, Payable, Profiling}
-use Rattle.grumpy.specs.declared.answers.Profiled.{Profiled}
 use Rattle.grumpy.proofs.Leaving.{profiled_left}
 
 -- ---- what comes of a sheet that was examined
@@ -41,25 +41,7 @@ examined_payable o w w₁ (Seen.Passes h t) x =
     record { tokens = p.tokens; program = p.program; holds = p.holds }
 examined_payable o w w₁ (Seen.Refused y i) x = tt
 
-pub payable_sheet : (w : List ℕ) (h : Held) (t : ℕ) (s : Seen) → Payable w s → s ≡ Seen.Passes h t → Countable w h
-payable_sheet w h t s x z = subst (Payable w) z x
-
--- the places of its tokens can be looked up when it was counted
-pub counted_long : {w w' : List ℕ} {h : Held} {c : Counted} → Countable w h → profiles.Profiled w w' h c → (TABLE ≤ length w') × (h.count ≤ TOKENS)
-counted_long {w} a x = let e = ap length x.table ∙ length_without w in (omega (arith, e, a.holds.long), a.holds.stand.few)
-
 module _ (first second : List ℕ) (f : Form) where
-  module _ (w : List ℕ) (count t : ℕ) {c : Counted} where
-    pub answered_endless : {i j : ℕ} → c ≡ Counted.Endless i → j ≡ place_of first second f w count i
-        → Profiled.Refused Refusal.EndlessNode j ≡ profiled_of first second f w count t c
-    answered_endless e k = rw (e, k) refl
-
-    pub answered_many : c ≡ Counted.TooMany → Profiled.Refused Refusal.ManyUnits 0 ≡ profiled_of first second f w count t c
-    answered_many e = rw e refl
-
-    pub answered_units : {n : ℕ} → c ≡ Counted.Units n → Profiled.Passed t n ≡ profiled_of first second f w count t c
-    answered_units e = rw e refl
-
   -- what was counted is what is told
   counted_told : (edition : ℕ) (w : List ℕ) {ts : List Token} {p : Program} {t : Ty} (count n table : ℕ) (c : Counted) → TABLE ≤ table
       → Passes (origin_of first second f edition) ts p t → Stand w count ts → n ≡ type_number t → Answers c p
@@ -72,13 +54,13 @@ module _ (first second : List ℕ) (f : Form) where
       subst (λ (i : ℕ). Profile.Profiled (origin_of first second f edition) table (profile_report passed i n m)) (form_nowhere first second f edition)
       (rw (e, x.1) (profile_passed h a x.0 (subst (λ (k : ℕ). k ≤ PAY_COUNT) x.1 x.2)))
 
-  pub profiling_sheet : (w w' : List ℕ) (h : Held) (t : ℕ) (s : Seen) (c : Counted) (r : Profiled) → profiles.Profiled w w' h c
+  pub profiling_sheet : (w w' : List ℕ) (h : Held) (t : ℕ) (s : Seen) (c : Counted) (r : ProfiledAt ℕ) → profiles.Profiled w w' h c
       → s ≡ Seen.Passes h t → r ≡ profiled_of first second f w' h.count t c → Profiling first second f w w' s r
   profiling_sheet w w' h t s c r x z k = record {
     told = λ edition table l y.
         let p = subst (OfSource (origin_of first second f edition) w) z y in
         let H = subst (λ (v : List ℕ). Holds p.tokens v h p.program) (sym x.table) (holds_without p.holds) in
-        subst (λ (r : Profiled). Profile.Profiled (origin_of first second f edition) table (profiled_report r)) (sym k)
+        subst (λ (r : ProfiledAt ℕ). Profile.Profiled (origin_of first second f edition) table (profiled_report r)) (sym k)
         (counted_told edition w' h.count t table c l p.passes H.stand p.numbered
         (x.right p.tokens p.program p.holds p.passes.proper.reads));
     rest = ap (λ (v : List ℕ). zeros v 0 TABLE) x.table ∙ wiped_without_variables w;
@@ -86,7 +68,7 @@ module _ (first second : List ℕ) (f : Form) where
   }
 
   pub profiling_refused : (w : List ℕ) (y : Refusal) (i : ℕ) (s : Seen) → s ≡ Seen.Refused y i
-      → Profiling first second f w w s (Profiled.Refused y i)
+      → Profiling first second f w w s (Err (record { why = y; place = i }))
   profiling_refused w y i s z = record {
     told = λ edition table h a. profile_refused h (subst (OfSource (origin_of first second f edition) w) z a);
     rest = refl;
@@ -106,7 +88,7 @@ module _ (first second : List ℕ) (f : Form) where
       table_left = refl;
     }
 
-    pub profile_is_answered : (w w₁ w₂ w₃ : List ℕ) (s : Seen) (r : Profiled) → TABLE ≤ length w
+    pub profile_is_answered : (w w₁ w₂ w₃ : List ℕ) (s : Seen) (r : ProfiledAt ℕ) → TABLE ≤ length w
         → Examined (origin_of first second f edition) w w₁ s → Profiling first second f w₁ w₂ s r → w₃ ≡ zeros w₂ 0 TABLE
         → Profile.Profile (origin_of first second f edition) w (profiled_report r) w₃
     profile_is_answered w w₁ w₂ w₃ s r h x y e =

@@ -2,6 +2,7 @@
 use mathlib.Core.List.{List, []}
 use mathlib.Core.Path.{◌≡◌, refl, sym, subst, ◌∙◌}
 use Prim.Native.Nat.{ℕ, ◌≤◌, ◌<◌}
+use Rattle.std.proofs.Common.{Ok, Err}
 use lib.ListN.{length}
 use Rattle.language.specs.Sizes.{TABLE}
 use Rattle.language.specs.Numbers.{refused, short_memory}
@@ -23,22 +24,21 @@ use Rattle.writer.specs.Forms.{StoresOut}
 use Rattle.writer.specs.declared.Text.{Text}
 use Rattle.sheets.specs.Sheets.{OfSource, Examined}
 use Rattle.sheets.specs.declared.Seen.{Seen}
-use Rattle.grumpy.specs.Reports.{wrote_report}
+use Rattle.grumpy.specs.Reports.{Written, wrote_report}
 use Rattle.grumpy.specs.Writings.{Tells, Rewrote, Readable, Rewritten}
-use Rattle.grumpy.specs.declared.answers.Wrote.{Wrote}
 use Rattle.grumpy.proofs.Leaving.{wrote_left, stores_left}
 
 -- ---- a sheet that passes
 
 module _ (source w : List ℕ) (count : ℕ) (out out' : List ℕ) (a : Text) (x : WritesOut source w count out out' a) where
-  pub rewrote_written : (n : ℕ) → a ≡ Text.Written n → Rewrote Writing.Wrote source w count out out' (Wrote.Written n)
+  pub rewrote_written : (n : ℕ) → a ≡ Text.Written n → Rewrote Writing.Wrote source w count out out' (Ok n)
   rewrote_written n e = record {
     told = λ edition ts p t table h y d.
         let z = (subst (WritesOut source w count out out') e x).told ts d y.given.given.splits in
         record { text = written_out ts; wrote = rw z.1 (write_passed h y z.0); output = z.2 };
   }
 
-  pub rewrote_long : a ≡ Text.TooLong → Rewrote Writing.Wrote source w count out out' (Wrote.Refused Refusal.LongText 0)
+  pub rewrote_long : a ≡ Text.TooLong → Rewrote Writing.Wrote source w count out out' (Err (record { why = Refusal.LongText; place = 0 }))
   rewrote_long e = record {
     told = λ edition ts p t table h y d.
         let z = (subst (WritesOut source w count out out') e x).told ts d y.given.given.splits in
@@ -46,14 +46,14 @@ module _ (source w : List ℕ) (count : ℕ) (out out' : List ℕ) (a : Text) (x
   }
 
 module _ (source w : List ℕ) (count : ℕ) (out out' : List ℕ) (a : Text) (x : StoresOut source w count out out' a) where
-  pub restated_written : (n : ℕ) → a ≡ Text.Written n → Rewrote Writing.Stores source w count out out' (Wrote.Written n)
+  pub restated_written : (n : ℕ) → a ≡ Text.Written n → Rewrote Writing.Stores source w count out out' (Ok n)
   restated_written n e = record {
     told = λ edition ts p t table h y d.
         let z = (subst (StoresOut source w count out out') e x).told ts d y.given.given.splits in
         record { text = stored ts; wrote = rw z.1 (store_passed h y z.0); output = z.2 };
   }
 
-  pub restated_long : a ≡ Text.TooLong → Rewrote Writing.Stores source w count out out' (Wrote.Refused Refusal.LongText 0)
+  pub restated_long : a ≡ Text.TooLong → Rewrote Writing.Stores source w count out out' (Err (record { why = Refusal.LongText; place = 0 }))
   restated_long e = record {
     told = λ edition ts p t table h y d.
         let z = (subst (StoresOut source w count out out') e x).told ts d y.given.given.splits in
@@ -76,11 +76,8 @@ examined_readable edition source w w₁ (Seen.Passes h t) x =
     }
 examined_readable edition source w w₁ (Seen.Refused y i) x = tt
 
-pub readable_sheet : (source w : List ℕ) (h : Held) (t : ℕ) (s : Seen) → Readable source w s → s ≡ Seen.Passes h t → Writable source w h.count
-readable_sheet source w h t s x z = subst (Readable source w) z x
-
 module _ (tells : Tells) where
-  pub rewritten_sheet : (source w out out' : List ℕ) (h : Held) (t : ℕ) (s : Seen) (r : Wrote) → Rewrote tells source w h.count out out' r
+  pub rewritten_sheet : (source w out out' : List ℕ) (h : Held) (t : ℕ) (s : Seen) (r : Written) → Rewrote tells source w h.count out out' r
       → s ≡ Seen.Passes h t → Rewritten tells source w out out' s r
   rewritten_sheet source w out out' h t s r x z = record {
     told = λ edition table l y.
@@ -94,7 +91,7 @@ module _ (tells : Tells) where
       → tells (text_in edition source) table room (write_report (refused y) i 0) []
 
   rewritten_refused : Refuses → (source w out : List ℕ) (y : Refusal) (i : ℕ) (s : Seen) → s ≡ Seen.Refused y i
-      → Rewritten tells source w out out s (Wrote.Refused y i)
+      → Rewritten tells source w out out s (Err (record { why = y; place = i }))
   rewritten_refused f source w out y i s z = record {
     told = λ edition table h a.
         let x = subst (OfSource (text_in edition source) w) z a in
@@ -102,11 +99,11 @@ module _ (tells : Tells) where
   }
 
 pub write_refuses : (source w out : List ℕ) (y : Refusal) (i : ℕ) (s : Seen) → s ≡ Seen.Refused y i
-    → Rewritten Writing.Wrote source w out out s (Wrote.Refused y i)
+    → Rewritten Writing.Wrote source w out out s (Err (record { why = y; place = i }))
 write_refuses = rewritten_refused Writing.Wrote (λ edition table room source y i h a. write_refused h a)
 
 pub store_refuses : (source w out : List ℕ) (y : Refusal) (i : ℕ) (s : Seen) → s ≡ Seen.Refused y i
-    → Rewritten Writing.Stores source w out out s (Wrote.Refused y i)
+    → Rewritten Writing.Stores source w out out s (Err (record { why = y; place = i }))
 store_refuses = rewritten_refused Writing.Stores (λ edition table room source y i h a. store_refused h a)
 
 -- ---- write
@@ -116,7 +113,7 @@ pub write_is_short : (edition : ℕ) (source w out : List ℕ) → length w < TA
 unfolding left
 write_is_short edition source w out h = record { text = []; answer = write_short h; table_left = refl; output_left = refl }
 
-pub write_is_answered : (edition : ℕ) (source w out w₁ w₂ out' : List ℕ) (s : Seen) (r : Wrote) → TABLE ≤ length w → Examined (text_in edition source) w w₁ s
+pub write_is_answered : (edition : ℕ) (source w out w₁ w₂ out' : List ℕ) (s : Seen) (r : Written) → TABLE ≤ length w → Examined (text_in edition source) w w₁ s
     → Rewritten Writing.Wrote source w₁ out out' s r → w₂ ≡ zeros w₁ 0 TABLE → Write (text_in edition source) w out (wrote_report r) w₂ out'
 write_is_answered edition source w out w₁ w₂ out' s r h x y e =
     let z = y.told edition (length w) h x.told in
@@ -134,7 +131,7 @@ pub store_is_short : (edition : ℕ) (source w out : List ℕ) → length w < TA
 unfolding left
 store_is_short edition source w out h = record { form = []; answer = store_short h; table_left = refl; output_left = refl }
 
-pub store_is_answered : (edition : ℕ) (source w out w₁ w₂ out' : List ℕ) (s : Seen) (r : Wrote) → TABLE ≤ length w → Examined (text_in edition source) w w₁ s
+pub store_is_answered : (edition : ℕ) (source w out w₁ w₂ out' : List ℕ) (s : Seen) (r : Written) → TABLE ≤ length w → Examined (text_in edition source) w w₁ s
     → Rewritten Writing.Stores source w₁ out out' s r → w₂ ≡ zeros w₁ 0 TABLE → Store (text_in edition source) w out (wrote_report r) w₂ out'
 store_is_answered edition source w out w₁ w₂ out' s r h x y e =
     let z = y.told edition (length w) h x.told in

@@ -2,6 +2,7 @@
 use mathlib.Core.List.{List, reverse}
 use mathlib.Core.Path.{◌≡◌, refl, sym, ap, subst, ◌∙◌}
 use Prim.Native.Nat.{ℕ, ◌-◌, ◌≤◌}
+use Rattle.std.proofs.Common.{Ok, Err}
 use native.Mathlib.Omega.{arith}
 use lib.ListN.{length, length-reverse}
 use Rattle.language.specs.State as M
@@ -16,7 +17,6 @@ use Rattle.runner.specs.Contract as Runner
 use Rattle.runner.specs.declared.Done.{Done}
 use Rattle.runner.specs.declared.Spent as spent
 use Rattle.grumpy.specs.Outcomes.{Told, Executed}
-use Rattle.grumpy.specs.declared.answers.Ending.{Ending}
 
 -- ---- no more units are left than were allowed
 
@@ -53,7 +53,7 @@ module _ {table work out work' out' : List ℕ} {P : Held} {allowance : ℕ} {r 
 
 -- what is told of an outcome whose units are those left
 value_told : {m : M.Outcome} {out out' : List ℕ} (allowance : ℕ) (v : Value) (e : spent.Spent) → Runner.EndsAs m out out' (Done.Value v e)
-    → Told m allowance out out' (Ending.Value v (allowance - e.left) e.printed)
+    → Told m allowance out out' record { end = Ok v; units = allowance - e.left; printed = e.printed }
 unfolding ending
 value_told allowance v e a = record {
   printed = reverse a.state.printed;
@@ -63,7 +63,7 @@ value_told allowance v e a = record {
 }
 
 stop_told : {m : M.Outcome} {out out' : List ℕ} (allowance : ℕ) (y : Stop) (i : ℕ) (e : spent.Spent) → Runner.EndsAs m out out' (Done.Stop y i e)
-    → Told m allowance out out' (Ending.Stopped y i (allowance - e.left) e.printed)
+    → Told m allowance out out' record { end = Err (record { why = y; place = i }); units = allowance - e.left; printed = e.printed }
 unfolding ending
 stop_told allowance y i e a = record {
   printed = reverse a.state.printed;
@@ -75,14 +75,14 @@ stop_told allowance y i e a = record {
 module _ {table work out work' out' : List ℕ} {P : Held} {allowance : ℕ} {r : Done}
     (x : Runner.RunsTo table work out work' out' P allowance r) where
   pub executed_value : (v : Value) (e : spent.Spent) (u : ℕ) → r ≡ Done.Value v e → u ≡ allowance - e.left
-      → Executed table work out work' out' P allowance (Ending.Value v u e.printed)
+      → Executed table work out work' out' P allowance record { end = Ok v; units = u; printed = e.printed }
   executed_value v e u q b = record {
     told = λ ts p t h y n. rw b (value_told allowance v e (subst (Runner.EndsAs (run p allowance (length out)) out out') q (x.answer ts p t h y n)));
     cleared = x.cleared;
   }
 
   pub executed_stop : (y : Stop) (i : ℕ) (e : spent.Spent) (u : ℕ) → r ≡ Done.Stop y i e → u ≡ allowance - e.left
-      → Executed table work out work' out' P allowance (Ending.Stopped y i u e.printed)
+      → Executed table work out work' out' P allowance record { end = Err (record { why = y; place = i }); units = u; printed = e.printed }
   executed_stop y i e u q b = record {
     told = λ ts p t h z n. rw b (stop_told allowance y i e (subst (Runner.EndsAs (run p allowance (length out)) out out') q (x.answer ts p t h z n)));
     cleared = x.cleared;

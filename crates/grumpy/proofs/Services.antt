@@ -4,6 +4,7 @@ use mathlib.Core.Logic.{◌⊎◌}
 use mathlib.Core.Option.{some}
 use mathlib.Core.Path.{◌≡◌, refl, sym, subst, ◌∙◌}
 use Prim.Native.Nat.{ℕ, ◌≤◌, ◌<◌}
+use Rattle.std.proofs.Common.{Result, Ok, Err}
 use lib.ListN.{length}
 use Rattle.language.specs.Sizes.{TABLE, WORK, ALLOWANCE}
 use Rattle.language.specs.Tokens.{Token}
@@ -26,12 +27,11 @@ use Rattle.resolver.specs.Resolves.{Resolves}
 use Rattle.sheets.specs.Forms.{origin_of, place_of}
 use Rattle.sheets.specs.Sheets.{OfSource, Examined}
 use Rattle.sheets.specs.declared.Form.{Form}
+use Rattle.sheets.specs.declared.Located.{Located}
 use Rattle.sheets.specs.declared.Seen.{Seen}
 use Rattle.sheets.proofs.FormLaws.{form_lawful, form_nowhere, form_place}
-use Rattle.grumpy.specs.Reports.{checked_report, ran_report}
-use Rattle.grumpy.specs.Outcomes.{ending_meant, printed_in, Executed, ran_of, Ready, Runnable, Reported, Answered}
-use Rattle.grumpy.specs.declared.answers.Checked as checked
-use Rattle.grumpy.specs.declared.answers.Ran.{Ran}
+use Rattle.grumpy.specs.Reports.{RanAt, same, end_told, checked_report, ran_report}
+use Rattle.grumpy.specs.Outcomes.{end_meant, ending_meant, end_at, Executed, ran_of, Ready, Runnable, Reported, Answered}
 use Rattle.grumpy.specs.declared.answers.Ending.{Ending}
 use Rattle.grumpy.proofs.Leaving.{checked_left, ran_left}
 use Rattle.grumpy.proofs.Resolving.{resolved_rest}
@@ -59,25 +59,17 @@ module _ (first second : List ℕ) (f : Form) (edition : ℕ) where
     check_is r a = record { answer = a; table_left = cleared_table ∙ sym (checked_left (form_lawful first second f edition) h a TABLE w) }
 
     pub check_is_passed : (P : Held) (t : ℕ) → s ≡ Seen.Passes P t
-        → Check (origin_of first second f edition) w (checked_report (checked.TheVariants.Passed t)) w₂
+        → Check (origin_of first second f edition) w (checked_report (Ok t)) w₂
     check_is_passed P t q =
         let p = subst (OfSource o w₁) q x.told in
         let a = subst (λ (n : ℕ). Checked o (length w) (check_report passed o.nowhere n)) (sym p.numbered) (check_passed h p.passes) in
         check_is _ (subst (λ (i : ℕ). Checked o (length w) (check_report passed i t)) (form_nowhere first second f edition) a)
 
     pub check_is_refused : (y : Refusal) (i : ℕ) → s ≡ Seen.Refused y i
-        → Check (origin_of first second f edition) w (checked_report (checked.TheVariants.Refused y i)) w₂
+        → Check (origin_of first second f edition) w (checked_report (Err (record { why = y; place = i }))) w₂
     check_is_refused y i q = check_is _ (check_refused h (subst (OfSource o w₁) q x.told))
 
 -- ---- what comes of a sheet that was examined
-
-pub runnable_sheet : (w work : List ℕ) (allowance : ℕ) (P : Held) (t : ℕ) (s : Seen) → Runnable w work allowance s → s ≡ Seen.Passes P t
-    → Ready w work P allowance
-runnable_sheet w work allowance P t s x z = subst (Runnable w work allowance) z x
-
-pub runnable_refused : (w work : List ℕ) (allowance : ℕ) (y : Refusal) (i : ℕ) (s : Seen) → Runnable w work allowance s → s ≡ Seen.Refused y i
-    → WORK ≤ length work
-runnable_refused w work allowance y i s x z = subst (Runnable w work allowance) z x
 
 -- an examined sheet can be run
 pub examined_runnable : (first second : List ℕ) (f : Form) (edition : ℕ) (w w₁ work : List ℕ) (allowance : ℕ) (s : Seen)
@@ -96,26 +88,25 @@ examined_runnable first second f edition w w₁ work allowance (Seen.Passes P t)
 examined_runnable first second f edition w w₁ work allowance (Seen.Refused y i) x h k = h
 
 module _ (first second : List ℕ) (f : Form) where
-  pub ran_stopped : (w : List ℕ) (count t j : ℕ) (y : Stop) (i u n : ℕ) (e : Ending) → e ≡ Ending.Stopped y i u n
-      → j ≡ place_of first second f w count i → Ran.Stopped y j t u n ≡ ran_of first second f w count t e
-  ran_stopped w count t j y i u n e q k = rw (q, k) refl
-
   -- what is reported of a value
   abbrev value_report : ℕ → ℕ → Value → ℕ → ℕ → RunReport ℕ
   value_report i n v u k = record { told = passed; place = i; type = n; value = meant v; units = u; printed = k }
 
   -- the answer for a program that ended is what is told of its end
-  ended_ran : (edition : ℕ) (w : List ℕ) (l : Lent) {ts : List Token} {p : Program} {t : Ty} (count n : ℕ) (bs : List ℕ) (e : Ending)
+  ended_ran : (edition : ℕ) (w : List ℕ) (l : Lent) {ts : List Token} {p : Program} {t : Ty} (count n : ℕ) (bs : List ℕ) (e : Ending ℕ)
       → Enough l → l.allowance ≤ ALLOWANCE → Passes (origin_of first second f edition) ts p t
       → ending l.allowance (run p l.allowance l.output) ≡ some (ending_meant e bs) → Stand w count ts → n ≡ type_number t
-      → printed_in e ≡ length bs → Answers.Ran (origin_of first second f edition) l (ran_report (ran_of first second f w count n e)) bs
-  ended_ran edition w l count n bs (Ending.Value v u k) g h p x s a b =
-      subst (λ (i : ℕ). Answers.Ran (origin_of first second f edition) l (value_report i n v u k) bs) (form_nowhere first second f edition)
-      (rw (a, b) (run_ended g h p x))
-  ended_ran edition w l count n bs (Ending.Stopped y i u k) g h p x s a b =
-      rw (a, b, form_place first second f edition s i) (run_ended g h p x)
+      → e.printed ≡ length bs → Answers.Ran (origin_of first second f edition) l (ran_report (ran_of first second f w count n e)) bs
+  ended_ran edition w l {ts} {p} {t} count n bs e g h passes x s a b = go e.end x
+    where
+      go : (z : Result Value (Located Stop ℕ)) → ending l.allowance (run p l.allowance l.output) ≡ some (end_meant z e.units bs)
+          → Answers.Ran (origin_of first second f edition) l (end_told 0 same n e.units e.printed (end_at (place_of first second f w count) z)) bs
+      go (Ok v) x =
+          subst (λ (i : ℕ). Answers.Ran (origin_of first second f edition) l (value_report i n v e.units e.printed) bs)
+          (form_nowhere first second f edition) (rw (a, b) (run_ended g h passes x))
+      go (Err y) x = rw (a, b, form_place first second f edition s y.place) (run_ended g h passes x)
 
-  pub answered_sheet : (w w' work out work' out' : List ℕ) (P : Held) (t allowance : ℕ) (s : Seen) (e : Ending) (r : Ran)
+  pub answered_sheet : (w w' work out work' out' : List ℕ) (P : Held) (t allowance : ℕ) (s : Seen) (e : Ending ℕ) (r : RanAt ℕ)
       → Resolves w w' P → Executed w' work out work' out' P allowance e → s ≡ Seen.Passes P t → r ≡ ran_of first second f w' P.count t e
       → Answered first second f w w' work out work' out' allowance s r
   answered_sheet w w' work out work' out' P t allowance s e r n x z k = record {
@@ -136,8 +127,8 @@ module _ (first second : List ℕ) (f : Form) where
     cleared = x.cleared;
   }
 
-  pub answered_refused : (w work out work' out' : List ℕ) (allowance : ℕ) (s : Seen) (y : Refusal) (i : ℕ) (r : Ran)
-      → r ≡ Ran.Refused y i → work' ≡ zeros work 0 WORK → out' ≡ out → s ≡ Seen.Refused y i
+  pub answered_refused : (w work out work' out' : List ℕ) (allowance : ℕ) (s : Seen) (y : Refusal) (i : ℕ) (r : RanAt ℕ)
+      → r ≡ Err (record { why = y; place = i }) → work' ≡ zeros work 0 WORK → out' ≡ out → s ≡ Seen.Refused y i
       → Answered first second f w w work out work' out' allowance s r
   answered_refused w work out work' out' allowance s y i r q x k z = record {
     told = λ edition l a e o m h.
@@ -184,7 +175,7 @@ module _ (first second : List ℕ) (f : Form) (edition : ℕ) where
     output_left = refl;
   }
 
-  pub run_is_answered : (w work out w₁ w₂ w₃ work' out' : List ℕ) (allowance : ℕ) (s : Seen) (r : Ran)
+  pub run_is_answered : (w work out w₁ w₂ w₃ work' out' : List ℕ) (allowance : ℕ) (s : Seen) (r : RanAt ℕ)
       → TABLE ≤ length w → WORK ≤ length work → allowance ≤ ALLOWANCE → Examined (origin_of first second f edition) w w₁ s
       → Answered first second f w₁ w₂ work out work' out' allowance s r → w₃ ≡ zeros w₂ 0 TABLE
       → Run (origin_of first second f edition) w work out allowance (ran_report r) w₃ work' out'

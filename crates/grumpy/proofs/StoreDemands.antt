@@ -3,6 +3,7 @@ use mathlib.Core.List.{List}
 use mathlib.Core.Logic.{◌↔◌}
 use mathlib.Core.Path.{◌≡◌}
 use Prim.Native.Nat.{ℕ, ◌≤◌}
+use Rattle.std.proofs.Common.{Ok, Err}
 use native.Mathlib.Omega.{arith}
 use lib.ListN.{length, take}
 use Rattle.language.specs.Sizes.{TABLE, WORK}
@@ -15,8 +16,7 @@ use Rattle.language.proofs.Answers.Editions.{text_in_lawful}
 use Rattle.language.proofs.Stored.Listed.{StoreListed, stores_listed}
 use Rattle.language.proofs.Stored.OneStoring.{unstored, LongForm, form_long_exactly}
 use Rattle.language.proofs.Stored.SameSheet.{StoredSheet, sheet_stored}
-use Rattle.grumpy.specs.Reports.{wrote_report}
-use Rattle.grumpy.specs.declared.answers.Wrote.{Wrote}
+use Rattle.grumpy.specs.Reports.{Written, wrote_report}
 
 -- Whatever is lent, what store tells is a row of the table, at the place that the row sets, and memory is left as it says; and
 -- where the sheet is refused, nothing is written.
@@ -27,11 +27,11 @@ pub record StoreDemand1 (edition : ℕ) (source table output : List ℕ) (report
   pub unwritten : (y : Refusal) → report.told ≡ refused y → (report.written ≡ 0) × (output' ≡ output)
 
 -- its answers have none
-never_stops : (r : Wrote) (w : Stop) → (wrote_report r).told ≡ stopped w → ⊥
-never_stops (Wrote.Written n) w e = let z : ◌≡◌ {A = ℕ} 0 1 = cc in omega arith
-never_stops (Wrote.Refused y i) w e = let z : ◌≡◌ {A = ℕ} 0 1 = cc in omega arith
+never_stops : (r : Written) (w : Stop) → (wrote_report r).told ≡ stopped w → ⊥
+never_stops (Ok n) w e = let z : ◌≡◌ {A = ℕ} 0 1 = cc in omega arith
+never_stops (Err x) w e = let z : ◌≡◌ {A = ℕ} 0 1 = cc in omega arith
 
-module _ {edition : ℕ} {source table output t' o' : List ℕ} (r : Wrote) (a : Store (text_in edition source) table output (wrote_report r) t' o') where
+module _ {edition : ℕ} {source table output t' o' : List ℕ} (r : Written) (a : Store (text_in edition source) table output (wrote_report r) t' o') where
   pub store_demand_one : StoreDemand1 edition source table output (wrote_report r) t' o'
   store_demand_one = record {
     listed = stores_listed edition source _ a.answer;

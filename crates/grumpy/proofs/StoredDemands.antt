@@ -17,17 +17,15 @@ use Rattle.language.proofs.Answers.Demand3.{IsProgram, NoProgram}
 use Rattle.language.proofs.Answers.HeadOffice.{Sound}
 use Rattle.language.proofs.Stored.Editions.{stored_in_lawful}
 use Rattle.language.proofs.Stored.Listed.{StoredListed, stored_checked_listed, stored_ran_listed}
-use Rattle.grumpy.specs.Reports.{checked_report, ran_report}
-use Rattle.grumpy.specs.declared.answers.Checked.{Checked}
-use Rattle.grumpy.specs.declared.answers.Ran.{Ran}
-use Rattle.grumpy.proofs.Determined.{ran_of, ran_back}
+use Rattle.grumpy.specs.Reports.{CheckedAt, RanAt, checked_report, ran_report}
+use Rattle.grumpy.proofs.Apart.{same_ran}
 use Rattle.grumpy.proofs.AnyOrigin as AnyOrigin
 use Rattle.grumpy.proofs.AnyOrigin.{CheckDemand1, RunDemand1, check_listed, run_listed, RunDemand2, check_three, check_three_none}
 use Rattle.grumpy.proofs.AnyOrigin.{run_two, run_three, run_three_none}
 
 -- ---- check
 
-module _ {edition : ℕ} {input table t' : List ℕ} (r : Checked) (a : Check (stored_in edition input) table (checked_report r) t') where
+module _ {edition : ℕ} {input table t' : List ℕ} (r : CheckedAt ℕ) (a : Check (stored_in edition input) table (checked_report r) t') where
   -- Whatever bytes are lent, what is told is a row of the table, at the line that the row sets, and memory is left as it says.
   pub check_stored_one : CheckDemand1 (StoredListed edition input) table (checked_report r) t'
   check_stored_one = check_listed (StoredListed edition input) a (stored_checked_listed edition input _ a.answer)
@@ -46,7 +44,7 @@ module _ {edition : ℕ} {input table t' : List ℕ} (r : Checked) (a : Check (s
 
 -- ---- run
 
-module _ {edition : ℕ} {input table work output : List ℕ} {allowance : ℕ} {t' w' o' : List ℕ} (r : Ran)
+module _ {edition : ℕ} {input table work output : List ℕ} {allowance : ℕ} {t' w' o' : List ℕ} (r : RanAt ℕ)
     (a : Run (stored_in edition input) table work output allowance (ran_report r) t' w' o') where
   -- the same; and where nothing is run, nothing is printed and the output is as it was
   pub run_stored_one : RunDemand1 (StoredListed edition input) table work output allowance (ran_report r) t' w' o'
@@ -66,10 +64,10 @@ module _ {edition : ℕ} {input table work output : List ℕ} {allowance : ℕ} 
     run_stored_none = run_three_none (stored_in_lawful edition input) a long wide fair
 
 -- more units change nothing but the end in 50 (R11.3)
-pub stored_more_units : {edition : ℕ} {input table work output : List ℕ} {few many : ℕ} {t' w' o' t'' w'' o'' : List ℕ} (r q : Ran)
+pub stored_more_units : {edition : ℕ} {input table work output : List ℕ} {few many : ℕ} {t' w' o' t'' w'' o'' : List ℕ} (r q : RanAt ℕ)
     → few ≤ many → many ≤ ALLOWANCE → Run (stored_in edition input) table work output few (ran_report r) t' w' o'
     → Run (stored_in edition input) table work output many (ran_report q) t'' w'' o'' → (number (ran_report r).told ≡ 50 → ⊥)
     → (r ≡ q) × (o' ≡ o'') × (t' ≡ t'') × (w' ≡ w'')
 stored_more_units {edition} {input} r q h k a b n =
     let e = AnyOrigin.more_units (stored_in_lawful edition input) a h k b n in
-    (sym (ran_back r) ∙ ap ran_of e.0 ∙ ran_back q, e.1, e.2, e.3)
+    (same_ran r q e.0, e.1, e.2, e.3)

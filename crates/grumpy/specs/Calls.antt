@@ -72,7 +72,7 @@ pub record Callable (w work : List ℕ) (P : Held) (j : Job) (allowance : ℕ) :
   pub allowed : allowance ≤ ALLOWANCE
 
 -- it is the written run of the book with the call; a stop is told at the ordinal of its token, whose place follows
-pub record CallRan (edition : ℕ) (book : List ℕ) (j : Job) (l : Lent) (out out' : List ℕ) (r : Ending) : Type 0 where
+pub record CallRan (edition : ℕ) (book : List ℕ) (j : Job) (l : Lent) (out out' : List ℕ) (r : Ending ℕ) : Type 0 where
   pub tokens : List Token
   pub printed : List ℕ
   pub ran : Answers.Ran (pair_in edition book (call_of j)) l
@@ -80,7 +80,7 @@ pub record CallRan (edition : ℕ) (book : List ℕ) (j : Job) (l : Lent) (out o
   pub output : out' ≡ printed ++ drop (length printed) out
 
 -- for whichever book the table was prepared
-pub record Called (w work out w' work' out' : List ℕ) (P : Held) (j : Job) (allowance : ℕ) (r : Ending) : Type 0 where
+pub record Called (w work out w' work' out' : List ℕ) (P : Held) (j : Job) (allowance : ℕ) (r : Ending ℕ) : Type 0 where
   pub told : (edition : ℕ) (book : List ℕ) (l : Lent) → Prepared edition book w P → Enough l → l.output ≡ length out
       → l.allowance ≡ allowance → CallRan edition book j l out out' r
   pub numbers : w' ≡ laid P j w

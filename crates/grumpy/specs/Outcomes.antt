@@ -1,5 +1,5 @@
 -- What comes of a sheet that was examined, run or refused: vocabulary for the contracts inside this crate.
-use Rattle.std.specs.Prelude.{List, ◌++◌, ◌≡◌, ℕ, ◌≤◌, length, drop}
+use Rattle.std.specs.Prelude.{List, ◌++◌, ◌≡◌, ℕ, ◌≤◌, length, drop, Result, Ok, Err, MatchResult}
 use Rattle.std.proofs.Math.Option.{some}
 use Rattle.language.specs.Sizes.{TABLE, WORK, ALLOWANCE}
 use Rattle.language.specs.Tokens.{Token}
@@ -11,8 +11,10 @@ use Rattle.language.specs.Numbers.{passed, stopped}
 use Rattle.language.specs.Answers as Answers
 use Rattle.language.specs.Answers.{Origin, Proper, nowhere, at, ending, Lent, Enough}
 use Rattle.numbers.specs.Meanings.{stop_meant}
+use Rattle.numbers.specs.declared.Stop.{Stop}
 use Rattle.layout.specs.Table.{zeros}
 use Rattle.layout.specs.Values.{meant}
+use Rattle.layout.specs.declared.values.Value.{Value}
 use Rattle.layout.specs.Resolved.{Resolved}
 use Rattle.layout.specs.Decode.{Holds}
 use Rattle.layout.specs.declared.Held.{Held}
@@ -20,40 +22,53 @@ use Rattle.sheets.specs.Forms.{origin_of, place_of}
 use Rattle.sheets.specs.Sheets.{OfSource}
 use Rattle.sheets.specs.declared.Form.{Form}
 use Rattle.sheets.specs.declared.Seen.{Seen}
-use Rattle.grumpy.specs.Reports.{ran_report}
-use Rattle.grumpy.specs.declared.answers.Ran.{Ran}
+use Rattle.sheets.specs.declared.Located.{Located}
+use Rattle.grumpy.specs.Reports.{RanAt, ran_report}
 use Rattle.grumpy.specs.declared.answers.Ending.{Ending}
 
 -- ---- a program that is run
 
--- the end of a program that the code's is, with the bytes printed
-abbrev pub ending_meant : Ending → List ℕ → Answers.Ending
-ending_meant (Ending.Value v u n) bs =
-    record { told = passed; spot = nowhere; value = meant v; units = u; printed = bs }
-ending_meant (Ending.Stopped y i u n) bs =
-    record { told = stopped (stop_meant y); spot = at i; value = nothing; units = u; printed = bs }
+-- the end of a program that the code's is, with the units used and the bytes printed; a stop is told at a token
+abbrev pub end_meant : Result Value (Located Stop ℕ) → ℕ → List ℕ → Answers.Ending
+end_meant (Ok v) u bs = record { told = passed; spot = nowhere; value = meant v; units = u; printed = bs }
+end_meant (Err s) u bs =
+    record { told = stopped (stop_meant s.why); spot = at s.place; value = nothing; units = u; printed = bs }
 
-abbrev pub printed_in : Ending → ℕ
-printed_in (Ending.Value v u n) = n
-printed_in (Ending.Stopped y i u n) = n
+abbrev pub ending_meant : Ending ℕ → List ℕ → Answers.Ending
+ending_meant e bs = end_meant e.end e.units bs
 
 -- the outcome m is told so, and so is the output
-pub record Told (m : Outcome) (allowance : ℕ) (out out' : List ℕ) (r : Ending) : Type 0 where
+pub record Told (m : Outcome) (allowance : ℕ) (out out' : List ℕ) (r : Ending ℕ) : Type 0 where
   pub printed : List ℕ
   pub ends : ending allowance m ≡ some (ending_meant r printed)
-  pub counted : printed_in r ≡ length printed
+  pub counted : r.printed ≡ length printed
   pub output : out' ≡ printed ++ drop (length printed) out
 
-pub record Executed (table work out work' out' : List ℕ) (P : Held) (allowance : ℕ) (r : Ending) : Type 0 where
+pub record Executed (table work out work' out' : List ℕ) (P : Held) (allowance : ℕ) (r : Ending ℕ) : Type 0 where
   pub told : (ts : List Token) (p : Program) (t : Ty) → Holds ts table P p → HasType p t → Resolved table p
       → Told (run p allowance (length out)) allowance out out' r
   pub cleared : work' ≡ zeros work 0 WORK
 
+-- an end whose stop is told at another place
+abbrev pub end_at : {P Q : Type 0} → (P → Q) → Result Value (Located Stop P) → Result Value (Located Stop Q)
+end_at m (Ok v) = Ok v
+end_at m (Err s) = Err (record { why = s.why; place = m s.place })
+
+abbrev pub ending_at : {P Q : Type 0} → (P → Q) → Ending P → Ending Q
+ending_at m e = record { end = end_at m e.end; units = e.units; printed = e.printed }
+
+-- where that place is found by what is promised of it
+abbrev pub EndsAt : {P Q : Type 0} → (P → Q → Type 0) → Ending P → Ending Q → Type 0
+EndsAt {P} {Q} M e r =
+    (r.units ≡ e.units) × (r.printed ≡ e.printed)
+    × MatchResult e.end (λ v. r.end ≡ Ok v)
+    (λ s. (x : Q) × M s.place x × (r.end ≡ Err (record { why = s.why; place = x })))
+
 -- the answer for a program whose type has the number t, from the words of a table that stands for so many tokens of a
 -- source
-abbrev pub ran_of : List ℕ → List ℕ → Form → List ℕ → ℕ → ℕ → Ending → Ran
-ran_of first second f w count t (Ending.Value v u n) = Ran.Value t v u n
-ran_of first second f w count t (Ending.Stopped y i u n) = Ran.Stopped y (place_of first second f w count i) t u n
+abbrev pub ran_of : List ℕ → List ℕ → Form → List ℕ → ℕ → ℕ → Ending ℕ → RanAt ℕ
+ran_of first second f w count t e =
+    Ok (record { type_number = t; ending = ending_at (place_of first second f w count) e })
 
 -- ---- a sheet that was examined
 
@@ -72,7 +87,7 @@ Runnable table work allowance (Seen.Passes P t) = Ready table work P allowance
 Runnable table work allowance (Seen.Refused y i) = WORK ≤ length work
 
 -- the report and the output are those of the written run of an origin
-pub record Reported (o : Origin ℕ) (l : Lent) (out out' : List ℕ) (r : Ran) : Type 0 where
+pub record Reported (o : Origin ℕ) (l : Lent) (out out' : List ℕ) (r : RanAt ℕ) : Type 0 where
   pub printed : List ℕ
   pub ran : Answers.Ran o l (ran_report r) printed
   pub output : out' ≡ printed ++ drop (length printed) out
@@ -80,7 +95,7 @@ pub record Reported (o : Origin ℕ) (l : Lent) (out out' : List ℕ) (r : Ran) 
 -- with memory and allowance in order, in whatever edition the source was examined; of the table only required words
 -- may have changed
 pub record Answered (first second : List ℕ) (f : Form) (table table' work out work' out' : List ℕ) (allowance : ℕ)
-    (s : Seen) (r : Ran) : Type 0 where
+    (s : Seen) (r : RanAt ℕ) : Type 0 where
   pub told : (edition : ℕ) (l : Lent) → OfSource (origin_of first second f edition) table s → Enough l
       → l.output ≡ length out → l.allowance ≡ allowance → allowance ≤ ALLOWANCE
       → Reported (origin_of first second f edition) l out out' r

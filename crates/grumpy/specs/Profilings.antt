@@ -1,5 +1,5 @@
 -- The profile of a sheet that was examined: the contracts of `profilings`.
-use Rattle.std.specs.Prelude.{List, ◌≡◌, ℕ, ◌≤◌, length}
+use Rattle.std.specs.Prelude.{List, ◌≡◌, ℕ, ◌≤◌, length, Ok, Err}
 use Rattle.language.specs.Sizes.{TABLE}
 use Rattle.language.specs.Profile as Profile
 use Rattle.layout.specs.Table.{zeros}
@@ -10,16 +10,15 @@ use Rattle.sheets.specs.Forms.{origin_of, place_of}
 use Rattle.sheets.specs.Sheets.{OfSource}
 use Rattle.sheets.specs.declared.Form.{Form}
 use Rattle.sheets.specs.declared.Seen.{Seen}
-use Rattle.grumpy.specs.Reports.{profiled_report}
-use Rattle.grumpy.specs.declared.answers.Profiled.{Profiled}
+use Rattle.grumpy.specs.Reports.{ProfiledAt, profiled_report}
 
 -- the answer for a program whose type has the number t, from the words of a table that stands for so many tokens of a
 -- source
-abbrev pub profiled_of : List ℕ → List ℕ → Form → List ℕ → ℕ → ℕ → Counted → Profiled
+abbrev pub profiled_of : List ℕ → List ℕ → Form → List ℕ → ℕ → ℕ → Counted → ProfiledAt ℕ
 profiled_of first second f w count t (Counted.Endless i) =
-    Profiled.Refused Refusal.EndlessNode (place_of first second f w count i)
-profiled_of first second f w count t Counted.TooMany = Profiled.Refused Refusal.ManyUnits 0
-profiled_of first second f w count t (Counted.Units n) = Profiled.Passed t n
+    Err (record { why = Refusal.EndlessNode; place = place_of first second f w count i })
+profiled_of first second f w count t Counted.TooMany = Err (record { why = Refusal.ManyUnits; place = 0 })
+profiled_of first second f w count t (Counted.Units n) = Ok (record { type_number = t; count = n })
 
 -- a sheet that passes can be counted
 abbrev pub Payable : List ℕ → Seen → Type 0
@@ -27,7 +26,7 @@ Payable w (Seen.Passes p t) = Countable w p
 Payable w (Seen.Refused y i) = Unit {0}
 
 -- in whatever edition the source was examined; all but the variables' words is as it was
-pub record Profiling (first second : List ℕ) (f : Form) (w w' : List ℕ) (s : Seen) (r : Profiled) : Type 0 where
+pub record Profiling (first second : List ℕ) (f : Form) (w w' : List ℕ) (s : Seen) (r : ProfiledAt ℕ) : Type 0 where
   pub told : (edition table : ℕ) → TABLE ≤ table → OfSource (origin_of first second f edition) w s
       → Profile.Profiled (origin_of first second f edition) table (profiled_report r)
   pub rest : zeros w' 0 TABLE ≡ zeros w 0 TABLE

@@ -11,8 +11,7 @@ use Rattle.layout.specs.Names.{Stand}
 use Rattle.writer.specs.Texts.{Writable}
 use Rattle.sheets.specs.Sheets.{OfSource}
 use Rattle.sheets.specs.declared.Seen.{Seen}
-use Rattle.grumpy.specs.Reports.{wrote_report}
-use Rattle.grumpy.specs.declared.answers.Wrote.{Wrote}
+use Rattle.grumpy.specs.Reports.{Written, wrote_report}
 
 -- what a service may tell of an origin, lent so many words of table memory and bytes of output: the report, and the
 -- bytes written
@@ -21,13 +20,13 @@ Tells = Origin ℕ → ℕ → ℕ → WriteReport ℕ → List ℕ → Type 0
 
 -- the answer in an edition, with so many words of table memory, and what is left in the output
 pub record Reported (tells : Tells) (edition : ℕ) (source : List ℕ) (table : ℕ) (out out' : List ℕ)
-    (r : Wrote) : Type 0 where
+    (r : Written) : Type 0 where
   pub text : List ℕ
   pub wrote : tells (text_in edition source) table (length out) (wrote_report r) text
   pub output : out' ≡ text ++ drop (length text) out
 
 -- of a sheet that passes, in whatever edition, and whose tokens the table w stands for
-pub record Rewrote (tells : Tells) (source w : List ℕ) (count : ℕ) (out out' : List ℕ) (r : Wrote) : Type 0 where
+pub record Rewrote (tells : Tells) (source w : List ℕ) (count : ℕ) (out out' : List ℕ) (r : Written) : Type 0 where
   pub told : (edition : ℕ) (ts : List Token) (p : Program) (t : Ty) (table : ℕ) → TABLE ≤ table
       → Passes (text_in edition source) ts p t → Stand w count ts → Reported tells edition source table out out' r
 
@@ -37,6 +36,6 @@ Readable source w (Seen.Passes p t) = Writable source w p.count
 Readable source w (Seen.Refused y i) = Unit {0}
 
 -- of any sheet
-pub record Rewritten (tells : Tells) (source w out out' : List ℕ) (s : Seen) (r : Wrote) : Type 0 where
+pub record Rewritten (tells : Tells) (source w out out' : List ℕ) (s : Seen) (r : Written) : Type 0 where
   pub told : (edition table : ℕ) → TABLE ≤ table → OfSource (text_in edition source) w s
       → Reported tells edition source table out out' r

@@ -1,93 +1,56 @@
-// What the services answer. `specs/Reports.antt` gives the paper's numbers for each case.
+// What the services answer. `specs/Reports.antt` gives the paper's numbers for each case. A place is a byte or a line of
+// one sheet; of two sheets it is a spot, which names the sheet and the line.
+ghost use Rattle.grumpy.specs.Outcomes.{EndsAt};
+
 use layout::values::Value;
-use numbers::{Refusal, Stop};
-use pairs::Spot;
+use numbers::Stop;
+use sheets::{Located, Refused};
 
-// A type's number, or a refusal and the byte it is told at.
+// A type's number, or a refusal.
+pub type Checked<P> = Result<u32, Refused<P>>;
+
+// How many bytes were written, or a refusal.
+pub type Wrote = Result<usize, Refused<usize>>;
+
+// The number of the sheet's type, and how many units it can use.
 #[derive(Clone, Copy)]
-pub enum Checked {
-    Passed(u32),
-    Refused(Refusal, usize),
+pub struct Costs {
+    pub type_number: u32,
+    pub count: u32,
 }
 
-// A value, or a stop and the byte it is told at, each with the number of the program's
-// type, the units used and the bytes printed; or a refusal.
+pub type Profiled<P> = Result<Costs, Refused<P>>;
+
+// How a program ends: a value, or a stop and where it is told; with the units used and the bytes printed.
 #[derive(Clone, Copy)]
-pub enum Ran {
-    Value {
-        type_number: u32,
-        value: Value,
-        units: u32,
-        printed: usize,
-    },
-    Stopped {
-        why: Stop,
-        place: usize,
-        type_number: u32,
-        units: u32,
-        printed: usize,
-    },
-    Refused(Refusal, usize),
+pub struct Ending<P> {
+    pub end: Result<Value, Located<Stop, P>>,
+    pub units: u32,
+    pub printed: usize,
 }
 
-// How a program ends: a value, or a stop and the token it is told at; with the units
-// used and the bytes printed.
+// The end of a program whose type has this number.
 #[derive(Clone, Copy)]
-pub enum Ending {
-    Value {
-        value: Value,
-        units: u32,
-        printed: usize,
-    },
-    Stopped {
-        why: Stop,
-        at: u32,
-        units: u32,
-        printed: usize,
-    },
+pub struct Ended<P> {
+    pub type_number: u32,
+    pub ending: Ending<P>,
 }
 
-// How many bytes were written, or a refusal and the byte it is told at.
-#[derive(Clone, Copy)]
-pub enum Wrote {
-    Written(usize),
-    Refused(Refusal, usize),
-}
+pub type Ran<P> = Result<Ended<P>, Refused<P>>;
 
-// A type's number and how many units the sheet can use, or a refusal and the byte it is told at.
-#[derive(Clone, Copy)]
-pub enum Profiled {
-    Passed(u32, u32),
-    Refused(Refusal, usize),
-}
-
-// The same of two sheets: a refusal or a stop is told at a spot, which names the sheet and the line.
-#[derive(Clone, Copy)]
-pub enum PairChecked {
-    Passed(u32),
-    Refused(Refusal, Spot),
-}
-
-#[derive(Clone, Copy)]
-pub enum PairProfiled {
-    Passed(u32, u32),
-    Refused(Refusal, Spot),
-}
-
-#[derive(Clone, Copy)]
-pub enum PairRan {
-    Value {
-        type_number: u32,
-        value: Value,
-        units: u32,
-        printed: usize,
-    },
-    Stopped {
-        why: Stop,
-        spot: Spot,
-        type_number: u32,
-        units: u32,
-        printed: usize,
-    },
-    Refused(Refusal, Spot),
+impl<P> Ending<P> {
+    // A stop told at another place.
+    pub(crate) fn told_at<Q, F: FnOnce(P) -> Q>(self, place: F) -> Ending<Q>
+        requires { F.IsAlwaysCallable place }
+        ensures { EndsAt (F.post place) self result }
+    {
+        Ending {
+            end: self.end.map_err(|stop| Located {
+                why: stop.why,
+                place: place(stop.place),
+            }),
+            units: self.units,
+            printed: self.printed,
+        }
+    }
 }

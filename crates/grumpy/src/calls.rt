@@ -53,7 +53,7 @@ pub fn call(
     picks: u32,
     rate: u32,
     allowance: u64,
-) -> Ending
+) -> Ending<u32>
     requires { Callable table.old work.old program record { picks = picks; rate = rate } allowance }
     ensures { Called table.old work.old out.old table.new work.new
         out.new program record { picks = picks; rate = rate } allowance result }

@@ -26,23 +26,36 @@ mod profilings;
 mod storings;
 mod writings;
 
-use crate::answers::{Checked, PairChecked, PairProfiled, PairRan, Profiled, Ran, Wrote};
+use crate::answers::{Checked, Profiled, Ran, Wrote};
 use language::{ALLOWANCE, TABLE, WORK};
 use layout::memory;
 use numbers::Refusal;
 use outlines::Outlined;
 use pairs::Spot;
-use sheets::{Form, Seen};
+use sheets::{Form, Refused, Seen};
 use tokens::edition::{Known, named};
 use tokens::view::View;
 
+// A refusal that has no place is told at the front.
+fn nowhere(why: Refusal) -> Refused<usize>
+    ensures { result ≡ record { why = why; place = 0 } }
+{
+    Refused { why, place: 0 }
+}
+
 // What check answers for a source of either form.
-fn check_form(edition: u32, first: &[u8], second: &[u8], form: Form, table: &mut [u32]) -> Checked
+fn check_form(
+    edition: u32,
+    first: &[u8],
+    second: &[u8],
+    form: Form,
+    table: &mut [u32],
+) -> Checked<usize>
     ensures { Check (origin_of first.now second.now form edition) table.old
         (checked_report result) table.new }
 {
     if table.len() < TABLE {
-        return Checked::Refused(Refusal::ShortMemory, 0);
+        return Err(nowhere(Refusal::ShortMemory));
     }
     let seen = sheets::examine_form(edition, first, second, form, table);
     memory::clear(table, 0, TABLE);
@@ -50,12 +63,12 @@ fn check_form(edition: u32, first: &[u8], second: &[u8], form: Form, table: &mut
         Seen::Passes {
             program: _,
             type_number,
-        } => Checked::Passed(type_number),
-        Seen::Refused(why, place) => Checked::Refused(why, place),
+        } => Ok(type_number),
+        Seen::Refused(why, place) => Err(Refused { why, place }),
     }
 }
 
-pub fn check(edition: u32, source: &[u8], table: &mut [u32]) -> Checked
+pub fn check(edition: u32, source: &[u8], table: &mut [u32]) -> Checked<usize>
     ensures { Check (text_in edition source.now) table.old (checked_report result)
         table.new }
 {
@@ -63,7 +76,7 @@ pub fn check(edition: u32, source: &[u8], table: &mut [u32]) -> Checked
 }
 
 // The same of a stored sheet; its places are lines.
-pub fn check_stored(edition: u32, stored: &[u8], table: &mut [u32]) -> Checked
+pub fn check_stored(edition: u32, stored: &[u8], table: &mut [u32]) -> Checked<usize>
     ensures { Check (stored_in edition stored.now) table.old (checked_report result)
         table.new }
 {
@@ -71,7 +84,7 @@ pub fn check_stored(edition: u32, stored: &[u8], table: &mut [u32]) -> Checked
 }
 
 // The first sheet, one LF, then the second, without their being put together.
-pub fn check_pair(edition: u32, first: &[u8], second: &[u8], table: &mut [u32]) -> PairChecked
+pub fn check_pair(edition: u32, first: &[u8], second: &[u8], table: &mut [u32]) -> Checked<Spot>
     ensures { Check (pair_in edition first.now second.now) table.old
         (pair_checked_report result) table.new }
 {
@@ -89,21 +102,21 @@ fn run_form(
     work: &mut [u32],
     out: &mut [u8],
     allowance: u64,
-) -> Ran
+) -> Ran<usize>
     ensures { Run (origin_of first.now second.now form edition) table.old
         work.old out.old allowance (ran_report result) table.new work.new
         out.new }
 {
     if table.len() < TABLE {
-        return Ran::Refused(Refusal::ShortMemory, 0);
+        return Err(nowhere(Refusal::ShortMemory));
     }
     if work.len() < WORK {
-        return Ran::Refused(Refusal::ShortMemory, 0);
+        return Err(nowhere(Refusal::ShortMemory));
     }
     if ALLOWANCE < allowance {
         memory::clear(table, 0, TABLE);
         memory::clear(work, 0, WORK);
-        return Ran::Refused(Refusal::LargeAllowance, 0);
+        return Err(nowhere(Refusal::LargeAllowance));
     }
     let seen = sheets::examine_form(edition, first, second, form, table);
     let answer = outcomes::run_or_refuse(
@@ -128,7 +141,7 @@ pub fn run(
     work: &mut [u32],
     out: &mut [u8],
     allowance: u64,
-) -> Ran
+) -> Ran<usize>
     ensures { Run (text_in edition source.now) table.old work.old
         out.old allowance (ran_report result) table.new work.new out.new }
 {
@@ -152,7 +165,7 @@ pub fn run_stored(
     work: &mut [u32],
     out: &mut [u8],
     allowance: u64,
-) -> Ran
+) -> Ran<usize>
     ensures { Run (stored_in edition stored.now) table.old work.old
         out.old allowance (ran_report result) table.new work.new out.new }
 {
@@ -177,7 +190,7 @@ pub fn run_pair(
     work: &mut [u32],
     out: &mut [u8],
     allowance: u64,
-) -> PairRan
+) -> Ran<Spot>
     ensures { Run (pair_in edition first.now second.now) table.old
         work.old out.old allowance (pair_ran_report result) table.new work.new
         out.new }
@@ -201,7 +214,7 @@ pub fn write(edition: u32, source: &[u8], table: &mut [u32], out: &mut [u8]) -> 
         table.new out.new }
 {
     if table.len() < TABLE {
-        return Wrote::Refused(Refusal::ShortMemory, 0);
+        return Err(nowhere(Refusal::ShortMemory));
     }
     let seen = sheets::examine(edition, source, source, View::Plain, table);
     let answer = writings::write_or_refuse(source, table, out, seen);
@@ -215,7 +228,7 @@ pub fn store(edition: u32, source: &[u8], table: &mut [u32], out: &mut [u8]) -> 
         table.new out.new }
 {
     if table.len() < TABLE {
-        return Wrote::Refused(Refusal::ShortMemory, 0);
+        return Err(nowhere(Refusal::ShortMemory));
     }
     let seen = sheets::examine(edition, source, source, View::Plain, table);
     let answer = storings::store_or_refuse(source, table, out, seen);
@@ -224,7 +237,7 @@ pub fn store(edition: u32, source: &[u8], table: &mut [u32], out: &mut [u8]) -> 
 }
 
 // A pay sheet must finish: it passes, has no endless node, and cannot use too many units.
-pub fn profile(edition: u32, source: &[u8], table: &mut [u32]) -> Profiled
+pub fn profile(edition: u32, source: &[u8], table: &mut [u32]) -> Profiled<usize>
     ensures { Profile (text_in edition source.now) table.old (profiled_report result)
         table.new }
 {
@@ -232,7 +245,7 @@ pub fn profile(edition: u32, source: &[u8], table: &mut [u32]) -> Profiled
 }
 
 // The same of two sheets.
-pub fn profile_pair(edition: u32, first: &[u8], second: &[u8], table: &mut [u32]) -> PairProfiled
+pub fn profile_pair(edition: u32, first: &[u8], second: &[u8], table: &mut [u32]) -> Profiled<Spot>
     ensures { Profile (pair_in edition first.now second.now) table.old
         (pair_profiled_report result) table.new }
 {

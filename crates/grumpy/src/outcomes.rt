@@ -5,12 +5,12 @@ ghost use Rattle.layout.specs.Table.{zeros};
 ghost use Rattle.runner.specs.Contract.{Loaded};
 ghost use Rattle.grumpy.specs.Outcomes.{Executed, ran_of, Runnable, Answered};
 
-use crate::answers::{Ending, Ran};
+use crate::answers::{Ended, Ending, Ran};
 use language::WORK;
 use layout::{Held, memory};
 use numbers::Refusal;
 use runner::Done;
-use sheets::{Form, Seen};
+use sheets::{Form, Located, Refused, Seen};
 
 // Runs the program that the table holds.
 pub fn execute(
@@ -19,7 +19,7 @@ pub fn execute(
     out: &mut [u8],
     program: Held,
     allowance: u32,
-) -> Ending
+) -> Ending<u32>
     requires { Loaded table.now work.old program allowance }
     ensures { Executed table.now work.old out.old work.new
         out.new program allowance result }
@@ -28,24 +28,17 @@ pub fn execute(
         Done::Value(value, spent) => {
             let left = spent.left;
             let used = allowance - left;
-            let printed = spent.printed;
-            Ending::Value {
-                value,
+            Ending {
+                end: Ok(value),
                 units: used,
-                printed,
+                printed: spent.printed,
             }
         }
-        Done::Stop(why, at, spent) => {
-            let rest = spent.left;
-            let units = allowance - rest;
-            let bytes = spent.printed;
-            Ending::Stopped {
-                why,
-                at,
-                units,
-                printed: bytes,
-            }
-        }
+        Done::Stop(why, place, spent) => Ending {
+            end: Err(Located { why, place }),
+            units: allowance - spent.left,
+            printed: spent.printed,
+        },
     }
 }
 
@@ -57,49 +50,27 @@ fn answer(
     table: &[u32],
     count: usize,
     type_number: u32,
-    ending: Ending,
-) -> Ran
+    ending: Ending<u32>,
+) -> Ran<usize>
     requires { (TABLE ≤ length table.now) × (count ≤ TOKENS) }
     ensures { result ≡ ran_of first.now second.now form table.now count type_number ending }
 {
-    match ending {
-        Ending::Value {
-            value,
-            units,
-            printed,
-        } => Ran::Value {
-            type_number,
-            value,
-            units,
-            printed,
-        },
-        Ending::Stopped {
-            why,
-            at,
-            units,
-            printed,
-        } => {
-            let place = sheets::place_in(first, second, form, table, count, at);
-            Ran::Stopped {
-                why,
-                place,
-                type_number,
-                units,
-                printed,
-            }
-        }
-    }
+    let ending = ending.told_at(|at| sheets::place_in(first, second, form, table, count, at));
+    Ok(Ended {
+        type_number,
+        ending,
+    })
 }
 
 // A sheet that is not run: work memory is cleared, the output stays.
-fn refuse(work: &mut [u32], out: &mut [u8], why: Refusal, place: usize) -> Ran
+fn refuse(work: &mut [u32], out: &mut [u8], why: Refusal, place: usize) -> Ran<usize>
     requires { WORK ≤ length work.old }
-    ensures value { result ≡ Ran.Refused why place }
+    ensures value { result ≡ Err (record { why = why; place = place }) }
     ensures work_after { work.new ≡ zeros work.old 0 WORK }
     ensures out_unchanged { out.new ≡ out.old }
 {
     memory::clear(work, 0, WORK);
-    Ran::Refused(why, place)
+    Err(Refused { why, place })
 }
 
 // What comes of a sheet that was examined: its names and calls are resolved and it runs, or it is refused.
@@ -112,7 +83,7 @@ pub fn run_or_refuse(
     out: &mut [u8],
     seen: Seen,
     allowance: u32,
-) -> Ran
+) -> Ran<usize>
     requires { Runnable table.old work.old allowance seen }
     ensures { Answered first.now second.now form table.old table.new
         work.old out.old work.new out.new allowance seen result }

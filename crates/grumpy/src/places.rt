@@ -8,90 +8,66 @@ ghost use Rattle.pairs.specs.Spots.{meant};
 ghost use Rattle.grumpy.specs.Reports.{checked_report, ran_report, pair_checked_report, pair_ran_report};
 ghost use Rattle.grumpy.specs.Reports.{profiled_report, pair_profiled_report};
 
-use crate::answers::{Checked, PairChecked, PairProfiled, PairRan, Profiled, Ran};
+use crate::answers::{Checked, Ended, Profiled, Ran};
 use numbers::Refusal;
 use pairs::Spot;
+use sheets::Refused;
 
 // Where a refusal is told; some have no place.
-fn refused_at(first: &[u8], second: &[u8], why: Refusal, place: usize) -> Spot
+fn spot_of(first: &[u8], second: &[u8], why: Refusal, place: usize) -> Spot
     ensures { meant result ≡ moved first.now second.now (refused (refusal_meant why)) place }
 {
     match why {
-        Refusal::ShortMemory => pairs::front(),
-        Refusal::LargeAllowance => pairs::front(),
-        Refusal::NoEdition => pairs::front(),
-        Refusal::LongSource => pairs::front(),
-        Refusal::Text(_flaw) => pairs::spot_at(first, second, place),
-        Refusal::NoReading => pairs::spot_at(first, second, place),
-        Refusal::Types(_reason) => pairs::spot_at(first, second, place),
-        Refusal::LongText => pairs::front(),
-        Refusal::NotHexadecimal => pairs::spot_at(first, second, place),
-        Refusal::WrongCount => pairs::spot_at(first, second, place),
-        Refusal::NotOneToken => pairs::spot_at(first, second, place),
-        Refusal::EndlessNode => pairs::spot_at(first, second, place),
-        Refusal::ManyUnits => pairs::front(),
+        Refusal::ShortMemory
+        | Refusal::LargeAllowance
+        | Refusal::NoEdition
+        | Refusal::LongSource
+        | Refusal::LongText
+        | Refusal::ManyUnits => pairs::front(),
+        Refusal::Text(_)
+        | Refusal::NoReading
+        | Refusal::Types(_)
+        | Refusal::NotHexadecimal
+        | Refusal::WrongCount
+        | Refusal::NotOneToken
+        | Refusal::EndlessNode => pairs::spot_at(first, second, place),
     }
 }
 
-pub fn checked(first: &[u8], second: &[u8], answer: Checked) -> PairChecked
+// A refusal, told of the two sheets.
+fn refused(first: &[u8], second: &[u8], r: Refused<usize>) -> Refused<Spot>
+    ensures same_why { result.why ≡ r.why }
+    ensures moved_place { meant result.place ≡ moved first.now second.now (refused (refusal_meant r.why)) r.place }
+{
+    Refused {
+        why: r.why,
+        place: spot_of(first, second, r.why, r.place),
+    }
+}
+
+pub fn checked(first: &[u8], second: &[u8], answer: Checked<usize>) -> Checked<Spot>
     ensures { pair_checked_report result ≡ check_moved first.now second.now (checked_report answer) }
 {
-    match answer {
-        Checked::Passed(type_number) => PairChecked::Passed(type_number),
-        Checked::Refused(why, place) => {
-            let spot = refused_at(first, second, why, place);
-            PairChecked::Refused(why, spot)
-        }
-    }
+    answer.map_err(|r| refused(first, second, r))
 }
 
-pub fn profiled(first: &[u8], second: &[u8], answer: Profiled) -> PairProfiled
+pub fn profiled(first: &[u8], second: &[u8], answer: Profiled<usize>) -> Profiled<Spot>
     ensures { pair_profiled_report result ≡ profile_moved first.now second.now
         (profiled_report answer) }
 {
-    match answer {
-        Profiled::Passed(type_number, count) => PairProfiled::Passed(type_number, count),
-        Profiled::Refused(why, place) => {
-            let spot = refused_at(first, second, why, place);
-            PairProfiled::Refused(why, spot)
-        }
-    }
+    answer.map_err(|r| refused(first, second, r))
 }
 
-pub fn ran(first: &[u8], second: &[u8], answer: Ran) -> PairRan
+pub fn ran(first: &[u8], second: &[u8], answer: Ran<usize>) -> Ran<Spot>
     ensures { pair_ran_report result ≡ run_moved first.now second.now (ran_report answer) }
 {
     match answer {
-        Ran::Value {
-            type_number,
-            value,
-            units,
-            printed,
-        } => PairRan::Value {
-            type_number,
-            value,
-            units,
-            printed,
-        },
-        Ran::Stopped {
-            why,
-            place,
-            type_number,
-            units,
-            printed,
-        } => {
-            let spot = pairs::spot_at(first, second, place);
-            PairRan::Stopped {
-                why,
-                spot,
-                type_number,
-                units,
-                printed,
-            }
-        }
-        Ran::Refused(reason, at) => {
-            let where_told = refused_at(first, second, reason, at);
-            PairRan::Refused(reason, where_told)
-        }
+        Ok(ended) => Ok(Ended {
+            type_number: ended.type_number,
+            ending: ended
+                .ending
+                .told_at(|place| pairs::spot_at(first, second, place)),
+        }),
+        Err(r) => Err(refused(first, second, r)),
     }
 }

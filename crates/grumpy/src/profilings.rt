@@ -6,12 +6,12 @@ ghost use Rattle.sheets.specs.Forms.{origin_of};
 ghost use Rattle.grumpy.specs.Profilings.{profiled_of, Payable, Profiling};
 ghost use Rattle.grumpy.specs.Reports.{profiled_report};
 
-use crate::answers::Profiled;
+use crate::answers::{Costs, Profiled};
 use language::TABLE;
 use layout::memory;
 use numbers::Refusal;
 use profiles::Counted;
-use sheets::{Form, Seen};
+use sheets::{Form, Refused, Seen};
 
 // The answer for a program of this type, in a source whose tokens the table holds.
 fn answer(
@@ -22,7 +22,7 @@ fn answer(
     count: usize,
     type_number: u32,
     counted: Counted,
-) -> Profiled
+) -> Profiled<usize>
     requires { (TABLE ≤ length table.now) × (count ≤ TOKENS) }
     ensures { result ≡ profiled_of first.now second.now form table.now count
         type_number counted }
@@ -30,10 +30,13 @@ fn answer(
     match counted {
         Counted::Endless(at) => {
             let place = sheets::place_in(first, second, form, table, count, at);
-            Profiled::Refused(Refusal::EndlessNode, place)
+            Err(Refused {
+                why: Refusal::EndlessNode,
+                place,
+            })
         }
-        Counted::TooMany => Profiled::Refused(Refusal::ManyUnits, 0),
-        Counted::Units(units) => Profiled::Passed(type_number, units),
+        Counted::TooMany => Err(crate::nowhere(Refusal::ManyUnits)),
+        Counted::Units(count) => Ok(Costs { type_number, count }),
     }
 }
 
@@ -44,7 +47,7 @@ fn profile_or_refuse(
     form: Form,
     table: &mut [u32],
     seen: Seen,
-) -> Profiled
+) -> Profiled<usize>
     requires { Payable table.old seen }
     ensures { Profiling first.now second.now form table.old table.new
         seen result }
@@ -65,7 +68,7 @@ fn profile_or_refuse(
                 counted,
             )
         }
-        Seen::Refused(why, place) => Profiled::Refused(why, place),
+        Seen::Refused(why, place) => Err(Refused { why, place }),
     }
 }
 
@@ -76,12 +79,12 @@ pub fn profile_form(
     second: &[u8],
     form: Form,
     table: &mut [u32],
-) -> Profiled
+) -> Profiled<usize>
     ensures { Profile (origin_of first.now second.now form edition) table.old
         (profiled_report result) table.new }
 {
     if table.len() < TABLE {
-        return Profiled::Refused(Refusal::ShortMemory, 0);
+        return Err(crate::nowhere(Refusal::ShortMemory));
     }
     let seen = sheets::examine_form(edition, first, second, form, table);
     let answer = profile_or_refuse(first, second, form, table, seen);

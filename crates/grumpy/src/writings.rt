@@ -5,7 +5,7 @@ ghost use Rattle.grumpy.specs.Writings.{Rewrote, Readable, Rewritten};
 
 use crate::answers::Wrote;
 use numbers::Refusal;
-use sheets::Seen;
+use sheets::{Refused, Seen};
 use writer::Text;
 
 // The text of a sheet that passes.
@@ -15,8 +15,8 @@ fn rewrite(source: &[u8], table: &[u32], count: usize, out: &mut [u8]) -> Wrote
         out.new result }
 {
     match writer::write(source, table, count, out) {
-        Text::Written(long) => Wrote::Written(long),
-        Text::TooLong => Wrote::Refused(Refusal::LongText, 0),
+        Text::Written(long) => Ok(long),
+        Text::TooLong => Err(crate::nowhere(Refusal::LongText)),
     }
 }
 
@@ -31,6 +31,6 @@ pub fn write_or_refuse(source: &[u8], table: &[u32], out: &mut [u8], seen: Seen)
             program,
             type_number: _,
         } => rewrite(source, table, program.count, out),
-        Seen::Refused(why, place) => Wrote::Refused(why, place),
+        Seen::Refused(why, place) => Err(Refused { why, place }),
     }
 }

@@ -1,6 +1,7 @@
 -- How the cases of an answer are told in words, and the contracts of the C functions from those of the services.
 use mathlib.Core.List.{List}
 use mathlib.Core.Path.{◌≡◌, refl, sym, ap, subst, ◌∙◌}
+use Rattle.std.proofs.Common.{Ok, Err}
 use Prim.Native.Nat.{ℕ, ◌≤◌, ◌<◌}
 use native.Mathlib.Omega.{arith}
 use lib.ListN.{length, set, length-set}
@@ -22,12 +23,11 @@ use Rattle.layout.specs.declared.values.Value.{Value}
 use Rattle.numbers.specs.Meanings.{refusal_meant, stop_meant}
 use Rattle.numbers.specs.declared.Refusal.{Refusal}
 use Rattle.numbers.specs.declared.Stop.{Stop}
-use Rattle.grumpy.specs.Reports.{checked_report, ran_report, wrote_report}
-use Rattle.grumpy.specs.declared.answers.Checked.{Checked}
-use Rattle.grumpy.specs.declared.answers.Ran.{Ran}
+use Rattle.sheets.specs.declared.Located.{Located}
+use Rattle.grumpy.specs.declared.answers.Ended.{Ended}
+use Rattle.grumpy.specs.Reports.{CheckedAt, RefusedAt, RanAt, Written, checked_report, ran_report, wrote_report}
 use Rattle.grumpy_c.specs.Reports.{three, six, check_words, run_words, ToldChecked, ToldRan, CheckedC, check_no_report, check_reported, RanC}
 use Rattle.grumpy_c.specs.Reports.{run_no_report, run_reported, write_words, ToldWrote, Writing, WroteC, write_no_report, write_reported}
-use Rattle.grumpy.specs.declared.answers.Wrote.{Wrote}
 
 -- ---- lengths
 
@@ -39,51 +39,31 @@ three_long w v n i t x h e =
 
 -- ---- the cases
 
-pub told_passed : (a : Checked) (w w' : List ℕ) (k : ℕ) → a ≡ Checked.Passed k → w' ≡ three w 0 0 k → ToldChecked a w w' 0
-told_passed a w w' k e h = subst (λ (a : Checked). ToldChecked a w w' 0) (sym e) (refl, h)
-
-pub told_refused : (a : Checked) (w w' : List ℕ) (y : Refusal) (i n : ℕ) → a ≡ Checked.Refused y i → n ≡ refusal_number (refusal_meant y)
-    → w' ≡ three w n i 0 → ToldChecked a w w' n
-told_refused a w w' y i n e m h =
-    subst (λ (a : Checked). ToldChecked a w w' n) (sym e) (m, h ∙ ap (λ (n : ℕ). three w n i 0) m)
-
-pub told_value : (a : Ran) (w w' : List ℕ) (k : ℕ) (v : Value) (u p b : ℕ) → a ≡ Ran.Value k v u p → b ≡ of_z w64 (value_number (meant v))
-    → w' ≡ six w 0 0 k b u p → ToldRan a w w' 0
-told_value a w w' k v u p b e m h =
-    subst (λ (a : Ran). ToldRan a w w' 0) (sym e) (refl, h ∙ ap (λ (b : ℕ). six w 0 0 k b u p) m)
-
-pub told_stopped : (a : Ran) (w w' : List ℕ) (y : Stop) (i k u p n : ℕ) → a ≡ Ran.Stopped y i k u p → n ≡ stop_number (stop_meant y)
-    → w' ≡ six w n i k 0 u p → ToldRan a w w' n
+pub told_stopped : (t u p : ℕ) (s : Located Stop ℕ) (r : Ended ℕ) (w w' : List ℕ) (n : ℕ)
+    → r ≡ record { type_number = t; ending = record { end = Err s; units = u; printed = p } } → n ≡ stop_number (stop_meant s.why)
+    → w' ≡ six w n s.place t 0 u p → ToldRan (Ok r) w w' n
 unfolding value_number
-told_stopped a w w' y i k u p n e m h =
-    subst (λ (a : Ran). ToldRan a w w' n) (sym e) (m, h ∙ ap (λ (n : ℕ). six w n i k 0 u p) m)
+told_stopped t u p s r w w' n e m h =
+    subst (λ (r : Ended ℕ). ToldRan (Ok r) w w' n) (sym e) (m, h ∙ ap (λ (n : ℕ). six w n s.place t 0 u p) m)
 
-pub told_not_run : (a : Ran) (w w' : List ℕ) (y : Refusal) (i n : ℕ) → a ≡ Ran.Refused y i → n ≡ refusal_number (refusal_meant y)
-    → w' ≡ six w n i 0 0 0 0 → ToldRan a w w' n
+pub told_not_run : (a : RanAt ℕ) (w w' : List ℕ) (r : RefusedAt ℕ) (n : ℕ) → a ≡ Err r → n ≡ refusal_number (refusal_meant r.why)
+    → w' ≡ six w n r.place 0 0 0 0 → ToldRan a w w' n
 unfolding value_number
-told_not_run a w w' y i n e m h =
-    subst (λ (a : Ran). ToldRan a w w' n) (sym e) (m, h ∙ ap (λ (n : ℕ). six w n i 0 0 0 0) m)
-
-pub told_written : (a : Wrote) (w w' : List ℕ) (k : ℕ) → a ≡ Wrote.Written k → w' ≡ three w 0 0 k → ToldWrote a w w' 0
-told_written a w w' k e h = subst (λ (a : Wrote). ToldWrote a w w' 0) (sym e) (refl, h)
-
-pub told_unwritten : (a : Wrote) (w w' : List ℕ) (y : Refusal) (i n : ℕ) → a ≡ Wrote.Refused y i → n ≡ refusal_number (refusal_meant y)
-    → w' ≡ three w n i 0 → ToldWrote a w w' n
-told_unwritten a w w' y i n e m h =
-    subst (λ (a : Wrote). ToldWrote a w w' n) (sym e) (m, h ∙ ap (λ (n : ℕ). three w n i 0) m)
+told_not_run a w w' r n e m h =
+    subst (λ (a : RanAt ℕ). ToldRan a w w' n) (sym e) (m, h ∙ ap (λ (n : ℕ). six w n r.place 0 0 0 0) m)
 
 -- ---- the contracts
 
-pub checked_c : {o : Origin ℕ} {table report table' report' : List ℕ} (a : Checked) {n : ℕ} → 3 ≤ length report → Check o table (checked_report a) table'
+pub checked_c : {o : Origin ℕ} {table report table' report' : List ℕ} (a : CheckedAt ℕ) {n : ℕ} → 3 ≤ length report → Check o table (checked_report a) table'
     → ToldChecked a report report' n → CheckedC o table report table' report' n
 checked_c a h c t = check_reported h c t.0 t.1
 
-pub ran_c : {o : Origin ℕ} {table work out report table' work' out' report' : List ℕ} {allowance : ℕ} (a : Ran) {n : ℕ} → 6 ≤ length report
+pub ran_c : {o : Origin ℕ} {table work out report table' work' out' report' : List ℕ} {allowance : ℕ} (a : RanAt ℕ) {n : ℕ} → 6 ≤ length report
     → Run o table work out allowance (ran_report a) table' work' out' → ToldRan a report report' n
     → RanC o table work out allowance report table' work' out' report' n
 ran_c a h c t = run_reported h c t.0 t.1
 
-pub wrote_c : (Writes : Writing) {table out report table' out' report' : List ℕ} (a : Wrote) {n : ℕ} → 3 ≤ length report
+pub wrote_c : (Writes : Writing) {table out report table' out' report' : List ℕ} (a : Written) {n : ℕ} → 3 ≤ length report
     → Writes table out (wrote_report a) table' out' → ToldWrote a report report' n → WroteC Writes table out report table' out' report' n
 wrote_c Writes a h c t = write_reported h c t.0 t.1
 

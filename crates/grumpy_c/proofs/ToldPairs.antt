@@ -1,6 +1,7 @@
 -- How the cases of an answer for two sheets are told in words, and the contracts of the C functions from those of the services.
 use mathlib.Core.List.{List}
 use mathlib.Core.Path.{◌≡◌, refl, sym, ap, ap₂, subst, ◌∙◌}
+use Rattle.std.proofs.Common.{Ok, Err}
 use Prim.Native.Nat.{ℕ, ◌≤◌}
 use native.Mathlib.Omega.{arith}
 use lib.ListN.{length, length-set}
@@ -20,9 +21,9 @@ use Rattle.numbers.specs.declared.Refusal.{Refusal}
 use Rattle.numbers.specs.declared.Stop.{Stop}
 use Rattle.pairs.specs.Spots.{meant}
 use Rattle.pairs.specs.declared.Spot.{Spot}
-use Rattle.grumpy.specs.Reports.{pair_checked_report, pair_ran_report}
-use Rattle.grumpy.specs.declared.answers.PairChecked.{PairChecked}
-use Rattle.grumpy.specs.declared.answers.PairRan.{PairRan}
+use Rattle.sheets.specs.declared.Located.{Located}
+use Rattle.grumpy.specs.declared.answers.Ended.{Ended}
+use Rattle.grumpy.specs.Reports.{CheckedAt, RefusedAt, RanAt, pair_checked_report, pair_ran_report}
 use Rattle.grumpy_c.specs.Reports.{three, six}
 use Rattle.grumpy_c.specs.Pairs.{spot_words, pair_check_words, pair_run_words, ToldPairChecked, ToldPairRan, PairCheckedC}
 use Rattle.grumpy_c.specs.Pairs.{check_no_report, check_reported, PairRanC, run_no_report, run_reported}
@@ -39,48 +40,29 @@ six_same w v n i t x u p e = ap length e ∙ simp length-set
 
 -- ---- the cases
 
-module _ (a : PairChecked) (w w' : List ℕ) where
-  pub told_passed : (k : ℕ) (x : Spot) → a ≡ PairChecked.Passed k → meant x ≡ front
-      → w' ≡ spot_words (three w 0 (meant x).at k) 3 (meant x) → ToldPairChecked a w w' 0
-  told_passed k x e c h =
-      subst (λ (a : PairChecked). ToldPairChecked a w w' 0) (sym e)
-      (refl, h ∙ ap (λ (y : Place). spot_words (three w 0 y.at k) 3 y) c)
+pub told_stopped : (t u p : ℕ) (s : Located Stop Spot) (r : Ended Spot) (w w' : List ℕ) (n : ℕ)
+    → r ≡ record { type_number = t; ending = record { end = Err s; units = u; printed = p } } → n ≡ stop_number (stop_meant s.why)
+    → w' ≡ spot_words (six w n s.place.at t 0 u p) 6 (meant s.place) → ToldPairRan (Ok r) w w' n
+unfolding value_number
+told_stopped t u p s r w w' n e m h =
+    subst (λ (r : Ended Spot). ToldPairRan (Ok r) w w' n) (sym e)
+    (m, h ∙ ap (λ (n : ℕ). spot_words (six w n s.place.at t 0 u p) 6 (meant s.place)) m)
 
-  pub told_refused : (y : Refusal) (x : Spot) (n : ℕ) → a ≡ PairChecked.Refused y x → n ≡ refusal_number (refusal_meant y)
-      → w' ≡ spot_words (three w n (meant x).at 0) 3 (meant x) → ToldPairChecked a w w' n
-  told_refused y x n e m h =
-      subst (λ (a : PairChecked). ToldPairChecked a w w' n) (sym e)
-      (m, h ∙ ap (λ (n : ℕ). spot_words (three w n x.at 0) 3 (meant x)) m)
-
-module _ (a : PairRan) (w w' : List ℕ) where
-  pub told_value : (k : ℕ) (v : Value) (u p b : ℕ) (x : Spot) → a ≡ PairRan.Value k v u p → b ≡ of_z w64 (value_number (Values.meant v)) → meant x ≡ front
-      → w' ≡ spot_words (six w 0 (meant x).at k b u p) 6 (meant x) → ToldPairRan a w w' 0
-  told_value k v u p b x e m c h =
-      subst (λ (a : PairRan). ToldPairRan a w w' 0) (sym e)
-      (refl, h ∙ ap₂ (λ (b : ℕ) (y : Place). spot_words (six w 0 y.at k b u p) 6 y) m c)
-
-  pub told_stopped : (y : Stop) (x : Spot) (k u p n : ℕ) → a ≡ PairRan.Stopped y x k u p → n ≡ stop_number (stop_meant y)
-      → w' ≡ spot_words (six w n (meant x).at k 0 u p) 6 (meant x) → ToldPairRan a w w' n
-  unfolding value_number
-  told_stopped y x k u p n e m h =
-      subst (λ (a : PairRan). ToldPairRan a w w' n) (sym e)
-      (m, h ∙ ap (λ (n : ℕ). spot_words (six w n x.at k 0 u p) 6 (meant x)) m)
-
-  pub told_not_run : (y : Refusal) (x : Spot) (n : ℕ) → a ≡ PairRan.Refused y x → n ≡ refusal_number (refusal_meant y)
-      → w' ≡ spot_words (six w n (meant x).at 0 0 0 0) 6 (meant x) → ToldPairRan a w w' n
-  unfolding value_number
-  told_not_run y x n e m h =
-      subst (λ (a : PairRan). ToldPairRan a w w' n) (sym e)
-      (m, h ∙ ap (λ (n : ℕ). spot_words (six w n x.at 0 0 0 0) 6 (meant x)) m)
+pub told_not_run : (a : RanAt Spot) (w w' : List ℕ) (r : RefusedAt Spot) (n : ℕ) → a ≡ Err r → n ≡ refusal_number (refusal_meant r.why)
+    → w' ≡ spot_words (six w n r.place.at 0 0 0 0) 6 (meant r.place) → ToldPairRan a w w' n
+unfolding value_number
+told_not_run a w w' r n e m h =
+    subst (λ (a : RanAt Spot). ToldPairRan a w w' n) (sym e)
+    (m, h ∙ ap (λ (n : ℕ). spot_words (six w n r.place.at 0 0 0 0) 6 (meant r.place)) m)
 
 -- ---- the contracts
 
-pub pair_checked_c : (edition : ℕ) (first second table report table' report' : List ℕ) (a : PairChecked) (n : ℕ) → 6 ≤ length report
+pub pair_checked_c : (edition : ℕ) (first second table report table' report' : List ℕ) (a : CheckedAt Spot) (n : ℕ) → 6 ≤ length report
     → Check (pair_in edition first second) table (pair_checked_report a) table' → ToldPairChecked a report report' n
     → PairCheckedC edition first second table report table' report' n
 pair_checked_c edition first second table report table' report' a n h c t = check_reported h c t.0 t.1
 
-pub pair_ran_c : (edition : ℕ) (first second table work out report table' work' out' report' : List ℕ) (allowance : ℕ) (a : PairRan) (n : ℕ)
+pub pair_ran_c : (edition : ℕ) (first second table work out report table' work' out' report' : List ℕ) (allowance : ℕ) (a : RanAt Spot) (n : ℕ)
     → 9 ≤ length report → Run (pair_in edition first second) table work out allowance (pair_ran_report a) table' work' out' → ToldPairRan a report report' n
     → PairRanC edition first second table work out allowance report table' work' out' report' n
 pair_ran_c edition first second table work out report table' work' out' report' allowance a n h c t = run_reported h c t.0 t.1

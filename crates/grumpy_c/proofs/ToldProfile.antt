@@ -11,8 +11,7 @@ use Rattle.language.proofs.Answers.Editions.{text_in_lawful}
 use Rattle.language.proofs.Profiles.OneProfile.{one_profile}
 use Rattle.numbers.specs.Meanings.{refusal_meant}
 use Rattle.numbers.specs.declared.Refusal.{Refusal}
-use Rattle.grumpy.specs.Reports.{profiled_report}
-use Rattle.grumpy.specs.declared.answers.Profiled.{Profiled}
+use Rattle.grumpy.specs.Reports.{ProfiledAt, profiled_report}
 use Rattle.grumpy_c.specs.Reports.{three}
 use Rattle.grumpy_c.specs.Profilings.{PROFILE, four, profile_words, ToldProfiled, ProfiledC, profile_no_report, profile_reported}
 
@@ -20,15 +19,7 @@ pub fourth_inside : (w v : List ℕ) (n i t : ℕ) → 4 ≤ length w → v ≡ 
 unfolding three
 fourth_inside w v n i t h e = let l : length v ≡ length w = ap length e ∙ simp length-set in omega (arith, h, l)
 
-pub told_counted : (a : Profiled) (w w' : List ℕ) (k c : ℕ) → a ≡ Profiled.Passed k c → w' ≡ four w 0 0 k c → ToldProfiled a w w' 0
-told_counted a w w' k c e h = subst (λ (a : Profiled). ToldProfiled a w w' 0) (sym e) (refl, h)
-
-pub told_uncounted : (a : Profiled) (w w' : List ℕ) (y : Refusal) (i n : ℕ) → a ≡ Profiled.Refused y i → n ≡ refusal_number (refusal_meant y)
-    → w' ≡ four w n i 0 0 → ToldProfiled a w w' n
-told_uncounted a w w' y i n e m h =
-    subst (λ (a : Profiled). ToldProfiled a w w' n) (sym e) (m, h ∙ ap (λ (n : ℕ). four w n i 0 0) m)
-
-pub profiled_c : (edition : ℕ) (source table report table' report' : List ℕ) (a : Profiled) (n : ℕ) → PROFILE ≤ length report
+pub profiled_c : (edition : ℕ) (source table report table' report' : List ℕ) (a : ProfiledAt ℕ) (n : ℕ) → PROFILE ≤ length report
     → Profile (text_in edition source) table (profiled_report a) table' → ToldProfiled a report report' n
     → ProfiledC edition source table report table' report' n
 profiled_c edition source table report table' report' a n h c t = profile_reported h c t.0 t.1

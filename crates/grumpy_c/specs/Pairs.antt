@@ -7,9 +7,8 @@ use Rattle.language.specs.Numbers.{short_memory, refusal_number, number}
 use Rattle.language.specs.Answers.{CheckReport, Check, RunReport, Run}
 use Rattle.language.specs.Edition.{pair_in}
 use Rattle.language.specs.Pairs.{Place}
-use Rattle.grumpy.specs.Reports.{pair_checked_report, pair_ran_report}
-use Rattle.grumpy.specs.declared.answers.PairChecked.{PairChecked}
-use Rattle.grumpy.specs.declared.answers.PairRan.{PairRan}
+use Rattle.pairs.specs.declared.Spot.{Spot}
+use Rattle.grumpy.specs.Reports.{CheckedAt, RanAt, pair_checked_report, pair_ran_report}
 use Rattle.grumpy_c.specs.Reports.{three, six}
 
 -- from word k on the sheet, and where the part that is shown begins and ends in it
@@ -26,11 +25,11 @@ pair_run_words w r =
     (six w (number r.told) r.place.at r.type (of_z w64 (value_number r.value)) r.units r.printed) 6
     r.place
 
-abbrev pub ToldPairChecked : PairChecked → List ℕ → List ℕ → ℕ → Type 0
+abbrev pub ToldPairChecked : CheckedAt Spot → List ℕ → List ℕ → ℕ → Type 0
 ToldPairChecked a w w' n =
     (n ≡ number (pair_checked_report a).told) × (w' ≡ pair_check_words w (pair_checked_report a))
 
-abbrev pub ToldPairRan : PairRan → List ℕ → List ℕ → ℕ → Type 0
+abbrev pub ToldPairRan : RanAt Spot → List ℕ → List ℕ → ℕ → Type 0
 ToldPairRan a w w' n = (n ≡ number (pair_ran_report a).told) × (w' ≡ pair_run_words w (pair_ran_report a))
 
 -- The contract of `grumpy_check_pair`: where the report is long enough, the contract of check for a pair, in words.

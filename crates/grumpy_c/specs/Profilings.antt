@@ -3,8 +3,7 @@ use Rattle.std.specs.Prelude.{List, ◌≡◌, ℕ, ◌≤◌, ◌<◌, length, 
 use Rattle.language.specs.Numbers.{short_memory, refusal_number, number}
 use Rattle.language.specs.Edition.{text_in}
 use Rattle.language.specs.Profile.{ProfileReport, Profile}
-use Rattle.grumpy.specs.Reports.{profiled_report}
-use Rattle.grumpy.specs.declared.answers.Profiled.{Profiled}
+use Rattle.grumpy.specs.Reports.{ProfiledAt, profiled_report}
 use Rattle.grumpy_c.specs.Reports.{three}
 
 abbrev pub PROFILE : ℕ
@@ -17,7 +16,7 @@ four w n i t c = set (three w n i t) 3 c
 abbrev pub profile_words : List ℕ → ProfileReport ℕ → List ℕ
 profile_words w r = four w (number r.told) r.place r.type r.count
 
-abbrev pub ToldProfiled : Profiled → List ℕ → List ℕ → ℕ → Type 0
+abbrev pub ToldProfiled : ProfiledAt ℕ → List ℕ → List ℕ → ℕ → Type 0
 ToldProfiled a w w' n = (n ≡ number (profiled_report a).told) × (w' ≡ profile_words w (profiled_report a))
 
 pub data ProfiledC (edition : ℕ) (source table report table' report' : List ℕ) (n : ℕ) : Type 0 where

@@ -6,10 +6,7 @@ use Rattle.language.specs.Meaning.{value_number}
 use Rattle.language.specs.Numbers.{short_memory, refusal_number, number}
 use Rattle.language.specs.Answers.{Origin, CheckReport, Check, RunReport, Run}
 use Rattle.language.specs.Writing.{WriteReport}
-use Rattle.grumpy.specs.Reports.{checked_report, ran_report, wrote_report}
-use Rattle.grumpy.specs.declared.answers.Checked.{Checked}
-use Rattle.grumpy.specs.declared.answers.Ran.{Ran}
-use Rattle.grumpy.specs.declared.answers.Wrote.{Wrote}
+use Rattle.grumpy.specs.Reports.{CheckedAt, RanAt, Written, checked_report, ran_report, wrote_report}
 
 -- the first three words; the first six
 unfoldable pub three : List ℕ → ℕ → ℕ → ℕ → List ℕ
@@ -30,13 +27,13 @@ abbrev pub write_words : List ℕ → WriteReport ℕ → List ℕ
 write_words w r = three w (number r.told) r.place r.written
 
 -- an answer, told in words and by its number
-abbrev pub ToldChecked : Checked → List ℕ → List ℕ → ℕ → Type 0
+abbrev pub ToldChecked : CheckedAt ℕ → List ℕ → List ℕ → ℕ → Type 0
 ToldChecked a w w' n = (n ≡ number (checked_report a).told) × (w' ≡ check_words w (checked_report a))
 
-abbrev pub ToldRan : Ran → List ℕ → List ℕ → ℕ → Type 0
+abbrev pub ToldRan : RanAt ℕ → List ℕ → List ℕ → ℕ → Type 0
 ToldRan a w w' n = (n ≡ number (ran_report a).told) × (w' ≡ run_words w (ran_report a))
 
-abbrev pub ToldWrote : Wrote → List ℕ → List ℕ → ℕ → Type 0
+abbrev pub ToldWrote : Written → List ℕ → List ℕ → ℕ → Type 0
 ToldWrote a w w' n = (n ≡ number (wrote_report a).told) × (w' ≡ write_words w (wrote_report a))
 
 -- The contract of `grumpy_check` and `grumpy_check_stored`, for what the tokens come from: where the report is long

@@ -18,20 +18,21 @@ mod words;
 use crate::reports::{
     write_pair_check_report, write_pair_run_report, write_run_report, write_three,
 };
-use grumpy::answers::{Checked, PairChecked, PairRan, Ran, Wrote};
+use grumpy::answers::{Checked, Ended, Ran, Wrote};
+use pairs::Spot;
 
-fn report_checked(report: &mut [u64], answer: Checked) -> u32
+fn report_checked(report: &mut [u64], answer: Checked<usize>) -> u32
     requires { 3 ≤ length report.old }
     ensures { ToldChecked answer report.old report.new result }
 {
     match answer {
-        Checked::Passed(type_number) => {
+        Ok(type_number) => {
             write_three(report, 0, 0, type_number as u64);
             0
         }
-        Checked::Refused(why, place) => {
-            let number = numbers::of_refusal(why);
-            write_three(report, number, place, 0);
+        Err(r) => {
+            let number = numbers::of_refusal(r.why);
+            write_three(report, number, r.place, 0);
             number
         }
     }
@@ -42,47 +43,54 @@ fn report_wrote(report: &mut [u64], answer: Wrote) -> u32
     ensures { ToldWrote answer report.old report.new result }
 {
     match answer {
-        Wrote::Written(bytes) => {
+        Ok(bytes) => {
             write_three(report, 0, 0, bytes as u64);
             0
         }
-        Wrote::Refused(why, place) => {
-            let number = numbers::of_refusal(why);
-            write_three(report, number, place, 0);
+        Err(r) => {
+            let number = numbers::of_refusal(r.why);
+            write_three(report, number, r.place, 0);
             number
         }
     }
 }
 
-fn report_ran(report: &mut [u64], answer: Ran) -> u32
+fn report_ended(report: &mut [u64], ended: Ended<usize>) -> u32
+    requires { 6 ≤ length report.old }
+    ensures { ToldRan (Ok ended) report.old report.new result }
+{
+    let (type_number, ending) = (ended.type_number, ended.ending);
+    match ending.end {
+        Ok(value) => {
+            let bits = words::word(value);
+            write_run_report(report, 0, 0, type_number, bits, ending.units, ending.printed);
+            0
+        }
+        Err(stop) => {
+            let number = numbers::of_stop(stop.why);
+            write_run_report(
+                report,
+                number,
+                stop.place,
+                type_number,
+                0,
+                ending.units,
+                ending.printed,
+            );
+            number
+        }
+    }
+}
+
+fn report_ran(report: &mut [u64], answer: Ran<usize>) -> u32
     requires { 6 ≤ length report.old }
     ensures { ToldRan answer report.old report.new result }
 {
     match answer {
-        Ran::Value {
-            type_number,
-            value,
-            units,
-            printed,
-        } => {
-            let bits = words::word(value);
-            write_run_report(report, 0, 0, type_number, bits, units, printed);
-            0
-        }
-        Ran::Stopped {
-            why,
-            place,
-            type_number,
-            units,
-            printed,
-        } => {
-            let number = numbers::of_stop(why);
-            write_run_report(report, number, place, type_number, 0, units, printed);
-            number
-        }
-        Ran::Refused(why, place) => {
-            let number = numbers::of_refusal(why);
-            write_run_report(report, number, place, 0, 0, 0, 0);
+        Ok(ended) => report_ended(report, ended),
+        Err(r) => {
+            let number = numbers::of_refusal(r.why);
+            write_run_report(report, number, r.place, 0, 0, 0, 0);
             number
         }
     }
@@ -200,52 +208,67 @@ pub extern "C" fn grumpy_run_stored(
     report_ran(report, answer)
 }
 
-fn report_pair_checked(report: &mut [u64], answer: PairChecked) -> u32
+fn report_pair_checked(report: &mut [u64], answer: Checked<Spot>) -> u32
     requires { 6 ≤ length report.old }
     ensures { ToldPairChecked answer report.old report.new result }
 {
     match answer {
-        PairChecked::Passed(type_number) => {
+        Ok(type_number) => {
             write_pair_check_report(report, 0, pairs::front(), type_number);
             0
         }
-        PairChecked::Refused(why, spot) => {
-            let number = numbers::of_refusal(why);
-            write_pair_check_report(report, number, spot, 0);
+        Err(r) => {
+            let number = numbers::of_refusal(r.why);
+            write_pair_check_report(report, number, r.place, 0);
             number
         }
     }
 }
 
-fn report_pair_ran(report: &mut [u64], answer: PairRan) -> u32
+fn report_pair_ended(report: &mut [u64], ended: Ended<Spot>) -> u32
+    requires { 9 ≤ length report.old }
+    ensures { ToldPairRan (Ok ended) report.old report.new result }
+{
+    let (type_number, ending) = (ended.type_number, ended.ending);
+    match ending.end {
+        Ok(value) => {
+            let bits = words::word(value);
+            write_pair_run_report(
+                report,
+                0,
+                pairs::front(),
+                type_number,
+                bits,
+                ending.units,
+                ending.printed,
+            );
+            0
+        }
+        Err(stop) => {
+            let number = numbers::of_stop(stop.why);
+            write_pair_run_report(
+                report,
+                number,
+                stop.place,
+                type_number,
+                0,
+                ending.units,
+                ending.printed,
+            );
+            number
+        }
+    }
+}
+
+fn report_pair_ran(report: &mut [u64], answer: Ran<Spot>) -> u32
     requires { 9 ≤ length report.old }
     ensures { ToldPairRan answer report.old report.new result }
 {
     match answer {
-        PairRan::Value {
-            type_number,
-            value,
-            units,
-            printed,
-        } => {
-            let bits = words::word(value);
-            write_pair_run_report(report, 0, pairs::front(), type_number, bits, units, printed);
-            0
-        }
-        PairRan::Stopped {
-            why,
-            spot,
-            type_number,
-            units,
-            printed,
-        } => {
-            let number = numbers::of_stop(why);
-            write_pair_run_report(report, number, spot, type_number, 0, units, printed);
-            number
-        }
-        PairRan::Refused(why, spot) => {
-            let number = numbers::of_refusal(why);
-            write_pair_run_report(report, number, spot, 0, 0, 0, 0);
+        Ok(ended) => report_pair_ended(report, ended),
+        Err(r) => {
+            let number = numbers::of_refusal(r.why);
+            write_pair_run_report(report, number, r.place, 0, 0, 0, 0);
             number
         }
     }

@@ -8,18 +8,18 @@ use grumpy::answers::Profiled;
 // Words of the report.
 const PROFILE: usize = 4;
 
-fn report_profiled(report: &mut [u64], answer: Profiled) -> u32
+fn report_profiled(report: &mut [u64], answer: Profiled<usize>) -> u32
     requires { PROFILE ≤ length report.old }
     ensures { ToldProfiled answer report.old report.new result }
 {
     match answer {
-        Profiled::Passed(type_number, count) => {
-            write_profile_report(report, 0, 0, type_number, count);
+        Ok(costs) => {
+            write_profile_report(report, 0, 0, costs.type_number, costs.count);
             0
         }
-        Profiled::Refused(why, place) => {
-            let number = numbers::of_refusal(why);
-            write_profile_report(report, number, place, 0, 0);
+        Err(r) => {
+            let number = numbers::of_refusal(r.why);
+            write_profile_report(report, number, r.place, 0, 0);
             number
         }
     }

@@ -23,6 +23,15 @@ use tokens::answer::Split;
 use tokens::edition::{Edition, Known, named};
 use tokens::view::{Text, View};
 
+// Why something is not done, and where that is told.
+#[derive(Clone, Copy)]
+pub struct Located<Y, P> {
+    pub why: Y,
+    pub place: P,
+}
+
+pub type Refused<P> = Located<Refusal, P>;
+
 // What becomes of tokens: a program, as the table holds it, with its type's number; or why they are none,
 // and the ordinal of the token at which this is told.
 #[derive(Clone, Copy)]

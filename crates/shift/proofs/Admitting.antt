@@ -6,6 +6,7 @@ use mathlib.Core.List.{List, ◌++◌}
 use mathlib.Core.Logic.{◌⊎◌, inl, inr}
 use mathlib.Core.Path.{◌≡◌, refl, sym, ap, subst, ◌∙◌}
 use native.Mathlib.Omega.{arith}
+use Rattle.std.proofs.Common.{Ok, Err}
 use Prim.Native.Nat.{ℕ, ◌≤◌, ◌<◌}
 use Rattle.language.specs.Sizes.{ALLOWANCE, TABLE, WORK}
 use Rattle.language.specs.Tokens.{Token}
@@ -27,8 +28,7 @@ use Rattle.language.proofs.Shift.Books.{PAY_WANTED, book_is, is_book}
 use Rattle.numbers.specs.declared.Refusal as Code
 use Rattle.pairs.specs.Spots.{meant}
 use Rattle.pairs.specs.declared.Spot.{Spot}
-use Rattle.grumpy.specs.declared.answers.PairChecked.{PairChecked}
-use Rattle.grumpy.specs.Reports.{pair_checked_report}
+use Rattle.grumpy.specs.Reports.{CheckedAt, pair_checked_report}
 use Rattle.grumpy.proofs.Leaving.{checked_left}
 use Rattle.outlines.specs.declared.Outlined as Found
 use Rattle.outlines.specs.Reports.{outlined_report}
@@ -86,26 +86,26 @@ module _ {P : Type 0} (o : Origin P) (table : ℕ) where
 -- ---- the largest call
 
 module _ (ed : ℕ) (book table table' : List ℕ) (long : TABLE ≤ length table) where
-  abbrev Most : PairChecked → Type 0
+  abbrev Most : CheckedAt Spot → Type 0
   Most r = Check (pair_in ed book LARGEST_CALL) table (pair_checked_report r) table'
 
-  most_left : (r : PairChecked) → Most r → table' ≡ cleared TABLE table
+  most_left : (r : CheckedAt Spot) → Most r → table' ≡ cleared TABLE table
   most_left r c = c.table_left ∙ checked_left (pair_in_lawful ed book LARGEST_CALL) long c.answer TABLE table
 
-  pub room_passed : (n : ℕ) → Most (PairChecked.Passed n) → AskedOfRoom ed book table Admission.Granted table'
+  pub room_passed : (n : ℕ) → Most (Ok n) → AskedOfRoom ed book table Admission.Granted table'
   unfolding Some
   room_passed n c = record {
     told = λ l e f p b. admit e f p b (checked_passed (pair_in ed book LARGEST_CALL) (length table) _ c.answer refl).3.given;
-    left = most_left (PairChecked.Passed n) c;
+    left = most_left (Ok n) c;
   }
 
-  pub room_refused : (y : Code.Refusal) (x : Spot) → Most (PairChecked.Refused y x)
+  pub room_refused : (y : Code.Refusal) (x : Spot) → Most (Err (record { why = y; place = x }))
       → AskedOfRoom ed book table (Admission.Refused (Why.Sheet y) x) table'
   room_refused y x c = record {
     told = λ l e f p b.
         admit_no_room e f p b
         (only_no_room_in ed book p b (checked_refused (pair_in ed book LARGEST_CALL) (length table) _ long c.answer refl)).0;
-    left = most_left (PairChecked.Refused y x) c;
+    left = most_left (Err (record { why = y; place = x })) c;
   }
 
 -- ---- a book that passes
@@ -173,25 +173,25 @@ module _ (ed : ℕ) (book table table₁ : List ℕ) (long : TABLE ≤ length ta
 -- ---- any book
 
 module _ (ed : ℕ) (book table table₁ : List ℕ) (long : TABLE ≤ length table) where
-  abbrev Zero : PairChecked → Type 0
+  abbrev Zero : CheckedAt Spot → Type 0
   Zero r = Check (pair_in ed book ZERO) table (pair_checked_report r) table₁
 
-  zero_left : (r : PairChecked) → Zero r → table₁ ≡ cleared TABLE table
+  zero_left : (r : CheckedAt Spot) → Zero r → table₁ ≡ cleared TABLE table
   zero_left r c = c.table_left ∙ checked_left (pair_in_lawful ed book ZERO) long c.answer TABLE table
 
-  pub text_passed : (n : ℕ) (r : Admission) (table' : List ℕ) → Zero (PairChecked.Passed n) → AskedOfBook ed book table₁ r table'
+  pub text_passed : (n : ℕ) (r : Admission) (table' : List ℕ) → Zero (Ok n) → AskedOfBook ed book table₁ r table'
       → AskedOfText ed book table r table'
   unfolding Some
   text_passed n r table' c q = record {
     told = λ l e f. q.told l e f (checked_passed (pair_in ed book ZERO) (length table) _ c.answer refl).3;
-    left = q.left ∙ ap (cleared TABLE) (zero_left (PairChecked.Passed n) c) ∙ cleared_again TABLE table;
+    left = q.left ∙ ap (cleared TABLE) (zero_left (Ok n) c) ∙ cleared_again TABLE table;
   }
 
-  pub text_refused : (y : Code.Refusal) (x : Spot) → Zero (PairChecked.Refused y x)
+  pub text_refused : (y : Code.Refusal) (x : Spot) → Zero (Err (record { why = y; place = x }))
       → AskedOfText ed book table (Admission.Refused (Why.Sheet y) x) table₁
   text_refused y x c = record {
     told = λ l e f. admit_refused e f (checked_refused (pair_in ed book ZERO) (length table) _ long c.answer refl);
-    left = zero_left (PairChecked.Refused y x) c;
+    left = zero_left (Err (record { why = y; place = x })) c;
   }
 
 -- ---- all that is lent

@@ -5,6 +5,7 @@ use mathlib.Core.List.{List}
 use mathlib.Core.Logic.{◌⊎◌}
 use mathlib.Core.Path.{◌≡◌, refl, subst}
 use native.Mathlib.Omega.{arith}
+use Rattle.std.proofs.Common.{Ok, Err}
 use Prim.Native.Nat.{ℕ, ◌≤◌}
 use Rattle.language.specs.Sizes.{TABLE}
 use Rattle.language.specs.Tokens.{spell}
@@ -17,8 +18,7 @@ use Rattle.language.proofs.Shift.Books.{PAY_WANTED}
 use Rattle.numbers.specs.declared.Refusal as Code
 use Rattle.pairs.specs.Spots.{meant}
 use Rattle.pairs.specs.declared.Spot.{Spot}
-use Rattle.grumpy.specs.declared.answers.PairChecked.{PairChecked}
-use Rattle.grumpy.specs.Reports.{pair_checked_report}
+use Rattle.grumpy.specs.Reports.{CheckedAt, pair_checked_report}
 use Rattle.outlines.specs.declared.Outlined.{Outlined}
 use Rattle.outlines.specs.Reports.{outlined_report}
 use Rattle.shift.specs.declared.Why.{Why}
@@ -35,25 +35,25 @@ unfolding call_of decimal_with
 largest_call = refl
 
 module _ (ed : ℕ) (book table table₁ : List ℕ) (long : TABLE ≤ length table) where
-  abbrev Answers : List ℕ → PairChecked → Type 0
+  abbrev Answers : List ℕ → CheckedAt Spot → Type 0
   Answers under k = Check (pair_in ed book under) table (pair_checked_report k) table₁
 
-  largest : (k : PairChecked) → Answers WRITTEN k → Answers LARGEST_CALL k
+  largest : (k : CheckedAt Spot) → Answers WRITTEN k → Answers LARGEST_CALL k
   largest k c = subst (λ (under : List ℕ). Answers under k) largest_call c
 
-  pub room_is_passed : (k : PairChecked) (n : ℕ) → Answers WRITTEN k → k ≡ PairChecked.Passed n
+  pub room_is_passed : (k : CheckedAt Spot) (n : ℕ) → Answers WRITTEN k → k ≡ Ok n
       → AskedOfRoom ed book table Admission.Granted table₁
   room_is_passed k n c e = room_passed ed book table table₁ long n (subst (Answers LARGEST_CALL) e (largest k c))
 
-  pub room_is_refused : (k : PairChecked) (y : Code.Refusal) (x : Spot) → Answers WRITTEN k → k ≡ PairChecked.Refused y x
+  pub room_is_refused : (k : CheckedAt Spot) (y : Code.Refusal) (x : Spot) → Answers WRITTEN k → k ≡ Err (record { why = y; place = x })
       → AskedOfRoom ed book table (Admission.Refused (Why.Sheet y) x) table₁
   room_is_refused k y x c e = room_refused ed book table table₁ long y x (subst (Answers LARGEST_CALL) e (largest k c))
 
-  pub text_is_passed : (k : PairChecked) (n : ℕ) (r : Admission) (table' : List ℕ) → Answers ZERO k → k ≡ PairChecked.Passed n
+  pub text_is_passed : (k : CheckedAt Spot) (n : ℕ) (r : Admission) (table' : List ℕ) → Answers ZERO k → k ≡ Ok n
       → AskedOfBook ed book table₁ r table' → AskedOfText ed book table r table'
   text_is_passed k n r table' c e q = text_passed ed book table table₁ long n r table' (subst (Answers ZERO) e c) q
 
-  pub text_is_refused : (k : PairChecked) (y : Code.Refusal) (x : Spot) → Answers ZERO k → k ≡ PairChecked.Refused y x
+  pub text_is_refused : (k : CheckedAt Spot) (y : Code.Refusal) (x : Spot) → Answers ZERO k → k ≡ Err (record { why = y; place = x })
       → AskedOfText ed book table (Admission.Refused (Why.Sheet y) x) table₁
   text_is_refused k y x c e = text_refused ed book table table₁ long y x (subst (Answers ZERO) e c)
 

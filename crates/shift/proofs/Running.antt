@@ -9,6 +9,7 @@ use mathlib.Core.Logic.{inl, inr}
 use mathlib.Core.Path.{◌≡◌, refl, sym, ap, subst, ◌∙◌}
 use borrow.Author.Tests.{leb-true}
 use native.Mathlib.Omega.{arith}
+use Rattle.std.proofs.Common.{Result, Ok, Err}
 use Prim.Native.Nat.{ℕ, ◌≤◌, ◌<◌}
 use Rattle.language.specs.Sizes.{LARGEST, TABLE, WORK}
 use Rattle.language.specs.State.{float, flag, nothing, cell, number}
@@ -24,6 +25,8 @@ use Rattle.layout.specs.Values as Values
 use Rattle.layout.specs.Table.{zeros}
 use Rattle.layout.specs.declared.Held.{Held}
 use Rattle.layout.proofs.Wiped.{zeros_cleared}
+use Rattle.numbers.specs.declared.Stop.{Stop}
+use Rattle.sheets.specs.declared.Located.{Located}
 use Rattle.grumpy.specs.Calls.{Prepared, Callable, CallRan, Called}
 use Rattle.grumpy.specs.Outcomes.{ending_meant}
 use Rattle.grumpy.specs.declared.answers.Ending.{Ending}
@@ -71,13 +74,13 @@ module _ (ed : ℕ) (book : List ℕ) (P : Held) (table work out : List ℕ) (al
   }
 
   module _ (j : Job) (p : j.picks ≤ LARGEST) (q : j.rate ≤ LARGEST) (table' work' out' : List ℕ) where
-    abbrev Ends : Ending → Type 0
+    abbrev Ends : Ending ℕ → Type 0
     Ends r = Called table work out table' work' out' P j allowance r
 
-    so : (r : Ending) → Ends r → CallRan ed book j l out out' r
+    so : (r : Ending ℕ) → Ends r → CallRan ed book j l out out' r
     so r x = x.told ed book l ready.prepared enough refl refl
 
-    leaves : (r : Ending) (x : Ends r) → Leaves ed book P table work out (so r x).printed table' work' out'
+    leaves : (r : Ending ℕ) (x : Ends r) → Leaves ed book P table work out (so r x).printed table' work' out'
     leaves r x = record {
       prepared = subst (λ (w : List ℕ). Prepared ed book w P) (sym x.numbers) (prepared_on P j table ready.prepared);
       table_rest = ap (λ (w : List ℕ). zeros w 0 TABLE) x.numbers ∙ laid_rest P j table ready.prepared.six ready.prepared.few;
@@ -85,41 +88,49 @@ module _ (ed : ℕ) (book : List ℕ) (P : Held) (table work out : List ℕ) (al
       output = (so r x).output;
     }
 
-    ended_so : (r : Ending) (x : Ends r) → Ended (ending_meant r (so r x).printed).told (ending_meant r (so r x).printed).value
+    ended_so : (r : Ending ℕ) (x : Ends r) → Ended (ending_meant r (so r x).printed).told (ending_meant r (so r x).printed).value
     ended_so r x = never_refused book_admitted p q (so r x).ran
 
-    Pays : Ending → Type 0
+    Pays : Ending ℕ → Type 0
     Pays r = Ran ed book l j P table work out (ended_as r) table' work' out'
 
-    value_so : (v : Value) (u n : ℕ) → Ends (Ending.Value v u n) → (z : ℤ) → Values.meant v ≡ number z → in_range z ≡ true
-        → Pays (Ending.Value v u n)
+    abbrev valued : Value → ℕ → ℕ → Ending ℕ
+    valued v u n = record { end = Ok v; units = u; printed = n }
+
+    value_so : (v : Value) (u n : ℕ) → Ends (valued v u n) → (z : ℤ) → Values.meant v ≡ number z → in_range z ≡ true → Pays (valued v u n)
     unfolding Pays
     value_so (Value.Int y) u n x z e r = record {
-      printed = (so (Ending.Value (Value.Int y) u n) x).printed;
-      runs = runs_to_pay (so (Ending.Value (Value.Int y) u n) x).ran refl refl;
+      printed = (so (valued (Value.Int y) u n) x).printed;
+      runs = runs_to_pay (so (valued (Value.Int y) u n) x).ran refl refl;
       small = small_int _ (subst (λ (z : ℤ). in_range z ≡ true) (one_int e) r);
-      leaves = leaves (Ending.Value (Value.Int y) u n) x;
+      leaves = leaves (valued (Value.Int y) u n) x;
     }
     value_so (Value.Float y) u n x z e r = absurd (float_number e)
     value_so (Value.Flag b) u n x z e r = absurd (flag_number e)
     value_so Value.Nothing u n x z e r = absurd (nothing_number e)
     value_so (Value.Cell c) u n x z e r = absurd (cell_number e)
 
-    pays_so : (r : Ending) → Ends r → Pays r
+    pays_so : (r : Ending ℕ) → Ends r → Pays r
     unfolding Pays
-    pays_so (Ending.Value v u n) x = by (ended_so (Ending.Value v u n) x)
+    pays_so r x = go r.end x
       where
-        by : Ended passed (Values.meant v) → Pays (Ending.Value v u n)
-        by (inl e) = value_so v u n x e.1 e.2 e.3
-        by (inr e) = absurd (passed_stop e.1)
-    pays_so (Ending.Stopped y i u n) x = record {
-      printed = (so (Ending.Stopped y i u n) x).printed;
-      runs = runs_to_stop (so (Ending.Stopped y i u n) x).ran refl;
-      small = tt;
-      leaves = leaves (Ending.Stopped y i u n) x;
-    }
+        abbrev whole : Result Value (Located Stop ℕ) → Ending ℕ
+        whole e = record { end = e; units = r.units; printed = r.printed }
 
-    pub ran_so : (r : Ending) (o : Outcome) → Called table work out table' work' out' P j allowance r → o ≡ ended_as r
+        by : (v : Value) → Ends (whole (Ok v)) → Ended passed (Values.meant v) → Pays (whole (Ok v))
+        by v x (inl e) = value_so v r.units r.printed x e.1 e.2 e.3
+        by v x (inr e) = absurd (passed_stop e.1)
+
+        go : (e : Result Value (Located Stop ℕ)) → Ends (whole e) → Pays (whole e)
+        go (Ok v) x = by v x (ended_so (whole (Ok v)) x)
+        go (Err s) x = record {
+          printed = (so (whole (Err s)) x).printed;
+          runs = runs_to_stop (so (whole (Err s)) x).ran refl;
+          small = tt;
+          leaves = leaves (whole (Err s)) x;
+        }
+
+    pub ran_so : (r : Ending ℕ) (o : Outcome) → Called table work out table' work' out' P j allowance r → o ≡ ended_as r
         → Ran ed book (needed (length out) allowance) j P table work out o table' work' out'
     unfolding Pays
     ran_so r o x f = subst (λ (o : Outcome). Ran ed book l j P table work out o table' work' out') (sym f) (pays_so r x)

@@ -1,5 +1,5 @@
 -- What the parts of a feed promise: what is lent to a book that was admitted, and what a line comes to.
-use Rattle.std.specs.Prelude.{List, ◌++◌, ◌≡◌, ℕ, ◌≤◌, length, drop}
+use Rattle.std.specs.Prelude.{List, ◌++◌, ◌≡◌, ℕ, ◌≤◌, length, drop, Result, Ok, Err}
 use Rattle.language.specs.Sizes.{TABLE, WORK, ALLOWANCE}
 use Rattle.language.specs.Answers.{Lent, cleared}
 use Rattle.language.specs.Shift.{Job, Admits}
@@ -7,6 +7,8 @@ use Rattle.language.specs.Shift as Shift
 use Rattle.layout.specs.Table.{zeros}
 use Rattle.layout.specs.declared.Held.{Held}
 use Rattle.layout.specs.declared.values.Value.{Value}
+use Rattle.numbers.specs.declared.Stop.{Stop}
+use Rattle.sheets.specs.declared.Located.{Located}
 use Rattle.grumpy.specs.Calls.{Prepared}
 use Rattle.grumpy.specs.declared.answers.Ending.{Ending}
 use Rattle.tally.specs.Stands.{outcome_meant}
@@ -44,9 +46,12 @@ paid_as (Value.Flag b) = Outcome.Bad
 paid_as Value.Nothing = Outcome.Bad
 paid_as (Value.Cell n) = Outcome.Bad
 
-abbrev pub ended_as : Ending → Outcome
-ended_as (Ending.Value v u n) = paid_as v
-ended_as (Ending.Stopped y i u n) = Outcome.Stopped y
+abbrev pub end_as : Result Value (Located Stop ℕ) → Outcome
+end_as (Ok v) = paid_as v
+end_as (Err s) = Outcome.Stopped s.why
+
+abbrev pub ended_as : Ending ℕ → Outcome
+ended_as e = end_as e.end
 
 -- the table is prepared as before, work memory is as before, and the output has the bytes printed at its front
 pub record Leaves (edition : ℕ) (book : List ℕ) (P : Held) (table work out printed table' work' out' : List ℕ) : Type 0

@@ -5,7 +5,6 @@ ghost use Rattle.language.specs.Sizes.{TABLE};
 ghost use Rattle.shift.specs.Admitting.{Asked, AskedOfText, AskedOfBook, AskedOfRoom};
 
 use crate::{Admission, Why};
-use grumpy::answers::PairChecked;
 use language::{ALLOWANCE, TABLE, WORK};
 use layout::memory;
 use numbers::Refusal;
@@ -18,8 +17,8 @@ fn room(edition: u32, book: &[u8], table: &mut [u32]) -> Admission
     ensures { AskedOfRoom edition book.now table.old result table.new }
 {
     match grumpy::check_pair(edition, book, b"pay(2147483647,2147483647)", table) {
-        PairChecked::Passed(_) => Admission::Granted,
-        PairChecked::Refused(why, spot) => Admission::Refused(Why::Sheet(why), spot),
+        Ok(_) => Admission::Granted,
+        Err(r) => Admission::Refused(Why::Sheet(r.why), r.place),
     }
 }
 
@@ -45,8 +44,8 @@ fn text(edition: u32, book: &[u8], table: &mut [u32]) -> Admission
     ensures { AskedOfText edition book.now table.old result table.new }
 {
     match grumpy::check_pair(edition, book, b"0", table) {
-        PairChecked::Passed(_) => functions(edition, book, table),
-        PairChecked::Refused(why, spot) => Admission::Refused(Why::Sheet(why), spot),
+        Ok(_) => functions(edition, book, table),
+        Err(r) => Admission::Refused(Why::Sheet(r.why), r.place),
     }
 }
 

@@ -29,21 +29,12 @@ fn paid(value: Value) -> Outcome
 }
 
 // What the end of a run is counted as.
-fn ended(ending: Ending) -> Outcome
+fn ended(ending: Ending<u32>) -> Outcome
     ensures { result ≡ ended_as ending }
 {
-    match ending {
-        Ending::Value {
-            value,
-            units: _,
-            printed: _,
-        } => paid(value),
-        Ending::Stopped {
-            why,
-            at: _,
-            units: _,
-            printed: _,
-        } => Outcome::Stopped(why),
+    match ending.end {
+        Ok(value) => paid(value),
+        Err(stop) => Outcome::Stopped(stop.why),
     }
 }
 

@@ -4,17 +4,18 @@ ghost use Rattle.desk.specs.Statuses.{Status};
 use answered::{called, whole};
 use desk::input::Sheet;
 use desk::{Outside, input, rooms};
-use grumpy::answers::{PairProfiled, Profiled};
+use grumpy::answers::Profiled;
 use orders::asked::Asked;
+use pairs::Spot;
 use wording::limits::unlimited;
 
-fn count(edition: u32, sheet: &[u8]) -> Profiled {
+fn count(edition: u32, sheet: &[u8]) -> Profiled<usize> {
     let mut words = rooms::table();
     let table: &mut [u32] = &mut words;
     grumpy::profile(edition, sheet, table)
 }
 
-fn count_pair(edition: u32, sheet: &[u8], call: &[u8]) -> PairProfiled {
+fn count_pair(edition: u32, sheet: &[u8], call: &[u8]) -> Profiled<Spot> {
     let mut words = rooms::table();
     let table: &mut [u32] = &mut words;
     grumpy::profile_pair(edition, sheet, call, table)

@@ -9,18 +9,19 @@ use crate::{profiling, serve};
 use answered::{called, whole};
 use desk::input::Sheet;
 use desk::{Outside, input, rooms};
-use grumpy::answers::PairChecked;
+use grumpy::answers::Checked;
 use language::ALLOWANCE;
 use orders::asked::Asked;
 use orders::tasks::LARGEST;
 use page::Number;
+use pairs::Spot;
 use tally::calls;
 use wording::ends;
 use wording::ends::End;
 use wording::limits::{Limits, unlimited};
 
 // What check answers of a sheet with a call under it.
-fn examine_called(edition: u32, sheet: &[u8], call: &[u8]) -> PairChecked
+fn examine_called(edition: u32, sheet: &[u8], call: &[u8]) -> Checked<Spot>
     ensures { CheckedUnder BOX (pair_in edition sheet.now call.now) TABLE (pair_checked_report result) }
 {
     let mut words = rooms::table();

@@ -21,7 +21,7 @@ use wording::ends::End;
 use wording::limits::{Limits, unlimited};
 
 // What check answers of a whole sheet.
-pub fn examine(edition: u32, source: &[u8]) -> Checked
+pub fn examine(edition: u32, source: &[u8]) -> Checked<usize>
     ensures { CheckedUnder BOX (text_in edition source.now) TABLE (checked_report result) }
 {
     let mut words = rooms::table();
@@ -104,13 +104,13 @@ pub fn wrote(
     ensures { Status result }
 {
     match answer {
-        Wrote::Written(long) => {
+        Ok(long) => {
             let n = input::within(long, out);
             let end = whole::of_check(examine(edition, sheet));
             reports::report(rt, asked, sheet, &out[..n], unlimited(), end)
         }
-        Wrote::Refused(why, place) => {
-            let end = End::Refused(Cause::Refused(why), place);
+        Err(r) => {
+            let end = End::Refused(Cause::Refused(r.why), r.place);
             reports::report(rt, asked, sheet, b"", unlimited(), end)
         }
     }

@@ -56,7 +56,7 @@ fn load(rt: &impl Outside, word: usize, bytes: &mut [u8]) -> Sheet {
 }
 
 // What check answers of a stored sheet.
-fn examine(edition: u32, stored: &[u8]) -> Checked
+fn examine(edition: u32, stored: &[u8]) -> Checked<usize>
     ensures { CheckedUnder BOX (stored_in edition stored.now) TABLE (checked_report result) }
 {
     let mut words = rooms::table();

@@ -4,7 +4,7 @@ use Rattle.grumpy.proofs.check_form.Goals as goal
 pub returns-then-table-lt-TABLE : goal.returns-then-table-lt-TABLE
 returns-then-table-lt-TABLE c =
     let a = c.args in
-    check_is_short a.first.now a.second.now a.form a.edition _ c.if-table-lt-TABLE.true
+    rw c.nowhere.ensures (check_is_short a.first.now a.second.now a.form a.edition _ c.if-table-lt-TABLE.true)
 
 pub returns-in-Passes : goal.returns-in-Passes
 returns-in-Passes c =

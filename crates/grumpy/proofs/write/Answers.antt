@@ -3,7 +3,7 @@ use Rattle.grumpy.proofs.write.Goals as goal
 
 pub returns-then-table-lt-TABLE : goal.returns-then-table-lt-TABLE
 returns-then-table-lt-TABLE c =
-    write_is_short _ _ _ _ c.if-table-lt-TABLE.true
+    rw c.nowhere.ensures (write_is_short _ _ _ _ c.if-table-lt-TABLE.true)
 
 pub returns : goal.returns
 returns c =

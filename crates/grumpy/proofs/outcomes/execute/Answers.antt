@@ -6,8 +6,8 @@ pub overflow_sub-used : goal.overflow_sub-used
 overflow_sub-used c =
     value_left c.run.ensures c.requires _ _ c.in-Value.is
 
-pub overflow_sub-units : goal.overflow_sub-units
-overflow_sub-units c =
+pub overflow_sub-result : goal.overflow_sub-result
+overflow_sub-result c =
     stop_left c.run.ensures c.requires _ _ _ c.in-Stop.is
 
 pub returns-in-Value : goal.returns-in-Value

@@ -4,7 +4,7 @@ use Rattle.grumpy.proofs.profilings.profile_form.Goals as goal
 pub returns-then-table-lt-TABLE : goal.returns-then-table-lt-TABLE
 returns-then-table-lt-TABLE c =
     let a = c.args in
-    profile_is_short a.first.now a.second.now a.form a.edition _ c.if-table-lt-TABLE.true
+    rw c.nowhere.ensures (profile_is_short a.first.now a.second.now a.form a.edition _ c.if-table-lt-TABLE.true)
 
 pub returns : goal.returns
 returns c =

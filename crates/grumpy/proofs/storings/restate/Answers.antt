@@ -7,4 +7,4 @@ returns-in-Written c =
 
 pub returns-in-TooLong : goal.returns-in-TooLong
 returns-in-TooLong c =
-    restated_long _ _ _ _ _ _ c.store.ensures c.in-TooLong.is
+    rw c.nowhere.ensures (restated_long _ _ _ _ _ _ c.store.ensures c.in-TooLong.is)

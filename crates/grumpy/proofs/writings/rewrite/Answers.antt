@@ -7,4 +7,4 @@ returns-in-Written c =
 
 pub returns-in-TooLong : goal.returns-in-TooLong
 returns-in-TooLong c =
-    rewrote_long _ _ _ _ _ _ c.write.ensures c.in-TooLong.is
+    rw c.nowhere.ensures (rewrote_long _ _ _ _ _ _ c.write.ensures c.in-TooLong.is)
