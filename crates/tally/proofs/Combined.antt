@@ -1,9 +1,9 @@
 -- Laws over plain reports that the proofs of `tally::combining` cite.
-use lib.Dec.{leb}
+use lib.Dec.{leb, eqb}
 use lib.IntN.{ℤ, ◌+ℤ◌}
 use lib.ListN.{length, get_or}
 use lib.Signed.{mag}
-use mathlib.Core.Bool.{Bool, true, false}
+use mathlib.Core.Bool.{Bool, true, false, cond}
 use mathlib.Core.List.{List, [], ◌∷◌}
 use mathlib.Core.Path.{◌≡◌, refl, sym, ap, ap₂, ◌∙◌}
 use borrow.Author.Tests.{le-leb, lt-leb, leb-true, eq-eqb, ne_eqb}
@@ -11,6 +11,9 @@ use mir.Syntax.{w64}
 use mir.Val.{SFits, to_z, of_z}
 use native.Mathlib.Omega.{arith}
 use Prim.Native.Nat.{ℕ, ◌+◌, ◌^◌, ◌≤◌, ◌<◌}
+use mathlib.Core.List.{map}
+use Rattle.std.specs.List.{range_with_len, sum_by}
+use Rattle.std.proofs.lemmas.List.FromFn.{fill_by_all}
 use Rattle.language.specs.Sizes.{LINES}
 use Rattle.language.specs.State as State
 use Rattle.language.specs.Combining.{all_stops, paid_lines, payable, possible, either_pay, both, addable}
@@ -23,45 +26,30 @@ use Rattle.tally.specs.Stands.{report_in}
 use Rattle.tally.specs.declared.sums.Sums.{Sums}
 use Rattle.tally.proofs.Laws.{back}
 
--- ---- results that stand for numbers
-
-pub swap_lt : {a b x y : ℕ} → a ≡ x → b ≡ y → a < b → x < y
-swap_lt e f h = omega (arith, e, f)
-
-pub swap_le : {a b x y : ℕ} → a ≡ x → b ≡ y → a ≤ b → x ≤ y
-swap_le e f h = omega (arith, e, f)
-
-pub swap_le_sum : {a b x y n : ℕ} → a ≡ x → b ≡ y → x + y ≤ n → a + b ≤ n
-swap_le_sum e f h = omega (arith, e, f)
-
-pub sizes_back : (x y : ℤ) {n : ℕ} → mag x < 2 ^ 63 → mag y < 2 ^ 63 → mag x + mag y < n → mag (to_z w64 (of_z w64 x)) + mag (to_z w64 (of_z w64 y)) < n
-sizes_back x y h k l = rw (back {z = x} h, back {z = y} k) l
-
 -- ---- nine counts
 
-pub stops_added : (l : List ℕ) {x y z : ℕ} → x ≡ get_or l 0 0 + get_or l 1 0 + get_or l 2 0 → y ≡ get_or l 3 0 + get_or l 4 0 + get_or l 5 0
-    → z ≡ get_or l 6 0 + get_or l 7 0 + get_or l 8 0 → x + y + z ≡ all_stops (counts l)
+-- all of them, by their places
+nine_places : (l : List ℕ) → length l ≡ 9 → l ≡ map (λ i. get_or l i 0) (range_with_len 0 9)
+nine_places l h = fill_by_all (λ i. get_or l i 0) l 9 0 h (λ k q. refl)
+
+pub stops_added : (l : List ℕ) → length l ≡ 9 → sum_by (λ x. x) l ≡ all_stops (counts l)
 unfolding all_stops
-stops_added l ex ey ez = omega (arith, ex, ey, ez)
+stops_added l h = ap (λ (k : List ℕ). sum_by (λ x. x) k) (nine_places l h) ∙ omega arith
 
 -- each is one of all
-pub each_few : (n m : State.Stop → ℕ) → all_stops n + all_stops m ≤ LINES → (w : State.Stop) → n w + m w ≤ LINES
-unfolding all_stops
-each_few n m h State.no_unit = omega arith
-each_few n m h State.too_deep = omega arith
-each_few n m h State.out_of_range = omega arith
-each_few n m h State.zero_divisor = omega arith
-each_few n m h State.cell_freed = omega arith
-each_few n m h State.cells_full = omega arith
-each_few n m h State.not_a_byte = omega arith
-each_few n m h State.output_full = omega arith
-each_few n m h State.zero_step = omega arith
+nine_cases : (f : ℕ → ℕ) (k : ℕ) → k < 9 → f k ≤ f 0 + (f 1 + (f 2 + (f 3 + (f 4 + (f 5 + (f 6 + (f 7 + f 8)))))))
+nine_cases f k h = grind arith
 
-pub nine_told : (a b : List ℕ) {x0 x1 x2 x3 x4 x5 x6 x7 x8 : ℕ} → x0 ≡ get_or a 0 0 + get_or b 0 0 → x1 ≡ get_or a 1 0 + get_or b 1 0
-    → x2 ≡ get_or a 2 0 + get_or b 2 0 → x3 ≡ get_or a 3 0 + get_or b 3 0 → x4 ≡ get_or a 4 0 + get_or b 4 0 → x5 ≡ get_or a 5 0 + get_or b 5 0
-    → x6 ≡ get_or a 6 0 + get_or b 6 0 → x7 ≡ get_or a 7 0 + get_or b 7 0 → x8 ≡ get_or a 8 0 + get_or b 8 0
-    → (x0 ∷ x1 ∷ x2 ∷ x3 ∷ x4 ∷ x5 ∷ x6 ∷ x7 ∷ x8 ∷ []) ≡ nine_both a b
-nine_told a b e0 e1 e2 e3 e4 e5 e6 e7 e8 = λ i. e0 i ∷ e1 i ∷ e2 i ∷ e3 i ∷ e4 i ∷ e5 i ∷ e6 i ∷ e7 i ∷ e8 i ∷ []
+one_of_all : (l : List ℕ) (k : ℕ) → k < 9 → get_or l k 0 ≤ all_stops (counts l)
+unfolding all_stops
+one_of_all l k h = omega (arith, nine_cases (λ (i : ℕ). get_or l i 0) k h)
+
+pub stops_small : (l : List ℕ) → ((k : ℕ) → get_or l k 0 < 4294967296) → all_stops (counts l) < 38654705664
+unfolding all_stops
+stops_small l h = omega (arith, h 0, h 1, h 2, h 3, h 4, h 5, h 6, h 7, h 8)
+
+pub each_few : (a b : List ℕ) (k : ℕ) → all_stops (counts a) + all_stops (counts b) ≤ LINES → k < 9 → get_or a k 0 + get_or b k 0 ≤ LINES
+each_few a b k h l = omega (arith, one_of_all a k l, one_of_all b k l)
 
 nine_each : (a b : List ℕ) (w : State.Stop) → counts (nine_both a b) w ≡ counts a w + counts b w
 nine_each a b State.no_unit = refl
@@ -74,47 +62,9 @@ nine_each a b State.not_a_byte = refl
 nine_each a b State.output_full = refl
 nine_each a b State.zero_step = refl
 
--- ---- what can be a report
-
-module _ (r : Report) where
-  pub long_not : LINES < r.lines → false ≡ possible r
-  unfolding possible
-  long_not h = rw (lt-leb r.lines LINES h)
-
-  module _ (l : r.lines ≤ LINES) where
-    pub others_not : r.lines < not_paid r → false ≡ possible r
-    unfolding possible
-    others_not h = rw (le-leb r.lines LINES l, lt-leb (not_paid r) r.lines h)
-
-    -- the pays are left, read from their bits
-    pub pays_last : not_paid r ≤ r.lines → {n : ℕ} {b : Bool} → n ≡ paid_lines r → mag r.sum < 2 ^ 63 → mag r.least < 2 ^ 63
-        → mag r.largest < 2 ^ 63
-        → b ≡ payable n (to_z w64 (of_z w64 r.sum)) (to_z w64 (of_z w64 r.least)) (to_z w64 (of_z w64 r.largest))
-        → b ≡ possible r
-    unfolding possible
-    pays_last o e x y z t =
-        let f : _ ≡ payable (paid_lines r) r.sum r.least r.largest =
-        t ∙ rw (back {z = r.sum} x, back {z = r.least} y, back {z = r.largest} z, e) in
-        rw (le-leb r.lines LINES l, le-leb (not_paid r) r.lines o) f
-
-    pub paid_few_lines : {n : ℕ} → n ≡ paid_lines r → n ≤ LINES
-    paid_few_lines e = omega (arith, e)
-
 -- ---- two of them
 
 module _ (r q : Report) where
-  pub first_not : possible r ≡ false → false ≡ addable r q
-  unfolding addable
-  first_not h = rw h
-
-  pub second_not : possible r ≡ true → possible q ≡ false → false ≡ addable r q
-  unfolding addable
-  second_not h k = rw (h, k)
-
-  pub lines_last : possible r ≡ true → possible q ≡ true → {x y z : ℕ} → x ≡ r.lines → y ≡ q.lines → z ≡ LINES → leb (x + y) z ≡ addable r q
-  unfolding addable
-  lines_last h k ex ey ez = rw (h, k, ex, ey, ez)
-
   pub record Addable : Type 0 where
     pub first : Possible r
     pub second : Possible q
@@ -148,23 +98,14 @@ module _ (r q : Report) where
 pub sum_fits : (a b : ℤ) → mag a + mag b < 281474976710656 → SFits w64 (a +ℤ b)
 sum_fits a b h = record { sfits = omega (arith, mag_plus a b) }
 
-module _ (f : ℤ → ℤ → ℤ) (n m : ℕ) (y z : ℤ) where
-  pub none_first : n ≡ 0 → z ≡ either_pay f n y m z
-  unfolding either_pay
-  none_first h = rw (eq-eqb n 0 h)
-
-  pub none_second : (n ≡ 0 → ⊥) → m ≡ 0 → y ≡ either_pay f n y m z
-  unfolding either_pay
-  none_second h k = rw (ne_eqb n 0 h, eq-eqb m 0 k)
-
-  pub of_both : (n ≡ 0 → ⊥) → (m ≡ 0 → ⊥) → f y z ≡ either_pay f n y m z
-  unfolding either_pay
-  of_both h k = rw (ne_eqb n 0 h, ne_eqb m 0 k)
-
--- of two numbers read from their bits
-pub pay_picked : (f : ℤ → ℤ → ℤ) (y z : ℤ) {n m p q : ℕ} {r : ℤ} → n ≡ p → m ≡ q → mag y < 2 ^ 63 → mag z < 2 ^ 63
-    → r ≡ either_pay f n (to_z w64 (of_z w64 y)) m (to_z w64 (of_z w64 z)) → r ≡ either_pay f p y q z
-pay_picked f y z en em h k e = e ∙ rw (back {z = y} h, back {z = z} k, en, em)
+-- what is told of two parts, each number read from its bits
+pub pay_picked : (f : ℤ → ℤ → ℤ) (y z : ℤ) {n m p q : ℕ} {x r : ℤ} → n ≡ p → m ≡ q → mag y < 2 ^ 63 → mag z < 2 ^ 63
+    → x ≡ f (to_z w64 (of_z w64 y)) (to_z w64 (of_z w64 z)) → mag x < 2 ^ 63 → mag r < 2 ^ 63
+    → r ≡ cond (eqb n 0) (to_z w64 (of_z w64 z)) (cond (eqb m 0) (to_z w64 (of_z w64 y)) (to_z w64 (of_z w64 x)))
+    → to_z w64 (of_z w64 r) ≡ either_pay f p y q z
+unfolding either_pay
+pay_picked f y z {x = x} {r = r} en em hy hz ex hx hr e =
+    back {z = r} hr ∙ e ∙ rw (back {z = x} hx, ex, back {z = y} hy, back {z = z} hz, en, em)
 
 -- ---- the whole
 

@@ -18,7 +18,7 @@ use Rattle.language.specs.Feeding.{ended_line}
 use Rattle.language.proofs.Text.Choices.{either, outcome}
 use Rattle.language.proofs.Text.Digits.{number_least}
 use Rattle.tally.specs.declared.lines.Part.{Part}
-use Rattle.tally.specs.declared.lines.Job.{Job}
+use Rattle.std.specs.Prelude.{Some, None}
 use Rattle.tally.specs.Stands.{job_meant}
 use Rattle.tally.specs.Parts.{no_part, spoilt, longer, longer_by, job_told}
 use Rattle.tally.proofs.Laws.{spoilt_longer, digit_longer, other_longer, past_longer, loom_digit, picks_digit, picks_over, rate_digit, rate_over}
@@ -73,7 +73,7 @@ last_told p ok =
     rw (ok, empty_slice (4 - p.at) (12 - p.at), empty_slice (12 - p.at) (20 - p.at), z)
     (by_tests (eqb p.at 20) (leb p.picks LARGEST) (leb p.rate LARGEST))
   where
-    by_tests : (a b c : Bool) → job_meant (cond a (cond b (cond c (Job.Good p.picks p.rate) Job.Bad) Job.Bad) Job.Bad)
+    by_tests : (a b c : Bool) → job_meant (cond a (cond b (cond c (Some record { picks = p.picks; rate = p.rate }) None) None) None)
         ≡ cond (a && (true && (b && c))) (some record { picks = p.picks; rate = p.rate }) none
     by_tests true true true = refl
     by_tests true true false = refl

@@ -21,8 +21,8 @@ use Rattle.language.proofs.Text.Classes.{worth_digit, worth_large}
 use Rattle.language.proofs.Text.Choices.{either, clash}
 use Rattle.language.proofs.Shift.Totals.{mag_plus}
 use Rattle.tally.specs.declared.lines.Part.{Part}
-use Rattle.tally.specs.declared.lines.Job.{Job}
-use Rattle.tally.specs.Parts.{spoilt, with_digit, longer, is_begun, job_told}
+use Rattle.std.specs.Prelude.{Some, None}
+use Rattle.tally.specs.Parts.{spoilt, with_digit, digit_told, longer}
 use Rattle.language.specs.Shift.{lesser, greater}
 use lib.ListN.{get_or, set}
 use Rattle.numbers.specs.declared.Stop.{Stop}
@@ -35,10 +35,6 @@ module _ (b : ℕ) where
   pub hex_low : b < 48 → is_capital_hex b ≡ false
   unfolding is_capital_hex is_digit between
   hex_low h = rw (lt-leb 48 b h, lt-leb 65 b (omega arith))
-
-  pub hex_digit : 48 ≤ b → b ≤ 57 → is_capital_hex b ≡ true
-  unfolding is_capital_hex is_digit between
-  hex_digit h k = rw (le-leb 48 b h, le-leb b 57 k)
 
   pub hex_gap : 57 < b → b < 65 → is_capital_hex b ≡ false
   unfolding is_capital_hex is_digit between
@@ -58,11 +54,6 @@ module _ (b : ℕ) where
       by_low (no h) (no k) (no l) (yes m) = (omega (arith, h), m, λ n. omega (arith, l))
       by_low (no h) (no k) (no l) (no m) =
           absurd (clash e (sym (hex_last (omega (arith, k)) (omega (arith, l))) ∙ lt-leb b 70 (omega (arith, m))))
-
-  pub hex_worth : is_capital_hex b ≡ true → worth b < 16
-  hex_worth e =
-      let h = hex_bounds e in
-      ⊎_elim (λ k. omega (arith, worth_large b k h.1, h.2 k)) (λ k. omega (arith, worth_digit b k)) (either 57 b)
 
 -- ---- a line
 
@@ -106,46 +97,11 @@ module _ (p : Part) where
   unfolding with_digit
   rate_over d h l = rw (le-ltb p.at 4 (omega arith), le-ltb p.at 12 h, lt-leb p.rate LARGEST l)
 
-  -- ---- what is told of it
-
-  pub begun_bad : p.bad ≡ true → true ≡ is_begun p
-  unfolding is_begun
-  begun_bad e = rw e
-
-  pub begun_at : p.bad ≡ false → ltb 0 p.at ≡ is_begun p
-  unfolding is_begun
-  begun_at e = rw e
-
-  pub job_bad : p.bad ≡ true → Job.Bad ≡ job_told p
-  unfolding job_told
-  job_bad e = rw e
-
-  module _ (ok : p.bad ≡ false) where
-    pub job_short : (p.at ≡ 20 → ⊥) → Job.Bad ≡ job_told p
-    unfolding job_told
-    job_short h = rw (ok, ne_eqb p.at 20 h)
-
-    pub job_picks : p.at ≡ 20 → LARGEST < p.picks → Job.Bad ≡ job_told p
-    unfolding job_told
-    job_picks h k = rw (ok, eq-eqb p.at 20 h, lt-leb p.picks LARGEST k)
-
-    pub job_rate : p.at ≡ 20 → p.picks ≤ LARGEST → LARGEST < p.rate → Job.Bad ≡ job_told p
-    unfolding job_told
-    job_rate h k l = rw (ok, eq-eqb p.at 20 h, le-leb p.picks LARGEST k, lt-leb p.rate LARGEST l)
-
-    pub job_good : p.at ≡ 20 → p.picks ≤ LARGEST → p.rate ≤ LARGEST → Job.Good p.picks p.rate ≡ job_told p
-    unfolding job_told
-    job_good h k l = rw (ok, eq-eqb p.at 20 h, le-leb p.picks LARGEST k, le-leb p.rate LARGEST l)
-
 -- ---- counts and sums
 
 pub counted_more : (n : ℕ) → n < LINES → n + 1 ≡ counted n
 unfolding counted
 counted_more n h = rw (lt-ltb n LINES h)
-
-pub counted_full : (n : ℕ) → LINES ≤ n → n ≡ counted n
-unfolding counted
-counted_full n h = rw (le-ltb n LINES h)
 
 -- a stop's number is one of nine
 pub stop_least : (s : State.Stop) → 50 ≤ stop_number s
@@ -171,24 +127,9 @@ stop_most State.output_full = omega arith
 stop_most State.zero_step = omega arith
 
 module _ (a b : ℤ) where
-  pub high_summed : lt_z HIGH a ≡ true → a ≡ summed a b
-  unfolding summed
-  high_summed e = rw e
-
-  pub low_summed : lt_z HIGH a ≡ false → lt_z a LOW ≡ true → a ≡ summed a b
-  unfolding summed
-  low_summed e f = rw (e, f)
-
   pub plus_summed : lt_z HIGH a ≡ false → lt_z a LOW ≡ false → a +ℤ b ≡ summed a b
   unfolding summed
   plus_summed e f = rw (e, f)
-
-between_mag : (a : ℤ) → lt_z HIGH a ≡ false → lt_z a LOW ≡ false → mag a ≤ 140737488355328
-between_mag (pos n) e f = ltb-false 140737488355328 n e
-between_mag (negsuc n) e f = ltb-false 140737488355328 n f
-
-pub plus_fits : (a b : ℤ) → lt_z HIGH a ≡ false → lt_z a LOW ≡ false → mag b < 2147483648 → SFits w64 (a +ℤ b)
-plus_fits a b e f h = record { sfits = omega (arith, mag_plus a b, between_mag a e f) }
 
 -- ---- sums, field by field
 
@@ -199,13 +140,6 @@ back h = to_z-of_z {w = w64} (record { sfits = h })
 -- what an operation makes of a field and a pay, each read from its bits
 pub picked : (op : ℤ → ℤ → ℤ) (x z : ℤ) {r : ℤ} → mag x < 2 ^ 63 → SFits w64 z → r ≡ op (to_z w64 (of_z w64 x)) (to_z w64 (of_z w64 z)) → r ≡ op x z
 picked op x z hx hz e = e ∙ rw (back hx, to_z-of_z {w = w64} hz)
-
--- an int is one in 64 bits
-pub small_fits : (z : ℤ) → mag z < 2147483648 → mag z < 2 ^ 63
-small_fits z h = omega arith
-
-pub small_back : (z : ℤ) → mag z < 2147483648 → mag (to_z w64 (of_z w64 z)) < 2147483648
-small_back z h = rw (back (small_fits z h)) h
 
 module _ (s : Sums) (z : ℤ) (n m : ℕ) (t l g : ℤ) (en : n ≡ counted s.lines) (em : m ≡ counted s.paid) (et : t ≡ summed s.sum z) where
   abbrev told : Sums

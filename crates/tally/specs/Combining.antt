@@ -1,5 +1,6 @@
 -- The reports of two parts in the code's numbers: what is added to what.
-use Rattle.std.specs.Prelude.{length, get_or, List, [], ◌∷◌, ◌≡◌, ℕ, ◌+◌}
+use Rattle.std.specs.Prelude.{length, get_or, map, List, ◌≡◌, ℕ, ◌+◌}
+use Rattle.std.specs.List.{range_with_len}
 use Rattle.language.specs.Combining.{all_stops, paid_lines, both}
 use Rattle.language.specs.Shift.{Report}
 use Rattle.language.specs.State as State
@@ -10,18 +11,9 @@ use Rattle.tally.specs.declared.sums.Sums.{Sums}
 abbrev pub counts : List ℕ → State.Stop → ℕ
 counts l w = get_or l (stop_at w) 0
 
+-- place by place
 abbrev pub nine_both : List ℕ → List ℕ → List ℕ
-nine_both a b =
-    (get_or a 0 0 + get_or b 0 0)
-    ∷ (get_or a 1 0 + get_or b 1 0)
-    ∷ (get_or a 2 0 + get_or b 2 0)
-    ∷ (get_or a 3 0 + get_or b 3 0)
-    ∷ (get_or a 4 0 + get_or b 4 0)
-    ∷ (get_or a 5 0 + get_or b 5 0)
-    ∷ (get_or a 6 0 + get_or b 6 0)
-    ∷ (get_or a 7 0 + get_or b 7 0)
-    ∷ (get_or a 8 0 + get_or b 8 0)
-    ∷ []
+nine_both a b = map (λ i. get_or a i 0 + get_or b i 0) (range_with_len 0 9)
 
 -- lines that were bad or stopped
 abbrev pub not_paid : Report → ℕ

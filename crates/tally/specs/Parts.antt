@@ -1,6 +1,6 @@
 -- A line of a shift, byte by byte: what is kept of it. Vocabulary for contracts; that it tells the written job of the
 -- line is shown in proofs/.
-use Rattle.std.specs.Prelude.{Bool, true, false, cond, List, [], ◌∷◌, ℕ, ◌+◌, ◌*◌, eqb, leb, ltb}
+use Rattle.std.specs.Prelude.{Bool, true, false, cond, List, [], ◌∷◌, ℕ, ◌+◌, ◌*◌, eqb, leb, ltb, Option, Some, None}
 use Rattle.language.specs.Sizes.{LARGEST}
 use Rattle.language.specs.Text.{worth}
 use Rattle.language.specs.Shift.{is_capital_hex}
@@ -29,6 +29,10 @@ with_digit p d =
     (cond (ltb p.at 12) (cond (leb p.picks LARGEST) (with_picks p d) (spoilt p))
     (cond (leb p.rate LARGEST) (with_rate p d) (spoilt p)))
 
+-- what a byte tells: what it is worth, if it is a digit
+unfoldable pub digit_told : ℕ → Option ℕ
+digit_told b = cond (is_capital_hex b) (Some (worth b)) None
+
 unfoldable pub longer : Part → ℕ → Part
 longer p b =
     cond p.bad p
@@ -42,9 +46,9 @@ longer_by p (b ∷ bytes) = longer_by (longer p b) bytes
 unfoldable pub is_begun : Part → Bool
 is_begun p = cond p.bad true (ltb 0 p.at)
 
-unfoldable pub job_told : Part → Job
+unfoldable pub job_told : Part → Option Job
 job_told p =
-    cond p.bad Job.Bad
+    cond p.bad None
     (cond (eqb p.at 20)
     (cond (leb p.picks LARGEST)
-    (cond (leb p.rate LARGEST) (Job.Good p.picks p.rate) Job.Bad) Job.Bad) Job.Bad)
+    (cond (leb p.rate LARGEST) (Some record { picks = p.picks; rate = p.rate }) None) None) None)

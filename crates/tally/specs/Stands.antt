@@ -1,6 +1,7 @@
 -- What is kept of the lines so far, as the numbers of the written report of what they came to (R14.6); and what the
 -- code's outcomes and jobs mean.
-use Rattle.std.specs.Prelude.{length, get_or, List, ◌≡◌, ℕ, ◌-◌}
+use Rattle.std.specs.Prelude as Prelude
+use Rattle.std.specs.Prelude.{length, get_or, List, ◌≡◌, ℕ, ◌-◌, Some, None}
 use Rattle.std.proofs.Math.Option.{Option, none, some}
 use Rattle.language.specs.Numbers.{stop_number}
 use Rattle.language.specs.State as State
@@ -12,9 +13,9 @@ use Rattle.tally.specs.declared.sums.Sums.{Sums}
 use Rattle.tally.specs.declared.sums.Outcome.{Outcome}
 
 -- what the code's job is
-abbrev pub job_meant : Job → Option Shift.Job
-job_meant (Job.Good p r) = some record { picks = p; rate = r }
-job_meant Job.Bad = none
+abbrev pub job_meant : Prelude.Option Job → Option Shift.Job
+job_meant (Some j) = some record { picks = j.picks; rate = j.rate }
+job_meant None = none
 
 -- what the code's outcome is
 abbrev pub outcome_meant : Outcome → Shift.Outcome

@@ -1,8 +1,6 @@
 // A line of a shift, byte by byte: a loom in four digits, then picks and rate in eight each.
 ghost use Rattle.std.specs.Prelude.{true, ◌≡◌, ◌<◌};
-ghost use Rattle.language.specs.Shift.{is_capital_hex};
-ghost use Rattle.language.specs.Text as Text;
-ghost use Rattle.tally.specs.Parts.{no_part, spoilt, with_digit, longer, is_begun, job_told};
+ghost use Rattle.tally.specs.Parts.{no_part, spoilt, with_digit, longer, is_begun, digit_told, job_told};
 
 use language::LARGEST;
 
@@ -15,11 +13,11 @@ pub struct Part {
     pub bad: bool,
 }
 
-// What a line asks to be paid.
+// What a good line asks to be paid.
 #[derive(Clone, Copy)]
-pub enum Job {
-    Good { picks: u32, rate: u32 },
-    Bad,
+pub struct Job {
+    pub picks: u32,
+    pub rate: u32,
 }
 
 pub fn none() -> Part
@@ -33,111 +31,80 @@ pub fn none() -> Part
     }
 }
 
-fn is_hex(b: u8) -> bool
-    ensures { result ≡ is_capital_hex b }
+// What a byte is worth that is a hexadecimal digit in capitals.
+#[tactic(auto, unfolding(crate::specs::Parts::digit_told, language::specs::Shift::is_capital_hex, language::specs::Text::is_digit, language::specs::Text::between, language::specs::Text::worth))]
+fn worth(b: u8) -> Option<u8>
+    ensures { result ≡ digit_told b }
 {
-    if b < b'0' {
-        return false;
+    match b {
+        b'0'..=b'9' => Some(b - b'0'),
+        b'A'..=b'F' => Some(b - b'A' + 10),
+        _ => None,
     }
-    if b <= b'9' {
-        return true;
-    }
-    if b < b'A' {
-        return false;
-    }
-    b <= b'F'
-}
-
-fn worth(b: u8) -> u64
-    requires { is_capital_hex b ≡ true }
-    ensures { result ≡ Text.worth b }
-{
-    if b <= b'9' {
-        return (b - b'0') as u64;
-    }
-    (b - 55) as u64
 }
 
 // A line that is bad stays so.
 fn spoil(p: Part) -> Part
     ensures { result ≡ spoilt p }
 {
-    let mut n = p;
-    n.bad = true;
-    n
+    Part { bad: true, ..p }
 }
 
 // One digit more; a number that is above the largest is so with every digit that follows.
-fn digit(p: Part, d: u64) -> Part
-    requires { (p.at < 20) × (d < 16) }
+#[tactic(auto, unfolding(crate::specs::Parts::with_digit))]
+fn digit(p: Part, d: u8) -> Part
+    requires { p.at < 20 }
     ensures { result ≡ with_digit p d }
 {
-    let mut n = p;
-    if p.at < 4 {
-        n.at = p.at + 1;
-        return n;
+    let at = p.at + 1;
+    match p.at {
+        0..4 => Part { at, ..p },
+        4..12 if p.picks <= LARGEST => Part {
+            at,
+            picks: p.picks * 16 + u64::from(d),
+            ..p
+        },
+        12.. if p.rate <= LARGEST => Part {
+            at,
+            rate: p.rate * 16 + u64::from(d),
+            ..p
+        },
+        _ => spoil(p),
     }
-    if p.at < 12 {
-        if p.picks <= LARGEST {
-            n.at = p.at + 1;
-            n.picks = p.picks * 16 + d;
-            return n;
-        }
-        return spoil(p);
-    }
-    if p.rate <= LARGEST {
-        n.at = p.at + 1;
-        n.rate = p.rate * 16 + d;
-        return n;
-    }
-    spoil(p)
 }
 
 // One byte more of a line.
+#[tactic(auto, unfolding(crate::specs::Parts::longer, crate::specs::Parts::digit_told))]
 pub fn more(p: Part, b: u8) -> Part
     ensures { result ≡ longer p b }
 {
     if p.bad {
         return p;
     }
-    if 20 <= p.at {
-        return spoil(p);
+    match worth(b) {
+        Some(d) if p.at < 20 => digit(p, d),
+        _ => spoil(p),
     }
-    if is_hex(b) {
-        return digit(p, worth(b));
-    }
-    spoil(p)
 }
 
 // There was a byte of it.
+#[tactic(auto, unfolding(crate::specs::Parts::is_begun))]
 pub fn begun(p: Part) -> bool
     ensures { result ≡ is_begun p }
 {
-    if p.bad {
-        return true;
-    }
-    0 < p.at
+    p.bad || 0 < p.at
 }
 
-// The job of a line that has ended.
-pub fn ended(p: Part) -> Job
+// The job of a line that has ended; a bad one has none.
+#[tactic(auto, unfolding(crate::specs::Parts::job_told))]
+pub fn ended(p: Part) -> Option<Job>
     ensures { result ≡ job_told p }
 {
-    if p.bad {
-        return Job::Bad;
+    if p.bad || p.at != 20 || LARGEST < p.picks || LARGEST < p.rate {
+        return None;
     }
-    let at = p.at;
-    let picks = p.picks;
-    let rate = p.rate;
-    if at == 20 {
-        if picks <= LARGEST {
-            if rate <= LARGEST {
-                return Job::Good {
-                    picks: picks as u32,
-                    rate: rate as u32,
-                };
-            }
-        }
-    }
-    Job::Bad
+    Some(Job {
+        picks: p.picks as u32,
+        rate: p.rate as u32,
+    })
 }

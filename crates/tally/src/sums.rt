@@ -1,6 +1,5 @@
 // What the lines so far add up to.
 ghost use Rattle.std.specs.Prelude.{◌≡◌, ◌<◌};
-ghost use Rattle.language.specs.Shift.{lesser, greater};
 ghost use Rattle.std.specs.Int.Signed.{mag};
 ghost use Rattle.tally.specs.Sums.{no_sums, stop_index, counted, summed, with_bad, with_stop, with_pay, Small};
 ghost use Rattle.tally.specs.Sums.{added};
@@ -51,6 +50,7 @@ pub fn none() -> Sums
 }
 
 // One more, as long as there may be one.
+#[tactic(auto, unfolding(crate::specs::Sums::counted))]
 fn one_more(n: u32) -> u32
     ensures { result ≡ counted n }
 {
@@ -61,80 +61,65 @@ fn one_more(n: u32) -> u32
 fn index(why: Stop) -> usize
     ensures { (result ≡ stop_index why) × (result < 9) }
 {
-    let number = numbers::of_stop(why);
-    (number - 50) as usize
+    numbers::of_stop(why) as usize - 50
 }
 
 // How many lines came to this stop.
 pub fn stopped(sums: Sums, why: Stop) -> u32
     ensures { result ≡ (report_in sums).stops (stop_meant why) }
 {
-    let i = index(why);
-    let stops = sums.stops;
-    stops[i]
+    sums.stops[index(why)]
 }
 
 // The sum of two that are not too large; what no shift can come to is left as it is.
+#[tactic(auto, using(std::proofs::lemmas::Int::ints), unfolding(crate::specs::Sums::summed))]
 fn plus(a: i64, b: i64) -> i64
     requires { mag b < 2147483648 }
     ensures { result ≡ summed a b }
 {
-    if HIGH < a {
-        return a;
-    }
-    if a < LOW {
-        return a;
-    }
-    a + b
-}
-
-pub fn lesser_of(a: i64, b: i64) -> i64
-    ensures { result ≡ lesser a b }
-{
-    if b < a { b } else { a }
-}
-
-pub fn greater_of(a: i64, b: i64) -> i64
-    ensures { result ≡ greater a b }
-{
-    if a < b { b } else { a }
+    if HIGH < a || a < LOW { a } else { a + b }
 }
 
 fn add_bad(s: Sums) -> Sums
     ensures { result ≡ with_bad s }
 {
-    let mut n = s;
-    n.lines = one_more(s.lines);
-    n.bad = one_more(s.bad);
-    n
+    Sums {
+        lines: one_more(s.lines),
+        bad: one_more(s.bad),
+        ..s
+    }
 }
 
 fn add_stop(s: Sums, why: Stop) -> Sums
     ensures { result ≡ with_stop s why }
 {
-    let mut n = s;
+    let mut stops = s.stops;
     let i = index(why);
-    n.lines = one_more(s.lines);
-    n.stops[i] = one_more(s.stops[i]);
-    n
+    stops[i] = one_more(stops[i]);
+    Sums {
+        lines: one_more(s.lines),
+        stops,
+        ..s
+    }
 }
 
 fn add_pay(s: Sums, pay: i64) -> Sums
     requires { mag pay < 2147483648 }
     ensures { result ≡ with_pay s pay }
 {
-    let mut n = s;
-    n.lines = one_more(s.lines);
-    n.paid = one_more(s.paid);
-    n.sum = plus(s.sum, pay);
-    if s.paid == 0 {
-        n.least = pay;
-        n.largest = pay;
-        return n;
+    let (least, largest) = if s.paid == 0 {
+        (pay, pay)
+    } else {
+        (s.least.min(pay), pay.max(s.largest))
+    };
+    Sums {
+        lines: one_more(s.lines),
+        paid: one_more(s.paid),
+        sum: plus(s.sum, pay),
+        least,
+        largest,
+        ..s
     }
-    n.least = lesser_of(s.least, pay);
-    n.largest = greater_of(s.largest, pay);
-    n
 }
 
 // One outcome more.

@@ -3,5 +3,5 @@ use Rattle.tally.proofs.calls.call.Goals as goal
 
 pub returns : goal.returns
 returns c =
-    whole _ _ _ _ _ (record { picks = c.args.picks; rate = c.args.rate }) c.opened.ensures
-    c.decimal-a.ensures c.put-b.ensures c.decimal-c.ensures c.put.ensures
+    whole (record { picks = c.args.picks; rate = c.args.rate }) c.opened-text.ensures c.decimal.ensures c.put.ensures
+    c.decimal-2.ensures c.put-2.ensures

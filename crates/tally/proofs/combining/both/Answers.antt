@@ -1,38 +1,31 @@
 use native.Mathlib.Omega.{arith}
-use mathlib.Core.Path.{◌∙◌}
+use mathlib.Core.Path.{refl}
 use mir.Facts.{to_z-of_z}
 use mir.Syntax.{w64}
-use mir.Val.{SFits}
-use lib.IntN.{◌+ℤ◌}
 use Rattle.language.specs.Shift.{lesser, greater}
 use Rattle.tally.specs.Stands.{report_in}
-use Rattle.tally.proofs.Laws.{picked}
-use Rattle.tally.proofs.Combined.{stops_few, lines_few, bad_few, paid_few, sum_few, swap_le_sum, sizes_back, pay_picked, all_joined}
-use borrow.Author.Rules.{rules}
+use Rattle.tally.proofs.Laws.{back}
+use Rattle.tally.proofs.Combined.{stops_few, lines_few, bad_few, paid_few, sum_few, sum_fits, pay_picked, all_joined}
 use Rattle.tally.proofs.combining.both.Goals as goal
 
-pub counted-stops-requires : goal.counted-stops-requires
-counted-stops-requires c =
-    stops_few (report_in c.args.a) (report_in c.args.b) c.requires
+pub overflow_add-result : goal.overflow_add-result
+overflow_add-result c = omega (arith, lines_few (report_in c.args.a) (report_in c.args.b) c.requires)
 
-pub count-requires : goal.count-requires
-count-requires c =
-    lines_few (report_in c.args.a) (report_in c.args.b) c.requires
+pub overflow_add-result-2 : goal.overflow_add-result-2
+overflow_add-result-2 c = omega (arith, bad_few (report_in c.args.a) (report_in c.args.b) c.requires)
 
-pub count-requires-2 : goal.count-requires-2
-count-requires-2 c =
-    bad_few (report_in c.args.a) (report_in c.args.b) c.requires
+pub counted-requires : goal.counted-requires
+counted-requires c = stops_few (report_in c.args.a) (report_in c.args.b) c.requires
 
-pub count-requires-3 : goal.count-requires-3
-count-requires-3 c =
-    swap_le_sum c.paid-n.ensures c.paid-m.ensures (paid_few (report_in c.args.a) (report_in c.args.b) c.requires)
+pub overflow_add-result-3 : goal.overflow_add-result-3
+overflow_add-result-3 c = omega (arith, paid_few (report_in c.args.a) (report_in c.args.b) c.requires)
 
-pub sum-requires : goal.sum-requires
-sum-requires c =
+pub overflow_add-result-4 : goal.overflow_add-result-4
+overflow_add-result-4 c =
     let a = c.args.a in
     let b = c.args.b in
-    sizes_back a.sum b.sum (omega arith) (omega arith)
-    (sum_few (report_in a) (report_in b) c.requires)
+    rw (back {z = a.sum} (omega arith), back {z = b.sum} (omega arith))
+    (sum_fits a.sum b.sum (sum_few (report_in a) (report_in b) c.requires))
 
 pub returns : goal.returns
 returns c =
@@ -40,23 +33,8 @@ returns c =
     let b = c.args.b in
     let n = c.paid-n.ensures in
     let m = c.paid-m.ensures in
-    let fits_sum : SFits w64 c.sum.result = search rules in
-    let fits_least : SFits w64 c.least.result = search rules in
-    let fits_largest : SFits w64 c.largest.result = search rules in
-    let s =
-    to_z-of_z {w = w64} fits_sum
-    ∙ picked ◌+ℤ◌ a.sum b.sum (omega arith)
-    (record { sfits = omega arith }) c.sum.ensures
-    in
-    let l =
-    to_z-of_z {w = w64} fits_least
-    ∙ pay_picked lesser a.least b.least n m (omega arith)
-    (omega arith) c.least.ensures
-    in
-    let g =
-    to_z-of_z {w = w64} fits_largest
-    ∙ pay_picked greater a.largest b.largest n m (omega arith)
-    (omega arith) c.largest.ensures
-    in
-    all_joined a b c.requires _ _ _ _ _ _ _ c.count.ensures c.count-2.ensures c.counted-stops.ensures
-    c.count-3.ensures n m s l g
+    let fits = sum_fits a.sum b.sum (sum_few (report_in a) (report_in b) c.requires) in
+    all_joined a b c.requires _ _ _ _ _ _ _ refl refl c.counted.ensures refl n m
+    (rw (back {z = a.sum} (omega arith), back {z = b.sum} (omega arith)) (to_z-of_z {w = w64} fits))
+    (pay_picked lesser a.least b.least n m (omega arith) (omega arith) c.min.ensures.value c.min.type_inv c.either.type_inv c.either.ensures)
+    (pay_picked greater a.largest b.largest n m (omega arith) (omega arith) c.max.ensures.value c.max.type_inv c.either-2.type_inv c.either-2.ensures)

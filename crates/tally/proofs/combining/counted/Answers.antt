@@ -1,40 +1,14 @@
-use Rattle.language.specs.State as State
-use Rattle.tally.specs.Combining.{counts}
+use Rattle.std.proofs.Common.{◌+◌, get_or, arith, ℕ}
+use Rattle.std.proofs.lemmas.List.FromFn.{fill_by_all}
 use Rattle.tally.proofs.Combined.{each_few}
 use Rattle.tally.proofs.combining.counted.Goals as goal
 
-pub count-requires : goal.count-requires
-count-requires c =
-    each_few (counts c.args.a) (counts c.args.b) c.requires State.no_unit
+pub overflow_add-both : goal.overflow_add-both
+overflow_add-both c =
+    omega (arith, each_few c.args.a c.args.b c.loop-i.i c.requires (omega arith), c.loop-i.invariant.left c.loop-i.i (omega arith))
 
-pub count-requires-2 : goal.count-requires-2
-count-requires-2 c =
-    each_few (counts c.args.a) (counts c.args.b) c.requires State.too_deep
-
-pub count-requires-3 : goal.count-requires-3
-count-requires-3 c =
-    each_few (counts c.args.a) (counts c.args.b) c.requires State.out_of_range
-
-pub count-requires-4 : goal.count-requires-4
-count-requires-4 c =
-    each_few (counts c.args.a) (counts c.args.b) c.requires State.zero_divisor
-
-pub count-requires-5 : goal.count-requires-5
-count-requires-5 c =
-    each_few (counts c.args.a) (counts c.args.b) c.requires State.cell_freed
-
-pub count-requires-6 : goal.count-requires-6
-count-requires-6 c =
-    each_few (counts c.args.a) (counts c.args.b) c.requires State.cells_full
-
-pub count-requires-7 : goal.count-requires-7
-count-requires-7 c =
-    each_few (counts c.args.a) (counts c.args.b) c.requires State.not_a_byte
-
-pub count-requires-8 : goal.count-requires-8
-count-requires-8 c =
-    each_few (counts c.args.a) (counts c.args.b) c.requires State.output_full
-
-pub count-requires-9 : goal.count-requires-9
-count-requires-9 c =
-    each_few (counts c.args.a) (counts c.args.b) c.requires State.zero_step
+pub returns : goal.returns
+returns c =
+    let a = c.args.a in
+    let b = c.args.b in
+    fill_by_all (λ (i : ℕ). get_or a i 0 + get_or b i 0) c.loop-i.both 9 0 c.loop-i.invariant.long (λ k h. c.loop-i.invariant.added k (omega arith))

@@ -1,4 +1,4 @@
-use Rattle.tally.proofs.calls.+decimal.Given as goal
+use Rattle.tally.proofs.calls.Text.+decimal.Given as goal
 
 abbrev pub decreases-decimal : goal.decreases-decimal
 decreases-decimal l = l.n
