@@ -1,14 +1,13 @@
 -- What a word means by itself: the rows of commands, and those of options.
-use Rattle.std.specs.Prelude.{Bool, true, false, cond, List, ◌≡◌, eqb, ltb, length, get_or, ℕ}
-use Prim.Native.Char.{code}
+use Rattle.std.specs.Prelude.{Bool, true, false, List, ◌≡◌, eqb, ℕ}
+use Rattle.std.specs.List.{starts_with}
 use Rattle.language.specs.Tokens.{spell}
 use Rattle.orders.specs.declared.asked.Task.{Task}
 use Rattle.orders.specs.declared.asked.Word.{Word}
 
 -- it begins with two dashes
-unfoldable pub looks_optional : List ℕ → Bool
-looks_optional t =
-    cond (ltb (length t) 2) false (cond (eqb (get_or t 0 0) (code "-")) (eqb (get_or t 1 0) (code "-")) false)
+abbrev pub looks_optional : List ℕ → Bool
+looks_optional t = starts_with eqb t (spell "--")
 
 abbrev Not : (w : List ℕ) → (row : List ℕ) → Type 0
 Not w row = w ≡ row → ⊥

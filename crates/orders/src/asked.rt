@@ -2,8 +2,7 @@
 // `meanings`; any other is taken in its turn, as the sheet or as one of the two words that may follow it. A
 // new command is a task, its row in `meanings` and its row in `tasks::fits`.
 ghost use Rattle.std.specs.Prelude.{◌≡◌};
-ghost use Rattle.orders.specs.Asked.{unasked, with_task, with_turn, with_report};
-ghost use Rattle.orders.specs.Asked.{with_edition, with_strange, with_plain, first_word, with_command};
+ghost use Rattle.orders.specs.Asked.{unasked, with_strange, with_plain, with_command};
 ghost use Rattle.orders.specs.Asked.{with_whole, with_combine, with_word, in_turn};
 
 // What is to be done.
@@ -52,239 +51,172 @@ pub enum Turn {
     Plain,
 }
 
-// How many plain words there are.
-#[derive(Clone, Copy)]
-pub enum Count {
-    None,
-    One,
-    Two,
-    Three,
-    More,
-}
-
-// What the words so far ask for. A word is kept by its number; 0 is the program's name, and so no word.
+// What the words so far ask for. A word is kept by its number.
 #[derive(Clone, Copy)]
 pub struct Asked {
     pub task: Task,
     pub turn: Turn,
-    // The plain words: how many, and which are the first three.
-    pub plain: Count,
-    pub sheet: usize,
-    pub second: usize,
-    pub third: usize,
+    // The plain words: how many there are, and which are the first three.
+    pub plain: usize,
+    pub sheet: Option<usize>,
+    pub second: Option<usize>,
+    pub third: Option<usize>,
     // The report's file.
-    pub report: usize,
+    pub report: Option<usize>,
     // The number of the edition.
-    pub edition: usize,
+    pub edition: Option<usize>,
     // The last word that looks like an option and is none here.
-    pub strange: usize,
+    pub strange: Option<usize>,
 }
 
-// What all the words ask for: a task; a file's name or an edition is missing; there are too many words or too few.
+// Why the words ask for no task: a file's name or an edition is missing; there are too many plain words or too few.
 #[derive(Clone, Copy)]
-pub enum Wanted {
-    Do(Task),
+pub enum Unclear {
     NoName,
     NoEdition,
-    Unclear,
+    Words,
 }
 
-pub fn nothing() -> Asked
-    ensures { result ≡ unasked }
-{
-    Asked {
-        task: Task::Pay,
-        turn: Turn::Meaning,
-        plain: Count::None,
-        sheet: 0,
-        second: 0,
-        third: 0,
-        report: 0,
-        edition: 0,
-        strange: 0,
+impl Asked {
+    pub fn nothing() -> Asked
+        ensures { result ≡ unasked }
+    {
+        Asked {
+            task: Task::Pay,
+            turn: Turn::Meaning,
+            plain: 0,
+            sheet: None,
+            second: None,
+            third: None,
+            report: None,
+            edition: None,
+            strange: None,
+        }
     }
-}
 
-fn tasked(asked: Asked, task: Task) -> Asked
-    ensures { result ≡ with_task asked task }
-{
-    Asked { task, ..asked }
-}
-
-fn turned(asked: Asked, turn: Turn) -> Asked
-    ensures { result ≡ with_turn asked turn }
-{
-    Asked { turn, ..asked }
-}
-
-// A word that names the report's file.
-fn named(asked: Asked, i: usize) -> Asked
-    ensures { result ≡ with_report asked i }
-{
-    Asked {
-        report: i,
-        turn: Turn::Meaning,
-        ..asked
+    // A word that looks like an option and is none here.
+    pub fn unknown(self, i: usize) -> Asked
+        ensures { result ≡ with_strange self i }
+    {
+        Asked {
+            strange: Some(i),
+            ..self
+        }
     }
-}
 
-// A word that says the edition.
-fn in_edition(asked: Asked, i: usize) -> Asked
-    ensures { result ≡ with_edition asked i }
-{
-    Asked {
-        edition: i,
-        turn: Turn::Meaning,
-        ..asked
+    // A word that means nothing by itself.
+    fn with_plain(self, i: usize) -> Asked
+        ensures { result ≡ with_plain self i }
+    {
+        let more = Asked {
+            plain: self.plain.saturating_add(1),
+            ..self
+        };
+        match self.plain {
+            0 => Asked {
+                sheet: Some(i),
+                ..more
+            },
+            1 => Asked {
+                second: Some(i),
+                ..more
+            },
+            2 => Asked {
+                third: Some(i),
+                ..more
+            },
+            _ => more,
+        }
     }
-}
 
-// A word that looks like an option and is none here.
-pub fn unknown(asked: Asked, i: usize) -> Asked
-    ensures { result ≡ with_strange asked i }
-{
-    Asked {
-        strange: i,
-        ..asked
+    // A word for a task: it asks for it where nothing was asked for before it, and is else a plain word.
+    fn with_command(self, task: Task, i: usize) -> Asked
+        ensures { result ≡ with_command self task i }
+    {
+        if self.plain > 0 {
+            return self.with_plain(i);
+        }
+        match self.task {
+            Task::Pay => Asked { task, ..self },
+            Task::Help | Task::Version => self,
+            _ => self.with_plain(i),
+        }
     }
-}
 
-// A word that means nothing by itself.
-fn plain(asked: Asked, i: usize) -> Asked
-    ensures { result ≡ with_plain asked.plain asked i }
-{
-    let before = asked.plain;
-    match before {
-        Count::None => Asked {
-            plain: Count::One,
-            sheet: i,
-            ..asked
-        },
-        Count::One => Asked {
-            plain: Count::Two,
-            second: i,
-            ..asked
-        },
-        Count::Two => Asked {
-            plain: Count::Three,
-            third: i,
-            ..asked
-        },
-        Count::Three => Asked {
-            plain: Count::More,
-            ..asked
-        },
-        Count::More => asked,
+    // `--whole` belongs to `check` and `profile`.
+    fn with_whole(self, i: usize) -> Asked
+        ensures { result ≡ with_whole self.task self i }
+    {
+        match self.task {
+            Task::Check => Asked {
+                task: Task::CheckWhole,
+                ..self
+            },
+            Task::Profile => Asked {
+                task: Task::ProfileWhole,
+                ..self
+            },
+            Task::CheckWhole | Task::ProfileWhole | Task::Help | Task::Version => self,
+            _ => self.unknown(i),
+        }
     }
-}
 
-// A word for a task, where no plain word stands before it: the first one asks for it.
-fn first(asked: Asked, task: Task, i: usize) -> Asked
-    ensures { result ≡ first_word asked.task asked task i }
-{
-    let before = asked.task;
-    match before {
-        Task::Pay => tasked(asked, task),
-        Task::Check => plain(asked, i),
-        Task::CheckWhole => plain(asked, i),
-        Task::Run => plain(asked, i),
-        Task::Write => plain(asked, i),
-        Task::Store => plain(asked, i),
-        Task::CheckStored => plain(asked, i),
-        Task::RunStored => plain(asked, i),
-        Task::Shift => plain(asked, i),
-        Task::Profile => plain(asked, i),
-        Task::ProfileWhole => plain(asked, i),
-        Task::Combine => plain(asked, i),
-        Task::Help => asked,
-        Task::Version => asked,
+    // `--combine` belongs to `shift`.
+    fn with_combine(self, i: usize) -> Asked
+        ensures { result ≡ with_combine self.task self i }
+    {
+        match self.task {
+            Task::Shift => Asked {
+                task: Task::Combine,
+                ..self
+            },
+            Task::Combine | Task::Help | Task::Version => self,
+            _ => self.unknown(i),
+        }
     }
-}
 
-fn command(asked: Asked, task: Task, i: usize) -> Asked
-    ensures { result ≡ with_command asked.plain asked task i }
-{
-    let before = asked.plain;
-    match before {
-        Count::None => first(asked, task, i),
-        Count::One => plain(asked, i),
-        Count::Two => plain(asked, i),
-        Count::Three => plain(asked, i),
-        Count::More => plain(asked, i),
+    fn with_word(self, word: Word, i: usize) -> Asked
+        ensures { result ≡ with_word self word i }
+    {
+        match word {
+            Word::Command(task) => self.with_command(task, i),
+            Word::Instead(task) => Asked { task, ..self },
+            Word::Whole => self.with_whole(i),
+            Word::Combine => self.with_combine(i),
+            Word::Report => Asked {
+                turn: Turn::Name,
+                ..self
+            },
+            Word::Edition => Asked {
+                turn: Turn::Edition,
+                ..self
+            },
+            Word::Rest => Asked {
+                turn: Turn::Plain,
+                ..self
+            },
+            Word::Strange => self.unknown(i),
+            Word::Plain => self.with_plain(i),
+        }
     }
-}
 
-// `--whole` belongs to `check` and `profile`.
-fn whole(asked: Asked, i: usize) -> Asked
-    ensures { result ≡ with_whole asked.task asked i }
-{
-    let before = asked.task;
-    match before {
-        Task::Check => tasked(asked, Task::CheckWhole),
-        Task::CheckWhole => asked,
-        Task::Pay => unknown(asked, i),
-        Task::Run => unknown(asked, i),
-        Task::Write => unknown(asked, i),
-        Task::Store => unknown(asked, i),
-        Task::CheckStored => unknown(asked, i),
-        Task::RunStored => unknown(asked, i),
-        Task::Shift => unknown(asked, i),
-        Task::Profile => tasked(asked, Task::ProfileWhole),
-        Task::ProfileWhole => asked,
-        Task::Combine => unknown(asked, i),
-        Task::Help => asked,
-        Task::Version => asked,
-    }
-}
-
-// `--combine` belongs to `shift`.
-fn combine(asked: Asked, i: usize) -> Asked
-    ensures { result ≡ with_combine asked.task asked i }
-{
-    let before = asked.task;
-    match before {
-        Task::Shift => tasked(asked, Task::Combine),
-        Task::Combine => asked,
-        Task::Pay => unknown(asked, i),
-        Task::Check => unknown(asked, i),
-        Task::CheckWhole => unknown(asked, i),
-        Task::Run => unknown(asked, i),
-        Task::Write => unknown(asked, i),
-        Task::Store => unknown(asked, i),
-        Task::CheckStored => unknown(asked, i),
-        Task::RunStored => unknown(asked, i),
-        Task::Profile => unknown(asked, i),
-        Task::ProfileWhole => unknown(asked, i),
-        Task::Help => asked,
-        Task::Version => asked,
-    }
-}
-
-fn meant(asked: Asked, word: Word, i: usize) -> Asked
-    ensures { result ≡ with_word asked word i }
-{
-    match word {
-        Word::Command(task) => command(asked, task, i),
-        Word::Instead(task) => tasked(asked, task),
-        Word::Whole => whole(asked, i),
-        Word::Combine => combine(asked, i),
-        Word::Report => turned(asked, Turn::Name),
-        Word::Edition => turned(asked, Turn::Edition),
-        Word::Rest => turned(asked, Turn::Plain),
-        Word::Strange => unknown(asked, i),
-        Word::Plain => plain(asked, i),
-    }
-}
-
-// Takes one word more, which has this number and means this by itself.
-pub fn take(asked: Asked, word: Word, i: usize) -> Asked
-    ensures { result ≡ in_turn asked.turn asked word i }
-{
-    let turn = asked.turn;
-    match turn {
-        Turn::Meaning => meant(asked, word, i),
-        Turn::Name => named(asked, i),
-        Turn::Edition => in_edition(asked, i),
-        Turn::Plain => plain(asked, i),
+    // Takes one word more, which has this number and means this by itself.
+    pub fn take(self, word: Word, i: usize) -> Asked
+        ensures { result ≡ in_turn self.turn self word i }
+    {
+        match self.turn {
+            Turn::Meaning => self.with_word(word, i),
+            Turn::Name => Asked {
+                report: Some(i),
+                turn: Turn::Meaning,
+                ..self
+            },
+            Turn::Edition => Asked {
+                edition: Some(i),
+                turn: Turn::Meaning,
+                ..self
+            },
+            Turn::Plain => self.with_plain(i),
+        }
     }
 }

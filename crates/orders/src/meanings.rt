@@ -1,56 +1,29 @@
 // What a word means by itself: the rows of commands, and those of options.
-ghost use Rattle.std.specs.Prelude.{◌≡◌};
-ghost use Rattle.orders.specs.Meanings.{looks_optional, NoCommand, Means};
+ghost use Rattle.orders.specs.Meanings.{NoCommand, Means};
 
 use crate::asked::{Task, Word};
 use check::same;
-
-// Does it look like an option?
-fn is_option(text: &[u8]) -> bool
-    ensures { result ≡ looks_optional text.now }
-{
-    if text.len() < 2 {
-        return false;
-    }
-    if text[0] == b'-' {
-        return text[1] == b'-';
-    }
-    false
-}
 
 // The rows of options, for a word that is no command.
 fn option(text: &[u8]) -> Word
     requires { NoCommand text.now }
     ensures { Means text.now result }
 {
-    if same(text, b"--whole") {
-        return Word::Whole;
+    match text {
+        b"--whole" => Word::Whole,
+        b"--combine" => Word::Combine,
+        b"--report" => Word::Report,
+        b"--edition" => Word::Edition,
+        b"--help" => Word::Instead(Task::Help),
+        b"--version" => Word::Instead(Task::Version),
+        b"--" => Word::Rest,
+        _ if text.starts_with(b"--") => Word::Strange,
+        _ => Word::Plain,
     }
-    if same(text, b"--combine") {
-        return Word::Combine;
-    }
-    if same(text, b"--report") {
-        return Word::Report;
-    }
-    if same(text, b"--edition") {
-        return Word::Edition;
-    }
-    if same(text, b"--help") {
-        return Word::Instead(Task::Help);
-    }
-    if same(text, b"--version") {
-        return Word::Instead(Task::Version);
-    }
-    if same(text, b"--") {
-        return Word::Rest;
-    }
-    if is_option(text) {
-        return Word::Strange;
-    }
-    Word::Plain
 }
 
-// The rows of commands.
+// The rows of commands. They are no rows of a `match`, as those of options are: that a word is none of them would have to
+// be shown again on each of fifty ways out of it, at which `grind` stops, and nothing shorter was found.
 pub fn meaning(text: &[u8]) -> Word
     ensures { Means text.now result }
 {
