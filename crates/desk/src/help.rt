@@ -5,14 +5,6 @@ use crate::output::say;
 use crate::statuses::kept;
 use std::io::{Eprint, Print};
 
-// The status: 0 if all could be written.
-fn written(done: bool) -> u32
-    ensures due { Due 0 result }
-    ensures status { Status result }
-{
-    kept(0, done)
-}
-
 // What `--help` is answered.
 pub fn help(rt: &(impl Print + Eprint)) -> u32
     ensures due { Due 0 result }
@@ -20,7 +12,7 @@ pub fn help(rt: &(impl Print + Eprint)) -> u32
 {
     let mut text = io::buffer();
     let n = wording::help::help(&mut text, 0);
-    written(say(rt, &text[..n]))
+    kept(0, say(rt, &text[..n]))
 }
 
 // What `--version` is answered.
@@ -30,5 +22,5 @@ pub fn version(rt: &(impl Print + Eprint)) -> u32
 {
     let mut text = io::buffer();
     let n = wording::help::version(&mut text, 0);
-    written(say(rt, &text[..n]))
+    kept(0, say(rt, &text[..n]))
 }

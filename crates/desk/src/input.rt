@@ -1,11 +1,9 @@
 // Reading what the words name.
-ghost use Rattle.std.specs.Prelude.{false, ◌≡◌, ◌≤◌, ◌↔◌, length, IfOk, IsOk};
+ghost use Rattle.std.specs.Prelude.{false, ◌≡◌, ◌≤◌, ◌↔◌, length, take, IfOk, IsOk, IfSome};
 ghost use Rattle.std.specs.Str.{IsUtf8};
 ghost use Rattle.std.specs.Io.{ReadsAtMost};
-ghost use Rattle.io.specs.Counts.{IsPrefixLen};
 ghost use Rattle.language.specs.Sizes.{ALLOWANCE, LARGEST};
-ghost use Rattle.desk.specs.Numbers.{UpTo};
-ghost use Rattle.desk.specs.Sheets.{Loaded};
+ghost use Rattle.desk.specs.Numbers.{UpTo, number_in};
 
 use crate::arguments::{fits, word};
 use crate::output;
@@ -16,18 +14,11 @@ use std::fs;
 use std::io::{Eprint, Error, ErrorKind, Input, Read};
 use std::rt::{Env, Files};
 
-// The bytes of a sheet, or nothing, when the reason was told.
-#[derive(Clone, Copy)]
-pub enum Sheet {
-    Bytes(usize),
-    Nothing,
-}
-
-// How many bytes at the start of these, and never more than there are.
-pub fn within(n: usize, bytes: &[u8]) -> usize
-    ensures { IsPrefixLen result bytes.now }
+// The first of these bytes: so many, or all, if there are no more.
+pub fn within(n: usize, bytes: &[u8]) -> &[u8]
+    ensures { result.now ≡ take n bytes.now }
 {
-    if n < bytes.len() { n } else { bytes.len() }
+    &bytes[..n.min(bytes.len())]
 }
 
 // A file's name as a path: one that is text in UTF-8, since std knows no other.
@@ -59,96 +50,106 @@ fn read_on<I: Read>(input: &mut I, begun: usize, bytes: &mut [u8]) -> Result<usi
         }
         done += got;
     }
-    Ok(within(done, bytes))
+    Ok(done)
 }
 
-// Reads until the bytes are full or the input ends. No sheet is cut short unnoticed where a read fails on the way.
-fn read<I: Read>(rt: &impl Eprint, input: &mut I, name: &[u8], bytes: &mut [u8]) -> Sheet
-    ensures { Loaded result bytes.new }
+// Reads until the bytes are full or the input ends, and answers those that were read; nothing where a read fails, which
+// was told. No sheet is cut short unnoticed where it fails on the way.
+fn read<'a, I: Read>(
+    rt: &impl Eprint,
+    input: &mut I,
+    name: &[u8],
+    bytes: &'a mut [u8],
+) -> Option<&'a [u8]>
+    ensures { IfSome result (λ sheet. length sheet.now ≤ length bytes.old) }
 {
     let begun = match input.read(bytes) {
-        Ok(got) => within(got, bytes),
+        Ok(got) => got,
         Err(why) => {
             output::fail(rt, name, &why);
-            return Sheet::Nothing;
+            return None;
         }
     };
     if begun == 0 {
-        return Sheet::Bytes(begun);
+        return Some(&[]);
     }
     match read_on(input, begun, bytes) {
-        Ok(all) => Sheet::Bytes(all),
+        Ok(all) => Some(&bytes[..all]),
         Err(_) => {
             output::tell(rt, b"slip: the sheet cannot be read to its end\n");
-            Sheet::Nothing
+            None
         }
     }
 }
 
-// Reads the sheet that this word names.
-pub fn load<R: Env + Files + Input + Eprint>(rt: &R, i: usize, bytes: &mut [u8]) -> Sheet
-    ensures { Loaded result bytes.new }
+// Reads the sheet that this word names; nothing where it cannot be read, which was told.
+pub fn load<'a, R: Env + Files + Input + Eprint>(
+    rt: &R,
+    i: Option<usize>,
+    bytes: &'a mut [u8],
+) -> Option<&'a [u8]>
+    ensures { IfSome result (λ sheet. length sheet.now ≤ length bytes.old) }
 {
-    let mut name = io::buffer();
-    let length = word(rt, i, &mut name);
-    if check::same(&name[..length], b"-") {
-        return read(rt, &mut rt.reader(), &name[..length], bytes);
+    let mut room = io::buffer();
+    let name = word(rt, i, &mut room);
+    if name == b"-".as_slice() {
+        return read(rt, &mut rt.reader(), name, bytes);
     }
-    match open(rt, &name[..length]) {
-        Ok(mut file) => read(rt, &mut file, &name[..length], bytes),
+    match open(rt, name) {
+        Ok(mut file) => read(rt, &mut file, name, bytes),
         Err(why) => {
-            output::fail(rt, &name[..length], &why);
-            Sheet::Nothing
+            output::fail(rt, name, &why);
+            None
         }
     }
 }
 
 // What was read of a word that has to be a number up to a limit; where it is none, that is told.
-fn numbered(rt: &impl Eprint, found: Number, what: &[u8], word: &[u8], most: u32) -> Number
-    ensures { result ≡ found }
+fn numbered(rt: &impl Eprint, found: Number, what: &[u8], word: &[u8], most: u32) -> Option<u32>
+    ensures { result ≡ number_in found }
 {
     match found {
-        Number::Of(_) => found,
+        Number::Of(n) => Some(n),
         Number::None => {
             let mut text = [0u8; 20000];
             let n = wording::mistakes::no_number(&mut text, 0, what, word, most);
             output::tell(rt, &text[..n]);
-            found
+            None
         }
     }
 }
 
 // Reads a word that has to be a number up to a limit; where it is none, that was told.
-pub fn number(rt: &(impl Env + Eprint), i: usize, what: &[u8], most: u32) -> Number
+pub fn number(rt: &(impl Env + Eprint), i: Option<usize>, what: &[u8], most: u32) -> Option<u32>
     ensures { UpTo most result }
 {
-    let mut name = io::buffer();
-    let length = word(rt, i, &mut name);
-    let found = page::up_to(&name[..length], most);
-    numbered(rt, found, what, &name[..length], most)
+    let mut room = io::buffer();
+    let name = word(rt, i, &mut room);
+    let found = page::up_to(name, most);
+    numbered(rt, found, what, name, most)
 }
 
 // The largest allowance, which is the usual one.
 const UNITS: u32 = language::ALLOWANCE as u32;
 
 // The allowance that a word says, if there is one; where it is no number, that was told.
-pub fn allowance(rt: &(impl Env + Eprint), i: usize) -> Number
+pub fn allowance(rt: &(impl Env + Eprint), i: Option<usize>) -> Option<u32>
     ensures { UpTo ALLOWANCE result }
 {
-    if i == 0 {
-        return Number::Of(UNITS);
+    if i.is_none() {
+        return Some(UNITS);
     }
     number(rt, i, b"allowance", UNITS)
 }
 
 // The edition that the words name; where the word for it is no number, that was told.
-pub fn edition(rt: &(impl Env + Eprint), asked: Asked) -> Number
+pub fn edition(rt: &(impl Env + Eprint), asked: Asked) -> Option<u32>
     ensures { UpTo LARGEST result }
 {
-    let mut name = io::buffer();
-    let length = word(rt, asked.edition, &mut name);
-    let found = tasks::edition(asked, &name[..length]);
-    numbered(rt, found, b"edition", &name[..length], tasks::LARGEST)
+    let mut room = io::buffer();
+    let name = word(rt, asked.edition, &mut room);
+    let found = asked.edition(name);
+    numbered(rt, found, b"edition", name, tasks::LARGEST)
 }
 
 // Says of a word that it has no meaning, or that it is too long.
@@ -157,32 +158,26 @@ pub fn strange(rt: &(impl Env + Eprint), i: usize) {
         output::too_long(rt);
         return;
     }
-    let mut name = io::buffer();
-    let length = word(rt, i, &mut name);
+    let mut room = io::buffer();
     let mut text = [0u8; 20000];
-    let n = wording::mistakes::strange(&mut text, 0, &name[..length]);
+    let n = wording::mistakes::strange(&mut text, 0, word(rt, Some(i), &mut room));
     output::tell(rt, &text[..n]);
 }
 
 // Says of the file that a word names that it is no report of a shift.
 pub fn no_report(rt: &(impl Env + Eprint), i: usize) {
-    let mut name = io::buffer();
-    let length = word(rt, i, &mut name);
+    let mut room = io::buffer();
     let mut text = [0u8; 20000];
-    let n = wording::mistakes::no_report(&mut text, 0, &name[..length]);
+    let n = wording::mistakes::no_report(&mut text, 0, word(rt, Some(i), &mut room));
     output::tell(rt, &text[..n]);
 }
 
-// Are these two words, and the same? Where there is no second one they are not.
-pub fn same(rt: &impl Env, first: usize, second: usize) -> bool
-    ensures { second ≡ 0 → result ≡ false }
+// Are these two words the same? Where one of them is missing they are not.
+pub fn same(rt: &impl Env, first: Option<usize>, second: Option<usize>) -> bool
+    ensures { second ≡ None → result ≡ false }
 {
-    if second == 0 {
+    if first.is_none() || second.is_none() {
         return false;
     }
-    let mut one = io::buffer();
-    let mut other = io::buffer();
-    let a = word(rt, first, &mut one);
-    let b = word(rt, second, &mut other);
-    check::same(&one[..a], &other[..b])
+    word(rt, first, &mut io::buffer()) == word(rt, second, &mut io::buffer())
 }

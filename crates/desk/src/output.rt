@@ -34,10 +34,7 @@ impl Display for Reason<'_> {
         let _ = write!(room, "{}", self.0);
         let end = room.position() as usize;
         let bytes = room.into_inner();
-        let words = match str::from_utf8(&bytes[..within(end, &bytes)]) {
-            Ok(words) => words,
-            Err(_) => "",
-        };
+        let words = str::from_utf8(within(end, &bytes)).unwrap_or("");
         match words.split_once(" (os error ") {
             Some((reason, _)) => f.write_str(reason),
             None => f.write_str(words),
@@ -52,13 +49,10 @@ fn failed(rt: &impl Eprint, what: &[u8], why: &Error) {
 
 // Puts a text out. False, and a line on standard error, where it cannot be written.
 pub fn say(rt: &(impl Print + Eprint), text: &[u8]) -> bool {
-    match rt.write_all(text) {
-        Ok(()) => true,
-        Err(why) => {
-            failed(rt, b"slip: standard output", &why);
-            false
-        }
-    }
+    let written = rt.write_all(text);
+    written
+        .inspect_err(|why| failed(rt, b"slip: standard output", why))
+        .is_ok()
 }
 
 // The same on standard error, where there is nothing to say that on.
@@ -85,9 +79,5 @@ const TOO_LONG: i32 = 36;
 pub fn end(status: u32) -> ExitCode
     ensures { exit_status result ≡ min status 2 }
 {
-    match status {
-        0 => ExitCode::from(0),
-        1 => ExitCode::from(1),
-        _ => ExitCode::from(2),
-    }
+    ExitCode::from(status.min(2) as u8)
 }

@@ -7,6 +7,7 @@ ghost use Rattle.desk.specs.Statuses.{Status, Due};
 
 use clerk::{people, shifts};
 use desk::arguments::word;
+use desk::rooms::TEXT;
 use desk::statuses::kept;
 use desk::{Outside, arguments, input, output, rooms};
 use orders::asked::Asked;
@@ -20,29 +21,20 @@ use wording::ends::End;
 use wording::limits::{Limits, unlimited};
 use wording::places::Places;
 
-// Writes the report for machines to a file; true if that could be done.
-fn write(rt: &impl Outside, file: &[u8], text: &[u8]) -> bool {
-    match put(rt, file, text) {
-        Ok(()) => true,
-        Err(why) => {
-            output::fail(rt, file, &why);
-            false
-        }
-    }
-}
-
 fn put(rt: &impl Outside, file: &[u8], text: &[u8]) -> Result<(), Error> {
     fs::write(rt, input::path(file)?, text)
 }
 
 // Writes the report for machines, if the words ask for it; true if that could be done.
 fn keep(rt: &impl Outside, asked: Asked, text: &[u8]) -> bool {
-    if asked.report == 0 {
+    if asked.report.is_none() {
         return true;
     }
-    let mut file = io::buffer();
-    let length = word(rt, asked.report, &mut file);
-    write(rt, &file[..length], text)
+    let mut room = io::buffer();
+    let file = word(rt, asked.report, &mut room);
+    put(rt, file, text)
+        .inspect_err(|why| output::fail(rt, file, why))
+        .is_ok()
 }
 
 // Something was wrong before any sheet was looked at; it was told. What was to be read is not written over.
@@ -57,17 +49,14 @@ pub fn failed(rt: &impl Outside, asked: Asked) -> u32
 
 // The slip, and where its last line has no end a line feed before the report, which is for people.
 fn slip(rt: &impl Outside, printed: &[u8]) -> bool {
-    let n = printed.len();
-    if n == 0 {
+    let Some(last) = printed.last() else {
         return true;
-    }
-    if !output::say(rt, printed) {
-        return false;
-    }
-    if printed[n - 1] != b'\n' {
+    };
+    let said = output::say(rt, printed);
+    if said && *last != b'\n' {
         output::tell(rt, b"\n");
     }
-    true
+    said
 }
 
 // The report for people; true if it could be written.
@@ -79,7 +68,7 @@ fn tell(
     limits: Limits,
     end: End,
 ) -> bool {
-    let mut text = rooms::text();
+    let mut text = rooms::bytes::<TEXT>();
     let n = people::report(&mut text, file, sheet, places, limits, end);
     output::tell(rt, &text[..n])
 }
@@ -94,7 +83,7 @@ fn record(
     limits: Limits,
     end: End,
 ) -> bool {
-    let mut text = rooms::text();
+    let mut text = rooms::bytes::<TEXT>();
     let n = machines::report(&mut text, status, file, sheet, places, limits, end);
     keep(rt, asked, &text[..n])
 }
@@ -112,23 +101,14 @@ fn told(
     ensures due { Due (status_of end) result }
     ensures status { Status result }
 {
-    let mut file = io::buffer();
-    let length = word(rt, asked.sheet, &mut file);
+    let mut room = io::buffer();
+    let file = word(rt, asked.sheet, &mut room);
     if !slip(rt, printed) {
         return failed(rt, asked);
     }
-    let told = tell(rt, &file[..length], sheet, places, limits, end);
+    let told = tell(rt, file, sheet, places, limits, end);
     let status = kept(ends::status(end), told);
-    let recorded = record(
-        rt,
-        asked,
-        status,
-        &file[..length],
-        sheet,
-        places,
-        limits,
-        end,
-    );
+    let recorded = record(rt, asked, status, file, sheet, places, limits, end);
     kept(status, recorded)
 }
 
@@ -169,7 +149,7 @@ fn record_shift(
     over: bool,
     sums: Sums,
 ) -> bool {
-    let mut text = rooms::text();
+    let mut text = rooms::bytes::<TEXT>();
     let n = machines::shift(&mut text, status, file, allowance, over, sums);
     keep(rt, asked, &text[..n])
 }
@@ -177,13 +157,13 @@ fn record_shift(
 // What is to be said behind the report of a shift: nothing, or that its file has a line too many. True if that could
 // be done.
 fn warn(rt: &impl Outside, asked: Asked, over: bool) -> bool {
-    if over {
-        let mut file = io::buffer();
-        let length = word(rt, asked.second, &mut file);
-        let end = End::Refused(Cause::ManyLines, 0);
-        return tell(rt, &file[..length], b"", Places::Bytes, unlimited(), end);
+    if !over {
+        return true;
     }
-    true
+    let mut room = io::buffer();
+    let file = word(rt, asked.second, &mut room);
+    let end = End::Refused(Cause::ManyLines, 0);
+    tell(rt, file, b"", Places::Bytes, unlimited(), end)
 }
 
 // Tells what came of a shift, on standard output, and answers the status.
@@ -191,15 +171,15 @@ pub fn shift(rt: &impl Outside, asked: Asked, allowance: u64, over: bool, sums: 
     ensures due { Due (told_status over) result }
     ensures status { Status result }
 {
-    let mut file = io::buffer();
-    let length = word(rt, asked.sheet, &mut file);
+    let mut room = io::buffer();
+    let file = word(rt, asked.sheet, &mut room);
     let mut text = io::buffer();
     let n = shifts::report(&mut text, sums);
     if !output::say(rt, &text[..n]) {
         return failed(rt, asked);
     }
     let status = kept(ends::shift_status(over), warn(rt, asked, over));
-    let recorded = record_shift(rt, asked, status, &file[..length], allowance, over, sums);
+    let recorded = record_shift(rt, asked, status, file, allowance, over, sums);
     kept(status, recorded)
 }
 
