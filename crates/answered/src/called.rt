@@ -1,6 +1,6 @@
 // What came of a rate sheet with a call under it, which is a sheet of its own: the second.
 ghost use Rattle.std.specs.Prelude.{◌≡◌};
-ghost use Rattle.answered.specs.Called.{sided, refused_under, passed_under, checked_under, own_place, ended_under, ran_under};
+ghost use Rattle.answered.specs.Called.{refused_under, passed_under, checked_under, own_place, ended_under, ran_under};
 ghost use Rattle.answered.specs.Called.{profiled_under, most_under, unread_under};
 
 use crate::refusals::{is_long, is_unread};
@@ -16,24 +16,15 @@ const INT: u32 = 1;
 // The sheet that the call is, of the two.
 const CALL: u32 = 2;
 
-// Refused for the call under the sheet, or for the sheet.
-fn side(called: bool, why: Refusal, place: usize) -> End
-    ensures { result ≡ sided called why place }
-{
-    if called {
-        return End::Refused(Cause::Called(why), 0);
-    }
-    End::Refused(Cause::Refused(why), place)
-}
-
-// It was refused.
+// It was refused: for the call under the sheet, or for the sheet.
 pub fn refused(why: Refusal, spot: Spot) -> End
     ensures { result ≡ refused_under why spot }
 {
-    if is_long(why) {
-        return side(true, why, spot.at);
+    if is_long(why) || spot.sheet == CALL {
+        End::Refused(Cause::Called(why), 0)
+    } else {
+        End::Refused(Cause::Refused(why), spot.at)
     }
-    side(spot.sheet == CALL, why, spot.at)
 }
 
 // What a call gives has to be an int.
@@ -41,9 +32,10 @@ fn passed(type_number: u32) -> End
     ensures { result ≡ passed_under type_number }
 {
     if type_number == INT {
-        return End::Passed(type_number);
+        End::Passed(type_number)
+    } else {
+        End::Refused(Cause::NoWage(type_number), 0)
     }
-    End::Refused(Cause::NoWage(type_number), 0)
 }
 
 // What came of its check.
@@ -60,10 +52,7 @@ pub fn of_check(answer: Checked<Spot>) -> End
 fn own_place(own: usize, spot: Spot) -> usize
     ensures { result ≡ own_place own spot }
 {
-    if spot.sheet == CALL {
-        return own;
-    }
-    spot.at
+    if spot.sheet == CALL { own } else { spot.at }
 }
 
 // What came of a program that ended.

@@ -8,40 +8,12 @@ use numbers::Refusal;
 pub fn is_long(why: Refusal) -> bool
     ensures { result ≡ is_long why }
 {
-    match why {
-        Refusal::ShortMemory => false,
-        Refusal::LargeAllowance => false,
-        Refusal::NoEdition => false,
-        Refusal::LongSource => true,
-        Refusal::Text(_) => false,
-        Refusal::NoReading => false,
-        Refusal::Types(_) => false,
-        Refusal::LongText => false,
-        Refusal::NotHexadecimal => false,
-        Refusal::WrongCount => false,
-        Refusal::NotOneToken => false,
-        Refusal::EndlessNode => false,
-        Refusal::ManyUnits => false,
-    }
+    matches!(why, Refusal::LongSource)
 }
 
 // It is no program.
 pub fn is_unread(why: Refusal) -> bool
     ensures { result ≡ is_unread why }
 {
-    match why {
-        Refusal::ShortMemory => false,
-        Refusal::LargeAllowance => false,
-        Refusal::NoEdition => false,
-        Refusal::LongSource => false,
-        Refusal::Text(_) => false,
-        Refusal::NoReading => true,
-        Refusal::Types(_) => false,
-        Refusal::LongText => false,
-        Refusal::NotHexadecimal => false,
-        Refusal::WrongCount => false,
-        Refusal::NotOneToken => false,
-        Refusal::EndlessNode => false,
-        Refusal::ManyUnits => false,
-    }
+    matches!(why, Refusal::NoReading)
 }

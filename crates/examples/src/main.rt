@@ -125,7 +125,7 @@ fn report(rt: &impl Print, answer: Ran<usize>, out: &[u8]) {
                     field(rt, 0);
                 }
             }
-            field(rt, ended.ending.units as u64);
+            field(rt, u64::from(ended.ending.units));
             bytes(rt, out, ended.ending.printed);
         }
         Err(r) => {
@@ -137,9 +137,9 @@ fn report(rt: &impl Print, answer: Ran<usize>, out: &[u8]) {
 }
 
 fn three(rt: &impl Print, number: u32, place: usize, type_number: u32) {
-    field(rt, number as u64);
+    field(rt, u64::from(number));
     field(rt, place as u64);
-    field(rt, type_number as u64);
+    field(rt, u64::from(type_number));
 }
 
 fn field(rt: &impl Print, n: u64) {
@@ -159,23 +159,17 @@ fn signed(rt: &impl Print, n: i64) {
 // A value by its number; a float by its bits.
 fn number(rt: &impl Print, value: Value) {
     match value {
-        Value::Int(n) => signed(rt, n as i64),
+        Value::Int(n) => signed(rt, i64::from(n)),
         Value::Float(x) => field(rt, floats::bits(x)),
-        Value::Flag(b) => { if b { field(rt, 1) } else { field(rt, 0) } }
+        Value::Flag(b) => field(rt, u64::from(b)),
         Value::Nothing => field(rt, 0),
-        Value::Cell(birth) => field(rt, birth as u64),
+        Value::Cell(birth) => field(rt, u64::from(birth)),
     }
-}
-
-fn byte(rt: &impl Print, b: u8) {
-    field(rt, b as u64);
 }
 
 // The bytes printed, as numbers.
 fn bytes(rt: &impl Print, out: &[u8], printed: usize) {
-    let mut i = 0;
-    while i < printed && i < out.len() {
-        byte(rt, out[i]);
-        i += 1;
+    for b in out.iter().take(printed) {
+        field(rt, u64::from(*b));
     }
 }

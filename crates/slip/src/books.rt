@@ -26,7 +26,6 @@ pub fn unread_shift(why: Why) -> bool
 {
     match why {
         Why::Sheet(refusal) => is_unread(refusal),
-        Why::NoBook => false,
-        Why::ManyLines => false,
+        Why::NoBook | Why::ManyLines => false,
     }
 }

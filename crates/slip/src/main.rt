@@ -11,6 +11,7 @@ ghost use Rattle.std.specs.Process.{exit_status};
 
 mod books;
 mod combining;
+mod job;
 mod profiling;
 mod rates;
 mod serve;

@@ -1,49 +1,31 @@
-// A rate sheet: checked, counted or paid, with a call set under it.
+// A rate sheet: checked, counted or paid, with a call set under it, as a second sheet, as each line of a shift has its
+// call.
+ghost use Rattle.std.specs.Prelude.{IfSome};
 ghost use Rattle.desk.specs.Statuses.{Status};
 ghost use Rattle.grumpy.specs.Reports.{pair_checked_report};
 ghost use Rattle.language.specs.Answers.{CheckedUnder};
 ghost use Rattle.language.specs.Edition.{pair_in};
 ghost use Rattle.language.specs.Sizes.{BOX, TABLE};
 
-use crate::{profiling, serve};
+use crate::job::Job;
+use crate::serve;
 use answered::{called, whole};
-use desk::input::Sheet;
+use desk::rooms::SHEET;
 use desk::{Outside, input, rooms};
 use grumpy::answers::Checked;
-use language::ALLOWANCE;
-use orders::asked::Asked;
+use language::{ALLOWANCE, TABLE, WORK};
 use orders::tasks::LARGEST;
-use page::Number;
 use pairs::Spot;
 use tally::calls;
 use wording::ends;
 use wording::ends::End;
-use wording::limits::{Limits, unlimited};
+use wording::limits::Limits;
 
 // What check answers of a sheet with a call under it.
 fn examine_called(edition: u32, sheet: &[u8], call: &[u8]) -> Checked<Spot>
     ensures { CheckedUnder BOX (pair_in edition sheet.now call.now) TABLE (pair_checked_report result) }
 {
-    let mut words = rooms::table();
-    let table: &mut [u32] = &mut words;
-    grumpy::check_pair(edition, sheet, call, table)
-}
-
-// Runs the sheet with the call under it, and reports, with what its profile says.
-fn run_called(rt: &impl Outside, asked: Asked, edition: u32, sheet: &[u8], call: &[u8]) -> u32
-    ensures { Status result }
-{
-    let mut words = rooms::table();
-    let mut cells = rooms::work();
-    let mut bytes = io::large_buffer();
-    let table: &mut [u32] = &mut words;
-    let work: &mut [u32] = &mut cells;
-    let out: &mut [u8] = &mut bytes;
-    let answer = grumpy::run_pair(edition, sheet, call, table, work, out, ALLOWANCE);
-    let most = called::known(grumpy::profile_pair(edition, sheet, call, table));
-    let allowance = ALLOWANCE;
-    let end = called::of_run(sheet.len(), answer);
-    serve::ran(rt, asked, sheet, out, Limits { allowance, most }, end)
+    grumpy::check_pair(edition, sheet, call, &mut rooms::words::<TABLE>())
 }
 
 // What a rate sheet with its call under it comes to; where that is no program, the sheet alone may be one.
@@ -56,79 +38,72 @@ fn judge(edition: u32, sheet: &[u8], call: &[u8]) -> End {
     end
 }
 
-// What is done with a rate sheet and the call under it, if they pass.
-#[derive(Clone, Copy)]
-pub enum Called {
-    Checked,
-    Counted,
-    Paid,
-}
-
-// Checks the sheet with the call under it and, if they pass, does what is asked.
-fn serve_called(
-    rt: &impl Outside,
-    asked: Asked,
-    edition: u32,
-    sheet: &[u8],
-    call: &[u8],
-    what: Called,
-) -> u32
-    ensures { Status result }
-{
-    let end = judge(edition, sheet, call);
-    if ends::status(end) != 0 {
-        return reports::report(rt, asked, sheet, b"", unlimited(), end);
+impl<R: Outside> Job<'_, R> {
+    // Runs the sheet with the call under it, and reports, with what its profile says.
+    fn run_called(&self, sheet: &[u8], call: &[u8]) -> u32
+        ensures { Status result }
+    {
+        let mut table = rooms::words::<TABLE>();
+        let mut work = rooms::words::<WORK>();
+        let mut out = io::large_buffer();
+        let allowance = ALLOWANCE;
+        let answer = grumpy::run_pair(
+            self.edition,
+            sheet,
+            call,
+            &mut table,
+            &mut work,
+            &mut out,
+            allowance,
+        );
+        let most = called::known(grumpy::profile_pair(self.edition, sheet, call, &mut table));
+        let end = called::of_run(sheet.len(), answer);
+        self.ran(sheet, &out, Limits { allowance, most }, end)
     }
-    match what {
-        Called::Checked => reports::report(rt, asked, sheet, b"", unlimited(), end),
-        Called::Counted => profiling::count_called(rt, asked, edition, sheet, call),
-        Called::Paid => run_called(rt, asked, edition, sheet, call),
+
+    // Where the sheet with the call under it does not pass, that is told, and the status is answered.
+    fn refused(&self, sheet: &[u8], call: &[u8]) -> Option<u32>
+        ensures { IfSome result Status }
+    {
+        let end = judge(self.edition, sheet, call);
+        if ends::status(end) == 0 {
+            return None;
+        }
+        Some(self.told(sheet, end))
     }
-}
 
-// Sets the call under the sheet, as a second sheet, as each line of a shift has its call.
-fn call(
-    rt: &impl Outside,
-    asked: Asked,
-    edition: u32,
-    sheet: &[u8],
-    picks: u32,
-    rate: u32,
-    what: Called,
-) -> u32
-    ensures { Status result }
-{
-    let line = calls::call(picks, rate);
-    let n = line.len;
-    let text = line.text;
-    serve_called(rt, asked, edition, sheet, &text[..n], what)
-}
+    // Every call counts the same, whatever its numbers are.
+    pub fn check_rates(&self) -> Option<u32>
+        ensures { IfSome result Status }
+    {
+        let mut room = rooms::bytes::<SHEET>();
+        let sheet = self.sheet(&mut room)?;
+        let line = calls::call(0, 0);
+        let end = judge(self.edition, sheet, line.bytes());
+        Some(self.told(sheet, end))
+    }
 
-// Every call counts the same, whatever its numbers are.
-pub fn examine_rates(rt: &impl Outside, asked: Asked, edition: u32, what: Called) -> u32
-    ensures { Status result }
-{
-    let mut bytes = rooms::sheet();
-    let Sheet::Bytes(length) = input::load(rt, asked.sheet, &mut bytes) else {
-        return reports::failed(rt, asked);
-    };
-    let n = input::within(length, &bytes);
-    call(rt, asked, edition, &bytes[..n], 0, 0, what)
-}
+    pub fn profile_rates(&self) -> Option<u32>
+        ensures { IfSome result Status }
+    {
+        let mut room = rooms::bytes::<SHEET>();
+        let sheet = self.sheet(&mut room)?;
+        let line = calls::call(0, 0);
+        let call = line.bytes();
+        self.refused(sheet, call)
+            .or_else(|| Some(self.count_called(sheet, call)))
+    }
 
-pub fn pay(rt: &impl Outside, asked: Asked, edition: u32) -> u32
-    ensures { Status result }
-{
-    let mut bytes = rooms::sheet();
-    let Number::Of(picks) = input::number(rt, asked.second, b"picks", LARGEST) else {
-        return reports::failed(rt, asked);
-    };
-    let Number::Of(rate) = input::number(rt, asked.third, b"rate", LARGEST) else {
-        return reports::failed(rt, asked);
-    };
-    let Sheet::Bytes(length) = input::load(rt, asked.sheet, &mut bytes) else {
-        return reports::failed(rt, asked);
-    };
-    let n = input::within(length, &bytes);
-    call(rt, asked, edition, &bytes[..n], picks, rate, Called::Paid)
+    pub fn pay(&self) -> Option<u32>
+        ensures { IfSome result Status }
+    {
+        let mut room = rooms::bytes::<SHEET>();
+        let picks = input::number(self.rt, self.asked.second, b"picks", LARGEST)?;
+        let rate = input::number(self.rt, self.asked.third, b"rate", LARGEST)?;
+        let sheet = self.sheet(&mut room)?;
+        let line = calls::call(picks, rate);
+        let call = line.bytes();
+        self.refused(sheet, call)
+            .or_else(|| Some(self.run_called(sheet, call)))
+    }
 }

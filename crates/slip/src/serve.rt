@@ -1,22 +1,21 @@
-// What is done for each task: one function each, which answers the status, and one row in `serve`.
+// What is done for each task: one function each, which answers the status, and one row in `perform`. It answers none
+// where something was wrong before any sheet was looked at, which it told.
+ghost use Rattle.std.specs.Prelude.{IfSome};
 ghost use Rattle.desk.specs.Statuses.{Status};
 ghost use Rattle.grumpy.specs.Reports.{checked_report};
 ghost use Rattle.language.specs.Answers.{CheckedUnder};
 ghost use Rattle.language.specs.Edition.{text_in};
 ghost use Rattle.language.specs.Sizes.{BOX, TABLE};
 
-use crate::rates::Called;
-use crate::{combining, profiling, rates, shifts, storing};
+use crate::combining;
+use crate::job::Job;
 use answered::whole;
-use desk::input::Sheet;
+use desk::rooms::SHEET;
 use desk::{Outside, arguments, help, input, output, rooms};
 use grumpy::answers::{Checked, Wrote};
-use language::SOURCE;
-use orders::asked::{Asked, Task, Wanted};
-use orders::tasks;
-use page::Number;
+use language::{SOURCE, TABLE, WORK};
+use orders::asked::{Asked, Task, Unclear};
 use wording::causes::Cause;
-use wording::ends;
 use wording::ends::End;
 use wording::limits::{Limits, unlimited};
 
@@ -24,148 +23,117 @@ use wording::limits::{Limits, unlimited};
 pub fn examine(edition: u32, source: &[u8]) -> Checked<usize>
     ensures { CheckedUnder BOX (text_in edition source.now) TABLE (checked_report result) }
 {
-    let mut words = rooms::table();
-    let table: &mut [u32] = &mut words;
-    grumpy::check(edition, source, table)
+    grumpy::check(edition, source, &mut rooms::words::<TABLE>())
 }
 
-// Reports what came of a run; what was printed stands first in `out`.
-pub fn ran(
-    rt: &impl Outside,
-    asked: Asked,
-    sheet: &[u8],
-    out: &[u8],
-    limits: Limits,
-    end: End,
-) -> u32
-    ensures { Status result }
-{
-    let n = input::within(ends::printed(end), out);
-    reports::report(rt, asked, sheet, &out[..n], limits, end)
-}
+impl<R: Outside> Job<'_, R> {
+    fn check_whole(&self) -> Option<u32>
+        ensures { IfSome result Status }
+    {
+        let mut room = rooms::bytes::<SHEET>();
+        let sheet = self.sheet(&mut room)?;
+        let end = whole::of_check(examine(self.edition, sheet));
+        Some(self.told(sheet, end))
+    }
 
-// Runs a whole sheet, and reports, with what its profile says.
-fn run_whole(rt: &impl Outside, asked: Asked, edition: u32, sheet: &[u8], allowance: u64) -> u32
-    ensures { Status result }
-{
-    let mut words = rooms::table();
-    let mut cells = rooms::work();
-    let mut bytes = io::large_buffer();
-    let table: &mut [u32] = &mut words;
-    let work: &mut [u32] = &mut cells;
-    let out: &mut [u8] = &mut bytes;
-    let answer = grumpy::run(edition, sheet, table, work, out, allowance);
-    let most = whole::known(grumpy::profile(edition, sheet, table));
-    ran(
-        rt,
-        asked,
-        sheet,
-        out,
-        Limits { allowance, most },
-        whole::of_run(answer),
-    )
-}
+    // Runs a whole sheet, and reports, with what its profile says.
+    fn run_whole(&self) -> Option<u32>
+        ensures { IfSome result Status }
+    {
+        let mut room = rooms::bytes::<SHEET>();
+        let mut table = rooms::words::<TABLE>();
+        let mut work = rooms::words::<WORK>();
+        let mut out = io::large_buffer();
+        let allowance = u64::from(input::allowance(self.rt, self.asked.second)?);
+        let sheet = self.sheet(&mut room)?;
+        let answer = grumpy::run(
+            self.edition,
+            sheet,
+            &mut table,
+            &mut work,
+            &mut out,
+            allowance,
+        );
+        let most = whole::known(grumpy::profile(self.edition, sheet, &mut table));
+        Some(self.ran(
+            sheet,
+            &out,
+            Limits { allowance, most },
+            whole::of_run(answer),
+        ))
+    }
 
-fn check_whole(rt: &impl Outside, asked: Asked, edition: u32) -> u32
-    ensures { Status result }
-{
-    let mut bytes = rooms::sheet();
-    let Sheet::Bytes(length) = input::load(rt, asked.sheet, &mut bytes) else {
-        return reports::failed(rt, asked);
-    };
-    let n = input::within(length, &bytes);
-    let end = whole::of_check(examine(edition, &bytes[..n]));
-    reports::report(rt, asked, &bytes[..n], b"", unlimited(), end)
-}
-
-fn run(rt: &impl Outside, asked: Asked, edition: u32) -> u32
-    ensures { Status result }
-{
-    let mut bytes = rooms::sheet();
-    let Number::Of(allowance) = input::allowance(rt, asked.second) else {
-        return reports::failed(rt, asked);
-    };
-    let Sheet::Bytes(length) = input::load(rt, asked.sheet, &mut bytes) else {
-        return reports::failed(rt, asked);
-    };
-    let n = input::within(length, &bytes);
-    run_whole(rt, asked, edition, &bytes[..n], allowance as u64)
-}
-
-// Tells what came of writing; what was written stands first in `out`.
-pub fn wrote(
-    rt: &impl Outside,
-    asked: Asked,
-    edition: u32,
-    sheet: &[u8],
-    out: &[u8],
-    answer: Wrote,
-) -> u32
-    ensures { Status result }
-{
-    match answer {
-        Ok(long) => {
-            let n = input::within(long, out);
-            let end = whole::of_check(examine(edition, sheet));
-            reports::report(rt, asked, sheet, &out[..n], unlimited(), end)
+    // Tells what came of writing; what was written stands first in `out`.
+    pub fn wrote(&self, sheet: &[u8], out: &[u8], answer: Wrote) -> u32
+        ensures { Status result }
+    {
+        match answer {
+            Ok(long) => {
+                let end = whole::of_check(examine(self.edition, sheet));
+                let written = input::within(long, out);
+                reports::report(self.rt, self.asked, sheet, written, unlimited(), end)
+            }
+            Err(r) => self.told(sheet, End::Refused(Cause::Refused(r.why), r.place)),
         }
-        Err(r) => {
-            let end = End::Refused(Cause::Refused(r.why), r.place);
-            reports::report(rt, asked, sheet, b"", unlimited(), end)
+    }
+
+    // Writes a whole sheet out again, if it passes.
+    fn write(&self) -> Option<u32>
+        ensures { IfSome result Status }
+    {
+        let mut room = rooms::bytes::<SHEET>();
+        let mut table = rooms::words::<TABLE>();
+        let mut out = rooms::bytes::<SOURCE>();
+        let sheet = self.sheet(&mut room)?;
+        let answer = grumpy::write(self.edition, sheet, &mut table, &mut out);
+        Some(self.wrote(sheet, &out, answer))
+    }
+
+    // An edition that is neither 1 nor 2 is refused by the box.
+    fn perform(&self, task: Task) -> Option<u32>
+        ensures { IfSome result Status }
+    {
+        match task {
+            Task::Pay => self.pay(),
+            Task::Check => self.check_rates(),
+            Task::CheckWhole => self.check_whole(),
+            Task::Run => self.run_whole(),
+            Task::Write => self.write(),
+            Task::Store => self.store(),
+            Task::CheckStored => self.check_stored(),
+            Task::RunStored => self.run_stored(),
+            Task::Shift => self.shift(),
+            Task::Profile => self.profile_rates(),
+            Task::ProfileWhole => self.profile_whole(),
+            Task::Combine => combining::combine(self.rt, self.asked),
+            Task::Help => Some(help::help(self.rt)),
+            Task::Version => Some(help::version(self.rt)),
         }
     }
 }
 
-// Writes a whole sheet out again, if it passes.
-fn rewrite(rt: &impl Outside, asked: Asked, edition: u32, sheet: &[u8]) -> u32
-    ensures { Status result }
-{
-    let mut words = rooms::table();
-    let mut text = [0u8; SOURCE];
-    let table: &mut [u32] = &mut words;
-    let out: &mut [u8] = &mut text;
-    let answer = grumpy::write(edition, sheet, table, out);
-    wrote(rt, asked, edition, sheet, out, answer)
-}
-
-fn write(rt: &impl Outside, asked: Asked, edition: u32) -> u32
-    ensures { Status result }
-{
-    let mut bytes = rooms::sheet();
-    let Sheet::Bytes(length) = input::load(rt, asked.sheet, &mut bytes) else {
-        return reports::failed(rt, asked);
-    };
-    let n = input::within(length, &bytes);
-    rewrite(rt, asked, edition, &bytes[..n])
-}
-
-// An edition that is neither 1 nor 2 is refused by the box.
-fn perform(rt: &impl Outside, asked: Asked, task: Task, edition: u32) -> u32
-    ensures { Status result }
-{
-    match task {
-        Task::Pay => rates::pay(rt, asked, edition),
-        Task::Check => rates::examine_rates(rt, asked, edition, Called::Checked),
-        Task::CheckWhole => check_whole(rt, asked, edition),
-        Task::Run => run(rt, asked, edition),
-        Task::Write => write(rt, asked, edition),
-        Task::Store => storing::store(rt, asked, edition),
-        Task::CheckStored => storing::check(rt, asked, edition),
-        Task::RunStored => storing::run(rt, asked, edition),
-        Task::Shift => shifts::shift(rt, asked, edition),
-        Task::Profile => rates::examine_rates(rt, asked, edition, Called::Counted),
-        Task::ProfileWhole => profiling::count_whole(rt, asked, edition),
-        Task::Combine => combining::combine(rt, asked),
-        Task::Help => help::help(rt),
-        Task::Version => help::version(rt),
+// What is told where the words ask for no task.
+fn unclear(why: Unclear) -> &'static [u8] {
+    match why {
+        Unclear::NoName => b"slip: --report wants a file's name behind it\n",
+        Unclear::NoEdition => b"slip: --edition wants a number behind it, 1 or 2\n",
+        Unclear::Words =>
+            b"use: slip RATE-SHEET PICKS RATE, slip check [--whole] SHEET, slip profile [--whole] SHEET,
+     slip run SHEET [ALLOWANCE], slip write SHEET, slip store SHEET, slip check-stored FILE,
+     slip run-stored FILE [ALLOWANCE], slip shift BOOK LINES [ALLOWANCE], slip shift --combine REPORT ..
+",
     }
 }
 
-fn unclear(rt: &impl Outside, asked: Asked, text: &[u8]) -> u32
-    ensures { Status result }
-{
-    output::tell(rt, text);
-    reports::failed(rt, asked)
+// Is the file that is to be written one that is to be read? Then that is told. Where there is no sheet, the program's own
+// name stands for it.
+fn is_read(rt: &impl Outside, asked: Asked) -> bool {
+    if matches!(asked.task, Task::Combine) {
+        let so = arguments::is_plain(rt, asked.report);
+        return told_if(rt, so, b"slip: --report names one of the reports\n");
+    }
+    let so = input::same(rt, asked.sheet.or(Some(0)), asked.report);
+    told_if(rt, so, b"slip: --report names the sheet itself\n")
 }
 
 // Says a text where it is so.
@@ -176,52 +144,32 @@ fn told_if(rt: &impl Outside, so: bool, text: &[u8]) -> bool {
     so
 }
 
-// Is the file that is to be written one that is to be read? Then that is told.
-fn is_read(rt: &impl Outside, asked: Asked) -> bool {
-    let task = asked.task;
-    let report = asked.report;
-    match task {
-        Task::Combine => told_if(
-            rt,
-            arguments::is_plain(rt, report),
-            b"slip: --report names one of the reports\n",
-        ),
-        _ => told_if(
-            rt,
-            input::same(rt, asked.sheet, report),
-            b"slip: --report names the sheet itself\n",
-        ),
+// Does what the words ask for.
+fn done(rt: &impl Outside, asked: Asked) -> Option<u32>
+    ensures { IfSome result Status }
+{
+    let edition = input::edition(rt, asked)?;
+    match asked.settled() {
+        Ok(task) => Job { rt, asked, edition }.perform(task),
+        Err(why) => {
+            output::tell(rt, unclear(why));
+            None
+        }
     }
 }
 
 pub fn serve(rt: &impl Outside, asked: Asked) -> u32
     ensures { Status result }
 {
-    if asked.strange != 0 {
-        input::strange(rt, asked.strange);
+    if let Some(i) = asked.strange {
+        input::strange(rt, i);
         return reports::failed(rt, asked);
     }
     if is_read(rt, asked) {
         return 2;
     }
-    let Number::Of(edition) = input::edition(rt, asked) else {
-        return reports::failed(rt, asked);
-    };
-    match tasks::settled(asked) {
-        Wanted::Do(task) => perform(rt, asked, task, edition),
-        Wanted::NoName => unclear(rt, asked, b"slip: --report wants a file's name behind it\n"),
-        Wanted::NoEdition => unclear(
-            rt,
-            asked,
-            b"slip: --edition wants a number behind it, 1 or 2\n",
-        ),
-        Wanted::Unclear => unclear(
-            rt,
-            asked,
-            b"use: slip RATE-SHEET PICKS RATE, slip check [--whole] SHEET, slip profile [--whole] SHEET,
-     slip run SHEET [ALLOWANCE], slip write SHEET, slip store SHEET, slip check-stored FILE,
-     slip run-stored FILE [ALLOWANCE], slip shift BOOK LINES [ALLOWANCE], slip shift --combine REPORT ..
-",
-        ),
+    match done(rt, asked) {
+        Some(status) => status,
+        None => reports::failed(rt, asked),
     }
 }

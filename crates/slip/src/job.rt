@@ -1,0 +1,39 @@
+// What a task is done with: what slip reaches outside itself, what was asked for, and the edition.
+ghost use Rattle.std.specs.Prelude.{◌≤◌, length, IfSome};
+ghost use Rattle.desk.specs.Statuses.{Status};
+
+use desk::{Outside, input};
+use orders::asked::Asked;
+use wording::ends;
+use wording::ends::End;
+use wording::limits::{Limits, unlimited};
+
+pub struct Job<'a, R> {
+    pub rt: &'a R,
+    pub asked: Asked,
+    pub edition: u32,
+}
+
+impl<R: Outside> Job<'_, R> {
+    // Reads the sheet that the first plain word names; nothing where it cannot be read, which was told.
+    pub fn sheet<'b>(&self, bytes: &'b mut [u8]) -> Option<&'b [u8]>
+        ensures { IfSome result (λ sheet. length sheet.now ≤ length bytes.old) }
+    {
+        input::load(self.rt, self.asked.sheet, bytes)
+    }
+
+    // Tells what came of a sheet that nothing was printed of, and answers the status.
+    pub fn told(&self, sheet: &[u8], end: End) -> u32
+        ensures { Status result }
+    {
+        reports::report(self.rt, self.asked, sheet, b"", unlimited(), end)
+    }
+
+    // Tells what came of a run; what was printed stands first in `out`.
+    pub fn ran(&self, sheet: &[u8], out: &[u8], limits: Limits, end: End) -> u32
+        ensures { Status result }
+    {
+        let printed = input::within(ends::printed(end), out);
+        reports::report(self.rt, self.asked, sheet, printed, limits, end)
+    }
+}
