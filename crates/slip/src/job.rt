@@ -8,6 +8,7 @@ use wording::ends;
 use wording::ends::End;
 use wording::limits::{Limits, unlimited};
 
+#[derive(Drop)]
 pub struct Job<'a, R> {
     pub rt: &'a R,
     pub asked: Asked,
@@ -16,14 +17,14 @@ pub struct Job<'a, R> {
 
 impl<R: Outside> Job<'_, R> {
     // Reads the sheet that the first plain word names; nothing where it cannot be read, which was told.
-    pub fn sheet<'b>(&self, bytes: &'b mut [u8]) -> Option<&'b [u8]>
+    pub(crate) fn sheet<'b>(&self, bytes: &'b mut [u8]) -> Option<&'b [u8]>
         ensures { IfSome result (λ sheet. length sheet.now ≤ length bytes.old) }
     {
         input::load(self.rt, self.asked.sheet, bytes)
     }
 
     // Tells what came of a sheet that nothing was printed of, and answers the status.
-    pub fn told(&self, sheet: &[u8], end: End) -> u32
+    pub(crate) fn told(&self, sheet: &[u8], end: End) -> u32
         ensures { Status result }
     {
         reports::report(self.rt, self.asked, sheet, b"", unlimited(), end)

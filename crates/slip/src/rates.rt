@@ -90,8 +90,10 @@ impl<R: Outside> Job<'_, R> {
         let sheet = self.sheet(&mut room)?;
         let line = calls::call(0, 0);
         let call = line.bytes();
-        self.refused(sheet, call)
-            .or_else(|| Some(self.count_called(sheet, call)))
+        if let Some(status) = self.refused(sheet, call) {
+            return Some(status);
+        }
+        Some(self.count_called(sheet, call))
     }
 
     pub fn pay(&self) -> Option<u32>
@@ -103,7 +105,9 @@ impl<R: Outside> Job<'_, R> {
         let sheet = self.sheet(&mut room)?;
         let line = calls::call(picks, rate);
         let call = line.bytes();
-        self.refused(sheet, call)
-            .or_else(|| Some(self.run_called(sheet, call)))
+        if let Some(status) = self.refused(sheet, call) {
+            return Some(status);
+        }
+        Some(self.run_called(sheet, call))
     }
 }
