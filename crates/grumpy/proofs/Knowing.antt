@@ -1,16 +1,13 @@
 -- Whether a number names an edition, by what the code found for it.
-use mathlib.Core.Bool.{true, false}
-use mathlib.Core.Path.{◌≡◌, sym, ap, subst}
+use mathlib.Core.Path.{◌≡◌, sym, ap}
 use Prim.Native.Nat.{ℕ}
-use Rattle.language.specs.Edition.{is_some, is_known}
+use Rattle.language.specs.Edition as Language
+use Rattle.language.specs.Edition.{is_known}
+use Rattle.std.specs.Prelude.{Option, Some, None, is_some}
 use Rattle.tokens.specs.Editions.{Names}
 use Rattle.tokens.specs.declared.edition.Edition.{Edition}
-use Rattle.tokens.specs.declared.edition.Known.{Known}
 
-pub named_known : (n : ℕ) (k : Known) (e : Edition) → Names n k → k ≡ Known.Is e → true ≡ is_known n
+pub named_known : (n : ℕ) (k : Option Edition) → Names n k → is_some k ≡ is_known n
 unfolding is_known
-named_known n k e y z = sym (ap is_some (subst (Names n) z y))
-
-pub unnamed_unknown : (n : ℕ) (k : Known) → Names n k → k ≡ Known.None → false ≡ is_known n
-unfolding is_known
-unnamed_unknown n k y z = sym (ap is_some (subst (Names n) z y))
+named_known n (Some e) y = sym (ap Language.is_some y)
+named_known n None y = sym (ap Language.is_some y)

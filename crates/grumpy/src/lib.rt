@@ -33,7 +33,7 @@ use numbers::Refusal;
 use outlines::Outlined;
 use pairs::Spot;
 use sheets::{Form, Refused, Seen};
-use tokens::edition::{Known, named};
+use tokens::edition::named;
 use tokens::view::View;
 
 // A refusal that has no place is told at the front.
@@ -257,10 +257,7 @@ pub fn profile_pair(edition: u32, first: &[u8], second: &[u8], table: &mut [u32]
 pub fn knows(edition: u32) -> bool
     ensures { result ≡ is_known edition }
 {
-    match named(edition) {
-        Known::Is(_) => true,
-        Known::None => false,
-    }
+    named(edition).is_some()
 }
 
 // What two sheets have, without running them: whether their last expression is a number alone, and whether

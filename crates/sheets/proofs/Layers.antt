@@ -30,7 +30,8 @@ use Rattle.layout.proofs.Wiped.{wiped_tokens, wiped_program, wiped_without_rows,
 use Rattle.tokens.proofs.Agreeing.{but_cleared}
 use Rattle.tokens.specs.Answer as Tokens
 use Rattle.tokens.proofs.OneAnswer.{split_stands}
-use Rattle.tokens.specs.declared.answer.Split as split
+use Rattle.std.specs.Prelude.{Result, Ok, Err}
+use Rattle.tokens.specs.declared.answer.Unsplit as unsplit
 use Rattle.reader.specs.Findings as Reader
 use Rattle.reader.specs.Findings.{Standing}
 use Rattle.reader.specs.declared.Found as found
@@ -181,13 +182,13 @@ module _ {voc : Vocabulary} (laws : Laws voc) (source w w₁ : List ℕ) (long :
   laid_rest ts h e = but_cleared e ∙ wiped_tokens ts ts w 0 (omega arith)
 
   -- the scanner's table can be given to the reader
-  pub whole_standing : (r : split.Split) (n : ℕ) → Tokens.IsSplit voc source w w₁ r → r ≡ split.TheVariants.Tokens n → Standing w₁ n
+  pub whole_standing : (r : Result ℕ unsplit.Unsplit) (n : ℕ) → Tokens.IsSplit voc source w w₁ r → r ≡ Ok n → Standing w₁ n
   whole_standing r n y e =
       let x = subst (Tokens.IsSplit voc source w w₁) e y in
       record { tokens = x.tokens; stand = whole_stands x; long = rw (laid_long x.tokens x.laid) long }
 
   -- and what the reader leaves can be read for a place
-  pub whole_read : (r : split.Split) (n : ℕ) (w₂ : List ℕ) (v : Verdict) → Tokens.IsSplit voc source w w₁ r → r ≡ split.TheVariants.Tokens n
+  pub whole_read : (r : Result ℕ unsplit.Unsplit) (n : ℕ) (w₂ : List ℕ) (v : Verdict) → Tokens.IsSplit voc source w w₁ r → r ≡ Ok n
       → Read w₁ w₂ n v → (TABLE ≤ length w₂) × (n ≤ TOKENS)
   whole_read r n w₂ v y e z = let s = whole_standing r n y e in (rw z.long s.long, s.stand.few)
 
@@ -208,8 +209,8 @@ module _ {voc : Vocabulary} (laws : Laws voc) (source w w₁ : List ℕ) (long :
       subst (OfSource (from_text voc source) w₂) (sym e)
       (subst (Refused (from_text voc source) (refusal_meant y)) (sym (byte_stands voc source st i)) (by_tokens (given x) a))
 
-  pub examined_tokens : (r : split.Split) (n end : ℕ) (w₂ : List ℕ) (v : Verdict) (s : Seen) → Tokens.IsSplit voc source w w₁ r
-      → r ≡ split.TheVariants.Tokens n → Read w₁ w₂ n v → end ≡ length source → Placed w₂ n end v s → Examined (from_text voc source) w w₂ s
+  pub examined_tokens : (r : Result ℕ unsplit.Unsplit) (n end : ℕ) (w₂ : List ℕ) (v : Verdict) (s : Seen) → Tokens.IsSplit voc source w w₁ r
+      → r ≡ Ok n → Read w₁ w₂ n v → end ≡ length source → Placed w₂ n end v s → Examined (from_text voc source) w w₂ s
   examined_tokens q n end w₂ v s y e r l z = let x = subst (Tokens.IsSplit voc source w w₁) e y in record {
     told =
         of_tokens x w₂ (r.stands x.tokens (whole_stands x)) v s (r.told x.tokens (whole_stands x))
@@ -218,7 +219,7 @@ module _ {voc : Vocabulary} (laws : Laws voc) (source w w₁ : List ℕ) (long :
     long = r.long ∙ laid_long x.tokens x.laid;
   }
 
-  pub examined_flaw : (r : split.Split) (f : Flaw) (i : ℕ) → Tokens.IsSplit voc source w w₁ r → r ≡ split.TheVariants.Stopped f i
+  pub examined_flaw : (r : Result ℕ unsplit.Unsplit) (f : Flaw) (i : ℕ) → Tokens.IsSplit voc source w w₁ r → r ≡ Err (unsplit.TheVariants.Stopped f i)
       → Examined (from_text voc source) w w₁ (Seen.Refused (Refusal.Text f) i)
   examined_flaw r f i y e = let x = subst (Tokens.IsSplit voc source w w₁) e y in record {
     told = by_origin (flawed x.short x.flawed);
@@ -226,7 +227,7 @@ module _ {voc : Vocabulary} (laws : Laws voc) (source w w₁ : List ℕ) (long :
     long = laid_long x.flawed.tokens x.laid;
   }
 
-  pub examined_long : (r : split.Split) → Tokens.IsSplit voc source w w₁ r → r ≡ split.TheVariants.TooLong
+  pub examined_long : (r : Result ℕ unsplit.Unsplit) → Tokens.IsSplit voc source w w₁ r → r ≡ Err unsplit.TheVariants.TooLong
       → Examined (from_text voc source) w w₁ (Seen.Refused Refusal.LongSource 0)
   examined_long r y e =
       let x = subst (Tokens.IsSplit voc source w w₁) e y in

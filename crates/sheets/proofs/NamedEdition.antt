@@ -10,7 +10,7 @@ use Rattle.language.proofs.Answers.Editions.{Alike, passes_in, refused_in}
 use Rattle.numbers.specs.declared.Refusal.{Refusal}
 use Rattle.tokens.specs.Editions.{meant, Names}
 use Rattle.tokens.specs.declared.edition.Edition.{Edition}
-use Rattle.tokens.specs.declared.edition.Known.{Known}
+use Rattle.std.specs.Prelude.{Option, Some, None}
 use Rattle.sheets.specs.Sheets.{OfSource, Examined}
 use Rattle.sheets.specs.declared.Seen.{Seen}
 
@@ -28,11 +28,11 @@ module _ (number : ℕ) (o : Vocabulary → Origin ℕ) where
     of_known e (Seen.Refused y i) x = refused_in number alike e x
 
     -- a number that names one
-    pub examined_known : (k : Known) (e : Edition) (s : Seen) → Names number k → k ≡ Known.Is e → Examined (o (meant e)) w w₁ s
+    pub examined_known : (k : Option Edition) (e : Edition) (s : Seen) → Names number k → k ≡ Some e → Examined (o (meant e)) w w₁ s
         → Examined (in_edition number o) w w₁ s
     examined_known k e s y z x = record { told = of_known (subst (Names number) z y) s x.told; rest = x.rest; long = x.long }
 
   -- and one that names none, where what has no place is told at 0
-  pub examined_unknown : (w : List ℕ) (k : Known) → Names number k → k ≡ Known.None
+  pub examined_unknown : (w : List ℕ) (k : Option Edition) → Names number k → k ≡ None
       → Examined (in_edition number o) w w (Seen.Refused Refusal.NoEdition (in_edition number o).nowhere)
   examined_unknown w k y z = record { told = by_origin (unknown (subst (Names number) z y)); rest = refl; long = refl }

@@ -18,7 +18,8 @@ use Rattle.layout.proofs.TokenLaws.{lay_length}
 use Rattle.layout.proofs.Wiped.{wiped_tokens}
 use Rattle.stored.specs.Answer as Stored
 use Rattle.stored.proofs.Stands.{stored_stands}
-use Rattle.stored.specs.declared.Stored as stored
+use Rattle.std.specs.Prelude.{Result, Ok, Err}
+use Rattle.stored.specs.declared.Denied as denied
 use Rattle.tokens.proofs.Agreeing.{but_cleared}
 use Rattle.tokens.specs.Answer.{Laid}
 use Rattle.sheets.specs.Sheets.{wiped, OfTokens, Read, Near, lined_of, OfSource, Examined}
@@ -50,7 +51,7 @@ module _ {voc : Vocabulary} (laws : Laws voc) (input w w₁ : List ℕ) (long : 
   laid_rest : (ts : List Token) → length ts ≤ TOKENS → Laid ts w w₁ → wiped w₁ ≡ wiped w
   laid_rest ts h e = but_cleared e ∙ wiped_tokens ts ts w 0 (omega arith)
 
-  module _ (r : stored.Stored) (n : ℕ) (y : Stored.IsStored voc input w w₁ r) (e : r ≡ stored.TheVariants.Tokens n) where
+  module _ (r : Result ℕ denied.Denied) (n : ℕ) (y : Stored.IsStored voc input w w₁ r) (e : r ≡ Ok n) where
     whole : Stored.Whole voc input w w₁ n
     whole = subst (Stored.IsStored voc input w w₁) e y
 
@@ -84,7 +85,7 @@ module _ {voc : Vocabulary} (laws : Laws voc) (input w w₁ : List ℕ) (long : 
         long = x.long ∙ laid_long whole.tokens whole.laid;
       }
 
-  pub examined_denied : (r : stored.Stored) (z : Refusal) (i : ℕ) → Stored.IsStored voc input w w₁ r → r ≡ stored.TheVariants.Denied z i
+  pub examined_denied : (r : Result ℕ denied.Denied) (z : Refusal) (i : ℕ) → Stored.IsStored voc input w w₁ r → r ≡ Err (record { why = z; line = i })
       → Examined (from_stored voc input) w w₁ (Seen.Refused z i)
   examined_denied r z i y e = let x = subst (Stored.IsStored voc input w w₁) e y in record {
     told = by_origin x.denies;

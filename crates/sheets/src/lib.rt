@@ -18,9 +18,9 @@ ghost use Rattle.sheets.specs.Forms.{origin_of, place_of};
 use layout::Held;
 use numbers::Refusal;
 use reader::Found;
-use stored::Stored;
-use tokens::answer::Split;
-use tokens::edition::{Edition, Known, named};
+use stored::Denied;
+use tokens::answer::Unsplit;
+use tokens::edition::{Edition, named};
 use tokens::view::{Text, View};
 
 // Why something is not done, and where that is told.
@@ -119,13 +119,13 @@ fn examine_in(edition: Edition, first: &[u8], second: &[u8], view: View, table: 
         view,
     };
     match tokens::split(edition, &text, table) {
-        Split::Tokens(count) => {
+        Ok(count) => {
             let verdict = read(table, count);
             let end = text.len();
             placed(table, count, end, verdict)
         }
-        Split::Stopped(flaw, at) => Seen::Refused(Refusal::Text(flaw), at),
-        Split::TooLong => Seen::Refused(Refusal::LongSource, 0),
+        Err(Unsplit::Stopped(flaw, at)) => Seen::Refused(Refusal::Text(flaw), at),
+        Err(Unsplit::TooLong) => Seen::Refused(Refusal::LongSource, 0),
     }
 }
 
@@ -136,8 +136,8 @@ pub fn examine(edition: u32, first: &[u8], second: &[u8], view: View, table: &mu
         table.new result }
 {
     match named(edition) {
-        Known::Is(known) => examine_in(known, first, second, view, table),
-        Known::None => Seen::Refused(Refusal::NoEdition, 0),
+        Some(known) => examine_in(known, first, second, view, table),
+        None => Seen::Refused(Refusal::NoEdition, 0),
     }
 }
 
@@ -165,11 +165,11 @@ fn examine_stored_in(edition: Edition, input: &[u8], table: &mut [u32]) -> Seen
     ensures { Examined (from_stored (meant edition) input.now) table.old table.new result }
 {
     match stored::read(edition, input, table) {
-        Stored::Tokens(count) => {
+        Ok(count) => {
             let verdict = read(table, count);
             lined(verdict)
         }
-        Stored::Denied(why, line) => Seen::Refused(why, line),
+        Err(Denied { why, line }) => Seen::Refused(why, line),
     }
 }
 
@@ -179,8 +179,8 @@ pub fn examine_stored(edition: u32, input: &[u8], table: &mut [u32]) -> Seen
     ensures { Examined (stored_in edition input.now) table.old table.new result }
 {
     match named(edition) {
-        Known::Is(known) => examine_stored_in(known, input, table),
-        Known::None => Seen::Refused(Refusal::NoEdition, 0),
+        Some(known) => examine_stored_in(known, input, table),
+        None => Seen::Refused(Refusal::NoEdition, 0),
     }
 }
 

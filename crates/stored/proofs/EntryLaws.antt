@@ -13,7 +13,10 @@ use Rattle.language.specs.Sizes.{LARGEST}
 use Rattle.language.specs.Stored.{Lone}
 use Rattle.language.specs.Text.{Piece, Wrong, strange, opened, long, large, many, Flaw, Content, space, token}
 use Rattle.language.specs.Tokens.{Spelling, Vocabulary, Token}
-use Rattle.tokens.specs.Found.{IsToken}
+use Rattle.numbers.specs.declared.Flaw as Flaw_of
+use Rattle.std.specs.Prelude.{Result, Ok}
+use Rattle.tokens.specs.declared.pieces.Piece as Found_piece
+use Rattle.tokens.specs.Found.{IsToken, IsPiece}
 use Rattle.tokens.specs.Shown.{told}
 use Rattle.stored.specs.Lines.{LineTo}
 use Rattle.stored.specs.Entries.{OnLine, Amiss, no_token}
@@ -60,8 +63,12 @@ module _ {voc : Vocabulary} (laws : Laws voc) (s : Spelling) where
 -- ---- the line from p up to e
 
 module _ {voc : Vocabulary} (laws : Laws voc) {t : List ℕ} {p e : ℕ} (l : LineTo t p e) where
-  pub not_blank : {q : ℕ} → Piece voc (told (slice p e t)) 0 q space → Amiss voc t p not_one_token
+  not_blank : {q : ℕ} → Piece voc (told (slice p e t)) 0 q space → Amiss voc t p not_one_token
   not_blank x = no_token l.line (λ u h k. spaced laws (told (slice p e t)) x (all_of u h k))
+
+  pub not_space : {r : Result Found_piece.Piece Flaw_of.Flaw} {y : Found_piece.Piece} {q : ℕ} → IsPiece voc (told (slice p e t)) 0 r → r ≡ Ok y
+      → y ≡ Found_piece.TheVariants.Space q → Amiss voc t p not_one_token
+  not_space h x z = not_blank (rw (x, z) at h)
 
   pub not_all : {q k x n : ℕ} → IsToken voc (told (slice p e t)) 0 k q x → (q ≡ n → ⊥) → n ≡ length (told (slice p e t))
       → Amiss voc t p not_one_token

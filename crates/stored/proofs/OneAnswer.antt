@@ -12,18 +12,18 @@ use Rattle.numbers.specs.Meanings.{refusal_meant}
 use Rattle.tokens.proofs.Agreeing.{but_next, but_back}
 use Rattle.tokens.specs.Forks.{ButRows}
 use Rattle.stored.specs.Answer.{Whole, IsStored}
-use Rattle.stored.specs.declared.Stored as stored
-use Rattle.stored.specs.declared.Stored.TheVariants.{Tokens, Denied}
+use Rattle.std.specs.Prelude.{Result, Ok, Err}
+use Rattle.stored.specs.declared.Denied.{Denied}
 
 module _ {voc : Language.Vocabulary} (laws : Laws voc) (t w v v' : List ℕ) where
-  pub one_answer : (r r' : stored.Stored) → IsStored voc t w v r → IsStored voc t w v' r' → r ≡ r'
-  one_answer (Tokens n) (Tokens m) a b =
-      ap Tokens (a.count ∙ ap length ((stored_lawful laws t).one_list a.tokens b.tokens a.gives b.gives) ∙ sym b.count)
-  one_answer (Tokens n) (Denied z k) a b = absurd ((stored_lawful laws t).never_both a.tokens (refusal_meant z) k a.gives b.denies)
-  one_answer (Denied y l) (Tokens m) a b = absurd ((stored_lawful laws t).never_both b.tokens (refusal_meant y) l b.gives a.denies)
-  one_answer (Denied y l) (Denied z k) a b =
-      let e = (stored_lawful laws t).one_denial (refusal_meant y) (refusal_meant z) l k a.denies b.denies in
-      ap₂ (λ h i. Denied h i) (same_refusal y z e.0) e.1
+  pub one_answer : (r r' : Result ℕ Denied) → IsStored voc t w v r → IsStored voc t w v' r' → r ≡ r'
+  one_answer (Ok n) (Ok m) a b =
+      ap Ok (a.count ∙ ap length ((stored_lawful laws t).one_list a.tokens b.tokens a.gives b.gives) ∙ sym b.count)
+  one_answer (Ok n) (Err z) a b = absurd ((stored_lawful laws t).never_both a.tokens (refusal_meant z.why) z.line a.gives b.denies)
+  one_answer (Err y) (Ok m) a b = absurd ((stored_lawful laws t).never_both b.tokens (refusal_meant y.why) y.line b.gives a.denies)
+  one_answer (Err y) (Err z) a b =
+      let e = (stored_lawful laws t).one_denial (refusal_meant y.why) (refusal_meant z.why) y.line z.line a.denies b.denies in
+      ap₂ (λ h i. Err (record { why = h; line = i })) (same_refusal y.why z.why e.0) e.1
 
   pub one_table : {n m : ℕ} → Whole voc t w v n → Whole voc t w v' m → ButRows v v'
   one_table a b =

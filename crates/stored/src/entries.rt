@@ -30,9 +30,13 @@ fn token_on(edition: Edition, stored: &[u8], at: usize, end: usize) -> Result<En
         view: View::Line { from: at, to: end },
     };
     match piece_at(edition, &text, 0) {
-        Ok(Piece::Token { kind, end: size, worth }) if size == text.len() => {
-            Ok(Entry { kind, worth, end })
-        }
+        Ok(
+            Piece::Token {
+                kind,
+                end: size,
+                worth,
+            },
+        ) if size == text.len() => Ok(Entry { kind, worth, end }),
         _ => Err(Refusal::NotOneToken),
     }
 }

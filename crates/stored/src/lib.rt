@@ -29,7 +29,12 @@ pub struct Denied {
 
 // The lines behind the count. They are all looked at, also where they are more than were counted or than
 // the table has room for: a faulty line is told before a wrong count, and that before too many bytes.
-fn tokens_of(edition: Edition, stored: &[u8], table: &mut [u32], counted: usize) -> Result<usize, Denied>
+fn tokens_of(
+    edition: Edition,
+    stored: &[u8],
+    table: &mut [u32],
+    counted: usize,
+) -> Result<usize, Denied>
     requires { Counted stored.now table.old counted }
     ensures { IsStored (meant edition) stored.now table.old table.new result }
 {
@@ -46,7 +51,10 @@ fn tokens_of(edition: Edition, stored: &[u8], table: &mut [u32], counted: usize)
                 at = end + 1;
             }
             Err(why) => {
-                return Err(Denied { why, line: count + 2 });
+                return Err(Denied {
+                    why,
+                    line: count + 2,
+                });
             }
         }
     }

@@ -6,12 +6,12 @@ use Rattle.language.proofs.Answers.Editions.{text_alike}
 use Rattle.sheets.proofs.NamedEdition.{examined_known, examined_unknown}
 use Rattle.sheets.proofs.examine.Goals as goal
 
-pub returns-in-Is : goal.returns-in-Is
-returns-in-Is c =
+pub returns-in-Some : goal.returns-in-Some
+returns-in-Some c =
     let a = c.args in
     let source = shown a.first.now a.second.now a.view in
     examined_known a.edition (λ (v : Vocabulary). from_text v source) (text_alike source) _ _ c.named.result _ _ c.named.ensures
-    c.in-Is.is
+    c.in-Some.is
     c.examine_in.ensures
 
 pub returns-in-None : goal.returns-in-None

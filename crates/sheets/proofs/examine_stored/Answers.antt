@@ -5,11 +5,11 @@ use Rattle.language.proofs.Stored.Editions.{stored_alike}
 use Rattle.sheets.proofs.NamedEdition.{examined_known, examined_unknown}
 use Rattle.sheets.proofs.examine_stored.Goals as goal
 
-pub returns-in-Is : goal.returns-in-Is
-returns-in-Is c =
+pub returns-in-Some : goal.returns-in-Some
+returns-in-Some c =
     let a = c.args in
     examined_known a.edition (λ (v : Vocabulary). from_stored v a.input.now) (stored_alike a.input.now) _ _ c.named.result _ _
-    c.named.ensures c.in-Is.is
+    c.named.ensures c.in-Some.is
     c.examine_stored_in.ensures
 
 pub returns-in-None : goal.returns-in-None

@@ -13,21 +13,18 @@ loop-at-init c =
 
 pub keep-requires : goal.keep-requires
 keep-requires c =
-    let a = c.args in
-    let entry = subst (IsEntry (meant a.edition) a.stored.now c.loop-at.at) c.in-Token.is c.entry_at.ensures in
+    let entry = rw c.in-Ok.field-0-is at c.in-Ok.ensures in
     reached_keepable c.loop-at.invariant (laws_of c.args.edition) entry
 
 pub loop-at-preserved : goal.loop-at-preserved
 loop-at-preserved c =
-    let a = c.args in
-    let entry = subst (IsEntry (meant a.edition) a.stored.now c.loop-at.at) c.in-Token.is c.entry_at.ensures in
+    let entry = rw c.in-Ok.field-0-is at c.in-Ok.ensures in
     reached_next c.loop-at.invariant (laws_of c.args.edition) entry c.keep.ensures
 
-pub returns-in-Faulty : goal.returns-in-Faulty
-returns-in-Faulty c =
-    let a = c.args in
+pub returns-in-Err : goal.returns-in-Err
+returns-in-Err c =
     reached_amiss c.begin.ensures.rest c.loop-at.invariant c.loop-at-test.true
-    (subst (IsEntry (meant a.edition) a.stored.now c.loop-at.at) c.in-Faulty.is c.entry_at.ensures)
+    c.in-Err.ensures
 
 pub returns-then-count-counted : goal.returns-then-count-counted
 returns-then-count-counted c =
