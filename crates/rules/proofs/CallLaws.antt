@@ -19,7 +19,6 @@ use Rattle.layout.specs.Table.{TYPE, ARITY, RESULT, row_word}
 use Rattle.layout.specs.Decode.{ParamsAt, params_none, params_more}
 use Rattle.rules.specs.Asked.{Typing, suits, Matches, AsksCall}
 use Rattle.numbers.specs.declared.Reason.TheVariants.{NoFunction}
-use Rattle.rules.specs.declared.Fault.{Fault}
 use Rattle.rules.specs.declared.sight.Callee.{Callee}
 use Rattle.rules.specs.declared.sight.Taker.TheVariants as Taker
 use Rattle.rules.proofs.TellLaws.{fault_is, tells_from}

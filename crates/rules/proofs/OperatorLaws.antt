@@ -21,7 +21,6 @@ use Rattle.layout.specs.Types.{REF, FULL}
 use Rattle.layout.specs.Rows.{unary_kind, binary_kind}
 use Rattle.rules.specs.Asked.{Typing, Tells, Prefixed, Between, as_arithmetic, operand, result, Operand, Result}
 use Rattle.numbers.specs.declared.Reason.TheVariants.{WrongOperands}
-use Rattle.rules.specs.declared.Fault.{Fault}
 use Rattle.rules.proofs.TellLaws.{type_is, fault_is, tells_as}
 
 -- ---- types by their numbers

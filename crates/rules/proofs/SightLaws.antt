@@ -1,16 +1,11 @@
 -- A variable is sought from the last to the first, step by step.
 use mathlib.Core.List.{List}
 use Rattle.std.specs.Prelude.{None, Some}
-use mathlib.Core.Path.{◌≡◌, refl, sym, ap, subst, ◌∙◌}
-use Prim.Native.Nat.{ℕ, suc, ◌+◌, ◌≤◌, ◌<◌}
-use borrow.Author.Tests.{eq-eqb, ne_eqb, lt-ltb, le-ltb}
-use Rattle.language.specs.Sizes.{NODES}
-use Rattle.language.specs.Trees.{int}
-use Rattle.language.specs.Meaning.{type_number}
-use Rattle.layout.specs.Table.{TYPE, ARITY, row_word, variable_name, variable_type}
-use Rattle.rules.specs.Sight.{find_variable, Rowed, wanted_in, Readable, expected_in}
-use Rattle.rules.specs.declared.sight.Callee.{Callee}
-use Rattle.rules.specs.declared.sight.Taker.{Taker}
+use mathlib.Core.Path.{◌≡◌, refl, sym}
+use Prim.Native.Nat.{ℕ, suc}
+use borrow.Author.Tests.{eq-eqb, ne_eqb}
+use Rattle.layout.specs.Table.{variable_name, variable_type}
+use Rattle.rules.specs.Sight.{find_variable}
 
 module _ (w : List ℕ) (x : ℕ) {i k : ℕ} (last : i ≡ suc k) where
   -- the last variable is the one, or it is one of those before

@@ -7,8 +7,8 @@ ghost use Rattle.rules.specs.Asked.{Children, Constant, AsksOne, AsksTwo, AsksIf
 ghost use Rattle.rules.specs.Asked.{Between, Alike, Assigns, Follows, Repeats, Matches, Operand, Result};
 ghost use Rattle.rules.specs.Asked.{Bounded, AsksFor};
 
-use crate::{Fault, need};
 use crate::sight::Callee;
+use crate::{Fault, need};
 use language::kinds;
 use layout::{rows, types};
 use numbers::Reason;
@@ -115,7 +115,11 @@ fn operand(kind: u32, first: u32) -> u32
 fn result(kind: u32, first: u32) -> u32
     ensures { Result kind first result }
 {
-    if kind < kinds::AND { first } else { types::BOOL }
+    if kind < kinds::AND {
+        first
+    } else {
+        types::BOOL
+    }
 }
 
 // What is assigned to a cell must have the type of what the cell holds.
@@ -135,7 +139,11 @@ fn binary(kind: u32, first: u32, second: u32, at: u32) -> Result<u32, Fault>
         return assigned(first, second, at);
     }
     let wanted = operand(kind, first);
-    need(first == wanted && second == wanted, Reason::WrongOperands, at)?;
+    need(
+        first == wanted && second == wanted,
+        Reason::WrongOperands,
+        at,
+    )?;
     Ok(result(kind, first))
 }
 

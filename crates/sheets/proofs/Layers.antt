@@ -14,7 +14,6 @@ use Rattle.language.specs.Answers.{at, too_long, flawed, TextGives, from_text, D
 use Rattle.language.proofs.Text.Marks.{Laws}
 use Rattle.numbers.specs.Meanings.{reason_meant, refusal_meant}
 use Rattle.numbers.specs.declared.Flaw.{Flaw}
-use Rattle.numbers.specs.declared.Reason.{Reason}
 use Rattle.numbers.specs.declared.Refusal.{Refusal}
 use Rattle.layout.specs.Table.{token_place, without_rows, without_variables}
 use Rattle.layout.specs.Names.{Stand}

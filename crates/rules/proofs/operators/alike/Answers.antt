@@ -1,8 +1,6 @@
 use Rattle.language.specs.Trees.{TyDiscrete}
-use mathlib.Core.Path.{sym, ap, ◌∙◌}
-use Rattle.std.specs.Prelude.{Err}
 use Rattle.language.proofs.Executable.Checks.{told_some, told_none}
-use Rattle.rules.proofs.TellLaws.{type_is, fault_is, fault_told_as}
+use Rattle.rules.proofs.TellLaws.{type_is, fault_told_as}
 use Rattle.rules.proofs.OperatorLaws.{is_type, isnt_type, if_is, if_not}
 use Rattle.rules.proofs.operators.alike.Goals as goal
 

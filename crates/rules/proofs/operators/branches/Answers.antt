@@ -1,7 +1,7 @@
 use mathlib.Core.Path.{refl}
 use Rattle.language.specs.Meaning.{type_number}
 use Rattle.language.specs.Trees.{bool, TyDiscrete}
-use Rattle.language.proofs.Executable.Checks.{after_ok, need_yes, need_no}
+use Rattle.language.proofs.Executable.Checks.{after_ok}
 use Rattle.language.proofs.Executable.Checker.{infer}
 use Rattle.rules.specs.Asked.{tells_type}
 use Rattle.rules.proofs.TellLaws.{fault_need, tells_need, tells_from}

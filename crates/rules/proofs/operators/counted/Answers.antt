@@ -1,7 +1,6 @@
 use mathlib.Core.Path.{refl}
 use Rattle.language.specs.Meaning.{type_number}
 use Rattle.language.specs.Trees.{unit, TyDiscrete}
-use Rattle.language.specs.Types.{Bounds}
 use Rattle.language.proofs.Executable.Checks.{after_ok}
 use Rattle.language.proofs.Executable.Checker.{infer}
 use Rattle.rules.specs.Asked.{tells_type}
