@@ -1,6 +1,7 @@
 -- From the answers of the parts to the answer of the whole: what every way through a reader's code has in common.
 use mathlib.Core.List.{List}
 use mathlib.Core.Path.{◌≡◌, refl, sym, subst, ◌∙◌}
+use Rattle.std.specs.Prelude.{Ok, Err}
 use Prim.Native.Nat.{ℕ, ◌+◌, ◌≤◌, ◌<◌}
 use native.Mathlib.Omega.{arith}
 use Rattle.language.specs.Tokens.{Token}
@@ -10,7 +11,8 @@ use Rattle.layout.specs.Table.{put_row, without_rows}
 use Rattle.layout.specs.Names.{Stand}
 use Rattle.layout.specs.Rows.{below, lay}
 use Rattle.phrases.specs.Parts.{Told, On, Answer, Yields, Written, Topped}
-use Rattle.phrases.specs.declared.parts.Part.{Part}
+use Rattle.phrases.specs.declared.parts.Tree.{Tree}
+use Rattle.phrases.specs.Words.{Part, tree_at, none_at}
 use Rattle.phrases.proofs.Standing.{stand_lay}
 
 -- an answer that is known
@@ -23,8 +25,13 @@ pub back : {T : Told Exp} {count n f lo hi : ℕ} {w w' : List ℕ} {g h : Part}
     → Answer T count w n f lo hi g w'
 back a e = known a (sym e)
 
+-- where the last part was a tree, a row was written behind it
+pub written : (put : List ℕ → ℕ → ℕ → List ℕ) (behind : ℕ → ℕ) {g h : Part} {w w' : List ℕ} {t : Tree} → g ≡ Ok t
+    → Topped put behind g w h w' → Written t.free (behind t.next) (put w t.free t.root) w h w'
+written put behind {h = h} {w = w} {w' = w'} e x = subst (λ (z : Part). Topped put behind z w h w') e x
+
 -- where a tree was read the table stands for the same tokens
-pub after : {T : Told Exp} {count n f lo hi r m k : ℕ} {w w₁ : List ℕ} → Answer T count w n f lo hi (Part.Tree r m k) w₁
+pub after : {T : Told Exp} {count n f lo hi r m k : ℕ} {w w₁ : List ℕ} → Answer T count w n f lo hi (tree_at r m k) w₁
     → (ts : List Token) → Stand w count ts → Stand w₁ count ts
 after {f = f} a ts s = let x = a.told ts s in stand_lay x.tree f x.laid s
 
@@ -33,18 +40,18 @@ module _ {count n f lo hi : ℕ} {w w₁ : List ℕ} where
 
   -- a token is wrong
   pub fails : {T : Told Exp} {e : ℕ} → ((ts : List Token) → Stand w count ts → T ts (failed e)) → without_rows w₁ ≡ without_rows w
-      → Answer T count w n f lo hi (Part.None e) w₁
+      → Answer T count w n f lo hi (none_at e) w₁
   fails h c = record { told = h; ahead = tt; clear = c }
 
   -- the first part failed
-  pub fails_first : {T U : Told Exp} {n₁ l₁ h₁ e : ℕ} → Answer U count w n₁ f l₁ h₁ (Part.None e) w₁
-      → ((ts : List Token) → Stand w count ts → U ts (failed e) → T ts (failed e)) → Answer T count w n f lo hi (Part.None e) w₁
+  pub fails_first : {T U : Told Exp} {n₁ l₁ h₁ e : ℕ} → Answer U count w n₁ f l₁ h₁ (none_at e) w₁
+      → ((ts : List Token) → Stand w count ts → U ts (failed e) → T ts (failed e)) → Answer T count w n f lo hi (none_at e) w₁
   fails_first a h = record { told = λ ts s. h ts s (a.told ts s); ahead = tt; clear = a.clear }
 
   -- the token behind the first part is wrong
-  pub fails_behind : {T U : Told Exp} {n₁ l₁ h₁ r m k : ℕ} → Answer U count w n₁ f l₁ h₁ (Part.Tree r m k) w₁
+  pub fails_behind : {T U : Told Exp} {n₁ l₁ h₁ r m k : ℕ} → Answer U count w n₁ f l₁ h₁ (tree_at r m k) w₁
       → ((ts : List Token) → Stand w count ts → Stand w₁ count ts → (x : Exp) → U ts (got x m) → T ts (failed m))
-      → Answer T count w n f lo hi (Part.None m) w₁
+      → Answer T count w n f lo hi (none_at m) w₁
   fails_behind a h = record {
     told = λ ts s. h ts s (after a ts s) (a.told ts s).tree (a.told ts s).told;
     ahead = tt;
@@ -53,9 +60,9 @@ module _ {count n f lo hi : ℕ} {w w₁ : List ℕ} where
 
   -- the second part failed
   pub fails_second : {T U W : Told Exp} {n₁ l₁ h₁ n₂ l₂ h₂ r m k e : ℕ} {w₂ : List ℕ}
-      → Answer U count w n₁ f l₁ h₁ (Part.Tree r m k) w₁ → Answer W count w₁ n₂ k l₂ h₂ (Part.None e) w₂
+      → Answer U count w n₁ f l₁ h₁ (tree_at r m k) w₁ → Answer W count w₁ n₂ k l₂ h₂ (none_at e) w₂
       → ((ts : List Token) → Stand w count ts → (x : Exp) → U ts (got x m) → W ts (failed e) → T ts (failed e))
-      → Answer T count w n f lo hi (Part.None e) w₂
+      → Answer T count w n f lo hi (none_at e) w₂
   fails_second a b h = record {
     told = λ ts s. h ts s (a.told ts s).tree (a.told ts s).told (b.told ts (after a ts s));
     ahead = tt;
@@ -65,9 +72,9 @@ module _ {count n f lo hi : ℕ} {w w₁ : List ℕ} where
   -- ---- what was read is the whole
 
   -- a tree, by the token behind it
-  pub keeps : {T U : Told Exp} {l₁ h₁ r m k : ℕ} → Answer U count w n f l₁ h₁ (Part.Tree r m k) w₁ → On n f lo hi r m k
+  pub keeps : {T U : Told Exp} {l₁ h₁ r m k : ℕ} → Answer U count w n f l₁ h₁ (tree_at r m k) w₁ → On n f lo hi r m k
       → ((ts : List Token) → Stand w count ts → Stand w₁ count ts → (x : Exp) → U ts (got x m) → T ts (got x m))
-      → Answer T count w n f lo hi (Part.Tree r m k) w₁
+      → Answer T count w n f lo hi (tree_at r m k) w₁
   keeps a o h = record {
     told = λ ts s.
         let x = a.told ts s in
@@ -79,12 +86,12 @@ module _ {count n f lo hi : ℕ} {w w₁ : List ℕ} where
   -- any answer, by the token before it
   pub same : {T U : Told Exp} (g : Part) → Answer U count w n f lo hi g w₁
       → ((ts : List Token) → Stand w count ts → (r : Result Exp) → U ts r → T ts r) → Answer T count w n f lo hi g w₁
-  same (Part.Tree r m k) a h = record {
+  same (Ok t) a h = record {
     told = λ ts s. let x = a.told ts s in record { tree = x.tree; told = h ts s _ x.told; top = x.top; laid = x.laid };
     ahead = a.ahead;
     clear = a.clear;
   }
-  same (Part.None e) a h = record { told = λ ts s. h ts s _ (a.told ts s); ahead = tt; clear = a.clear }
+  same (Err e) a h = record { told = λ ts s. h ts s _ (a.told ts s); ahead = tt; clear = a.clear }
 
 -- ---- a node
 
@@ -113,22 +120,22 @@ module _ {T U : Told Exp} {count n f lo hi n₂ k l₂ h₂ : ℕ} {w v w₂ w�
   pub tops : (g : Part) → ((ts : List Token) → Stand w count ts → Stand v count ts × Grows (T ts) (U ts) put behind w f v k)
       → without_rows v ≡ without_rows w → Answer U count v n₂ k l₂ h₂ g w₂ → Topped put behind g w₂ h w₃
       → ((r m k₂ : ℕ) → On n₂ k l₂ h₂ r m k₂ → On n f lo hi k₂ (behind m) (k₂ + 1)) → Answer T count w n f lo hi h w₃
-  tops (Part.Tree r m k₂) q c a x o = rw x.answer (record {
+  tops (Ok g) q c a x o = rw x.answer (record {
     told = λ ts s.
         let y = (q ts s).1 in
         let z = a.told ts (q ts s).0 in
         let b = a.ahead in
-        let e₁ : r ≡ k + below z.tree = z.top in
-        let e₂ : k₂ ≡ k + below z.tree + 1 = omega arith in
+        let e₁ : g.root ≡ k + below z.tree = z.top in
+        let e₂ : g.free ≡ k + below z.tree + 1 = omega arith in
         let u₁ : w₂ ≡ lay v k z.tree = z.laid in
         let u₂ = x.laid in
         let u₃ = y.laid z.tree in
-        record { tree = y.build z.tree; told = y.told z.tree m z.told; top = omega (arith, y.rows z.tree); laid = cc };
-    ahead = o r m k₂ a.ahead;
+        record { tree = y.build z.tree; told = y.told z.tree g.next z.told; top = omega (arith, y.rows z.tree); laid = cc };
+    ahead = o g.root g.next g.free a.ahead;
     clear = x.clear ∙ a.clear ∙ c;
   })
-  tops (Part.None e) q c a x o = rw (x.0, x.1) (record {
-    told = λ ts s. (q ts s).1.lost e (a.told ts (q ts s).0);
+  tops (Err e) q c a x o = rw (x.0, x.1) (record {
+    told = λ ts s. (q ts s).1.lost e.at (a.told ts (q ts s).0);
     ahead = tt;
     clear = a.clear ∙ c;
   })
@@ -154,7 +161,7 @@ pub over_two : {T U W : Told Exp} {count n f lo hi n₁ l₁ h₁ n₂ l₂ h₂
     (f + below x + 1 + below y) 0))
     → ((ts : List Token) → Stand w count ts → Stand w₁ count ts → (x : Exp) → U ts (got x m)
     → ((y : Exp) (l : ℕ) → W ts (got y l) → T ts (got (build ts x y) l)) × ((e : ℕ) → W ts (failed e) → T ts (failed e)))
-    → Answer U count w n₁ f l₁ h₁ (Part.Tree r m k) w₁ → Answer W count w₁ n₂ k l₂ h₂ g w₂
+    → Answer U count w n₁ f l₁ h₁ (tree_at r m k) w₁ → Answer W count w₁ n₂ k l₂ h₂ g w₂
     → Topped (λ z k r₂. put_row z k kind own r r₂ 0) (λ l. l) g w₂ h w₃
     → ((r₂ l k₂ : ℕ) → On n₂ k l₂ h₂ r₂ l k₂ → On n f lo hi k₂ l (k₂ + 1)) → Answer T count w n f lo hi h w₃
 over_two {count = count} {f = f} {r = r} {m = m} {k = k} {w = w} {w₁ = w₁} {g = g} kind own build q t a b x o =

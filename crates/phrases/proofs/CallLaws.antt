@@ -1,6 +1,7 @@
 -- The ways through `named` and `arguments`.
 use mathlib.Core.List.{List}
 use mathlib.Core.Path.{◌≡◌, refl, ap, subst, ◌∙◌}
+use Rattle.std.specs.Prelude.{Ok, Err}
 use Prim.Native.Nat.{ℕ, ◌+◌, ◌<◌}
 use native.Mathlib.Omega.{arith}
 use Rattle.language.specs.Tokens.{NAME, COMMA, LPAR, RPAR, spelling_at}
@@ -13,7 +14,7 @@ use Rattle.language.proofs.Executable.SettlesExpressions as S
 use Rattle.layout.specs.Table.{kind_of, put_row}
 use Rattle.layout.specs.Rows.{CALL, ARGUMENT, below, under, head, lay, lay_all}
 use Rattle.phrases.specs.Parts.{Yields, YieldsAll, Written, Topped, Seq, Atom, Closed}
-use Rattle.phrases.specs.declared.parts.Part.{Part}
+use Rattle.phrases.specs.Words.{Part, tree_at, none_at}
 use Rattle.phrases.proofs.Standing.{at, not_at}
 use Rattle.phrases.proofs.Answering.{after, single}
 use Rattle.phrases.proofs.Listing.{lists_last, lists_more}
@@ -49,11 +50,11 @@ module _ {count n f : ℕ} {w w₁ : List ℕ} (h : kind_of w count n ≡ NAME) 
         → YieldsAll (Closed (n + 2)) n count w (n + 2) f g w₁
         → Topped (λ u x y. put_row u x CALL n y 0 0) (λ l. l) g w₁ z w₂ → Yields (Atom n) count w n f z w₂
     unfolding lay below
-    call_some (Part.Tree r m k) j a x = rw x.answer (record {
+    call_some (Ok g) j a x = rw x.answer (record {
       told = λ ts s.
           let y = a.told ts s in
-          let e₁ : r ≡ head f y.args = y.top in
-          let e₂ : k ≡ f + under y.args = y.past in
+          let e₁ : g.root ≡ head f y.args = y.top in
+          let e₂ : g.free ≡ f + under y.args = y.past in
           let l₁ : w₁ ≡ lay_all w f n y.args = y.laid in
           let l₂ = x.laid in
           record {
@@ -65,7 +66,7 @@ module _ {count n f : ℕ} {w w₁ : List ℕ} (h : kind_of w count n ≡ NAME) 
       ahead = let o = a.ahead in record { least = omega arith; most = o.most; owned = omega arith; end = refl };
       clear = x.clear ∙ a.clear;
     })
-    call_some (Part.None e) j a x = rw (x.0, x.1) (record {
+    call_some (Err e) j a x = rw (x.0, x.1) (record {
       told = λ ts s. S.atom_call (at n s h) (at (n + 1) s i) (S.actuals_some (not_at (n + 2) s j) (a.told ts s));
       ahead = tt;
       clear = a.clear;
@@ -75,12 +76,12 @@ module _ {count n f : ℕ} {w w₁ : List ℕ} (h : kind_of w count n ≡ NAME) 
 
 module _ {count n f i : ℕ} {w w₁ : List ℕ} where
   -- no first argument
-  pub args_none : {e : ℕ} → Yields (Seq n) count w n f (Part.None e) w₁ → YieldsAll (Closed n) i count w n f (Part.None e) w₁
+  pub args_none : {e : ℕ} → Yields (Seq n) count w n f (none_at e) w₁ → YieldsAll (Closed n) i count w n f (none_at e) w₁
   args_none a = record { told = λ ts s. S.closed_failed (a.told ts s); ahead = tt; clear = a.clear }
 
-  module _ {r m k : ℕ} (a : Yields (Seq n) count w n f (Part.Tree r m k) w₁) where
+  module _ {r m k : ℕ} (a : Yields (Seq n) count w n f (tree_at r m k) w₁) where
     -- an argument, and neither `)` nor `,`
-    pub args_other : (kind_of w₁ count m ≡ RPAR → ⊥) → (kind_of w₁ count m ≡ COMMA → ⊥) → YieldsAll (Closed n) i count w n f (Part.None m) w₁
+    pub args_other : (kind_of w₁ count m ≡ RPAR → ⊥) → (kind_of w₁ count m ≡ COMMA → ⊥) → YieldsAll (Closed n) i count w n f (none_at m) w₁
     args_other h j = record {
       told = λ ts s. let v = after a ts s in S.closed_other (a.told ts s).told (not_at m v j) (not_at m v h);
       ahead = tt;

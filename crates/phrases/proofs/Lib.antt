@@ -1,5 +1,4 @@
 -- What is true of reading phrases: laws of numbers, of tokens and of rows, then a file for the ways through each group of readers.
-mod Topping
 mod Words
 pub mod Standing
 pub mod Moving

@@ -1,6 +1,7 @@
 -- From the answers of the parts to a list of them: the arguments of the call at token i, or the bounds of the `for` there.
 use mathlib.Core.List.{List}
 use mathlib.Core.Path.{◌≡◌, sym, subst, ◌∙◌}
+use Rattle.std.specs.Prelude.{Ok, Err}
 use Prim.Native.Nat.{ℕ, ◌+◌}
 use native.Mathlib.Omega.{arith}
 use Rattle.language.specs.Tokens.{Token}
@@ -10,7 +11,7 @@ use Rattle.layout.specs.Table.{put_row}
 use Rattle.layout.specs.Names.{Stand}
 use Rattle.layout.specs.Rows.{ARGUMENT, below, under, head, lay, lay_all}
 use Rattle.phrases.specs.Parts.{Told, On, Answer, YieldsAll, Written, Topped}
-use Rattle.phrases.specs.declared.parts.Part.{Part}
+use Rattle.phrases.specs.Words.{Part, tree_at}
 use Rattle.phrases.proofs.Standing.{stand_lay_all}
 use Rattle.phrases.proofs.Answering.{after}
 
@@ -24,11 +25,11 @@ module _ {T : Told Exps} {i count n f : ℕ} {w w' : List ℕ} where
   back_all a e = known_all a (sym e)
 
   -- where a list was read the table stands for the same tokens
-  pub after_all : {r m k : ℕ} → YieldsAll T i count w n f (Part.Tree r m k) w' → (ts : List Token) → Stand w count ts → Stand w' count ts
+  pub after_all : {r m k : ℕ} → YieldsAll T i count w n f (tree_at r m k) w' → (ts : List Token) → Stand w count ts → Stand w' count ts
   after_all a ts s = let x = a.told ts s in stand_lay_all x.args f i x.laid s
 
 module _ {T : Told Exps} {U : Told Exp} {i count n f n₁ l₁ h₁ r m k : ℕ} {w w₁ : List ℕ}
-    (a : Answer U count w n₁ f l₁ h₁ (Part.Tree r m k) w₁) where
+    (a : Answer U count w n₁ f l₁ h₁ (tree_at r m k) w₁) where
   -- a list of one
   pub lists_last : {l : ℕ} {w₂ : List ℕ} {g : Part}
       → ((ts : List Token) → Stand w₁ count ts → (x : Exp) → U ts (got x m) → T ts (got (more x last) l))
@@ -54,7 +55,7 @@ module _ {T : Told Exps} {U : Told Exp} {i count n f n₁ l₁ h₁ r m k : ℕ}
       → YieldsAll W i count w₁ n₂ k g w₂ → Topped (λ u x y. put_row u x ARGUMENT i r y 0) (λ l. l) g w₂ z w₃
       → ((q l j : ℕ) → On n₂ k (n₂ + 1) (count + 1) q l j → On n f (n + 1) (count + 1) j l (j + 1)) → YieldsAll T i count w n f z w₃
   unfolding lay below head
-  lists_more {w₂ = w₂} (Part.Tree r₂ m₂ k₂) h b x o = rw x.answer (record {
+  lists_more {w₂ = w₂} (Ok g) h b x o = rw x.answer (record {
     told = λ ts s.
         let v = after a ts s in
         let y = a.told ts s in
@@ -62,23 +63,23 @@ module _ {T : Told Exps} {U : Told Exp} {i count n f n₁ l₁ h₁ r m k : ℕ}
         let d = a.ahead in
         let e₁ : r ≡ f + below y.tree = y.top in
         let e₂ : k ≡ f + below y.tree + 1 = omega arith in
-        let e₃ : r₂ ≡ head k q.args = q.top in
-        let e₄ : k₂ ≡ f + below y.tree + 1 + under q.args = omega (arith, q.past) in
+        let e₃ : g.root ≡ head k q.args = q.top in
+        let e₄ : g.free ≡ f + below y.tree + 1 + under q.args = omega (arith, q.past) in
         let u₁ : w₁ ≡ lay w f y.tree = y.laid in
         let u₂ : w₂ ≡ lay_all w₁ k i q.args = q.laid in
         let u₃ = x.laid in
         record {
           args = more y.tree q.args;
-          told = (h ts v y.tree y.told).0 q.args m₂ q.told;
+          told = (h ts v y.tree y.told).0 q.args g.next q.told;
           top = e₄;
           past = omega arith;
           laid = cc;
         };
-    ahead = o r₂ m₂ k₂ b.ahead;
+    ahead = o g.root g.next g.free b.ahead;
     clear = x.clear ∙ b.clear ∙ a.clear;
   })
-  lists_more (Part.None e) h b x o = rw (x.0, x.1) (record {
-    told = λ ts s. let v = after a ts s in let y = a.told ts s in (h ts v y.tree y.told).1 e (b.told ts v);
+  lists_more (Err e) h b x o = rw (x.0, x.1) (record {
+    told = λ ts s. let v = after a ts s in let y = a.told ts s in (h ts v y.tree y.told).1 e.at (b.told ts v);
     ahead = tt;
     clear = b.clear ∙ a.clear;
   })

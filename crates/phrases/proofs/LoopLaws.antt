@@ -3,6 +3,7 @@ use mathlib.Core.Bool.{Bool, false}
 use mathlib.Core.List.{List}
 use mathlib.Core.Option.{some}
 use mathlib.Core.Path.{◌≡◌, refl, sym}
+use Rattle.std.specs.Prelude.{Ok, Err}
 use Prim.Native.Nat.{ℕ, ◌+◌}
 use native.Mathlib.Omega.{arith}
 use Rattle.language.specs.Tokens.{Token, At, Means, entry, spelling_at, NAME, IN, LBRACE, FOR, BY}
@@ -15,7 +16,7 @@ use Rattle.language.proofs.Executable.SettlesLoops as S
 use Rattle.layout.specs.Table.{kind_of, put_row}
 use Rattle.layout.specs.Rows.{ARGUMENT, range_kind, below, under, head, lay, lay_all}
 use Rattle.phrases.specs.Parts.{Told, in_table, Yields, YieldsAll, Written, Topped, Tier, For, Bounds, Ends}
-use Rattle.phrases.specs.declared.parts.Part.{Part}
+use Rattle.phrases.specs.Words.{Part, tree_at, none_at}
 use Rattle.phrases.proofs.Standing.{at, not_at}
 use Rattle.phrases.proofs.RowKinds.{stands_for_none}
 use Rattle.phrases.proofs.Answering.{fails, fails_first, fails_behind, tops}
@@ -44,16 +45,16 @@ module _ {count n f i : ℕ} {w w₁ : List ℕ} where
   -- a step or none
   pub step_last : {w₂ : List ℕ} {z : Part} (g : Part) → Yields (Tier 1 (n + 1)) count w (n + 1) f g w₁
       → Topped (λ u x y. put_row u x ARGUMENT i y 0 0) (λ l. l) g w₁ z w₂ → YieldsAll (Step n) i count w n f z w₂
-  step_last (Part.Tree r m k) a x =
+  step_last (Ok g) a x =
       let o = a.ahead in
       lists_last a (λ ts v y p. alone p) x record { least = omega arith; most = o.most; owned = omega arith; end = refl }
-  step_last (Part.None e) a x = rw (x.0, x.1) (record { told = λ ts s. nothing (a.told ts s); ahead = tt; clear = a.clear })
+  step_last (Err e) a x = rw (x.0, x.1) (record { told = λ ts s. nothing (a.told ts s); ahead = tt; clear = a.clear })
 
   -- no end
-  pub ends_none : {e : ℕ} → Yields (Tier 1 (n + 1)) count w (n + 1) f (Part.None e) w₁ → YieldsAll (Ends n) i count w n f (Part.None e) w₁
+  pub ends_none : {e : ℕ} → Yields (Tier 1 (n + 1)) count w (n + 1) f (none_at e) w₁ → YieldsAll (Ends n) i count w n f (none_at e) w₁
   ends_none a = record { told = λ ts s j b x p q. S.end_failed p q (a.told ts s); ahead = tt; clear = a.clear }
 
-  module _ {r m k : ℕ} (a : Yields (Tier 1 (n + 1)) count w (n + 1) f (Part.Tree r m k) w₁) where
+  module _ {r m k : ℕ} (a : Yields (Tier 1 (n + 1)) count w (n + 1) f (tree_at r m k) w₁) where
     -- an end, and no `by`
     pub ends_one : {w₂ : List ℕ} {g : Part} → (kind_of w₁ count m ≡ BY → ⊥) → Written k m (put_row w₁ k ARGUMENT i r 0 0) w₁ g w₂
         → YieldsAll (Ends n) i count w n f g w₂
@@ -84,38 +85,38 @@ uncounted ts a b c p d (unbraced q) = S.for_block a b c p d q
 
 module _ {count n f : ℕ} {w : List ℕ} (h : kind_of w count n ≡ FOR) where
   -- no name
-  pub for_name : (kind_of w count (n + 1) ≡ NAME → ⊥) → Yields (For n) count w n f (Part.None (n + 1)) w
+  pub for_name : (kind_of w count (n + 1) ≡ NAME → ⊥) → Yields (For n) count w n f (none_at (n + 1)) w
   for_name i = fails (λ ts s. S.for_name (at n s h) (not_at (n + 1) s i)) refl
 
   module _ (i : kind_of w count (n + 1) ≡ NAME) where
     -- no `in`
-    pub for_in : (kind_of w count (n + 2) ≡ IN → ⊥) → Yields (For n) count w n f (Part.None (n + 2)) w
+    pub for_in : (kind_of w count (n + 2) ≡ IN → ⊥) → Yields (For n) count w n f (none_at (n + 2)) w
     for_in j = fails (λ ts s. S.for_in (at n s h) (at (n + 1) s i) (not_at (n + 2) s j)) refl
 
     module _ {w₁ : List ℕ} (j : kind_of w count (n + 2) ≡ IN) where
       -- no start
-      pub start_none : {e : ℕ} → Yields (Tier 1 (n + 3)) count w (n + 3) f (Part.None e) w₁ → Yields (For n) count w n f (Part.None e) w₁
+      pub start_none : {e : ℕ} → Yields (Tier 1 (n + 3)) count w (n + 3) f (none_at e) w₁ → Yields (For n) count w n f (none_at e) w₁
       start_none a = fails_first a (λ ts s x. S.for_failed (at n s h) (at (n + 1) s i) (at (n + 2) s j) (S.bounds_failed x))
 
       -- a start, and neither `..` nor `..=`, the kind of the token being c
-      pub start_other : {c r m k : ℕ} → Yields (Tier 1 (n + 3)) count w (n + 3) f (Part.Tree r m k) w₁ → c ≡ kind_of w₁ count m
-          → in_table ranges c ≡ false → Yields (For n) count w n f (Part.None m) w₁
+      pub start_other : {c r m k : ℕ} → Yields (Tier 1 (n + 3)) count w (n + 3) f (tree_at r m k) w₁ → c ≡ kind_of w₁ count m
+          → in_table ranges c ≡ false → Yields (For n) count w n f (none_at m) w₁
       start_other {c} {m = m} a e l =
           fails_behind a (λ ts s v x p.
           S.for_failed (at n s h) (at (n + 1) s i) (at (n + 2) s j) (S.bounds_other p (rw (at m v (sym e)) (stands_for_none ranges c l))))
 
       -- no end or no step
-      pub bounds_none : {b : Bool} {e : ℕ} → YieldsAll (Bounds b (n + 3)) n count w (n + 2) f (Part.None e) w₁
-          → Yields (For n) count w n f (Part.None e) w₁
+      pub bounds_none : {b : Bool} {e : ℕ} → YieldsAll (Bounds b (n + 3)) n count w (n + 2) f (none_at e) w₁
+          → Yields (For n) count w n f (none_at e) w₁
       bounds_none a = record {
         told = λ ts s. S.for_failed (at n s h) (at (n + 1) s i) (at (n + 2) s j) (a.told ts s);
         ahead = tt;
         clear = a.clear;
       }
 
-      module _ {b : Bool} {r m k : ℕ} (a : YieldsAll (Bounds b (n + 3)) n count w (n + 2) f (Part.Tree r m k) w₁) where
+      module _ {b : Bool} {r m k : ℕ} (a : YieldsAll (Bounds b (n + 3)) n count w (n + 2) f (tree_at r m k) w₁) where
         -- bounds, and no `{`
-        pub body_none : (kind_of w₁ count m ≡ LBRACE → ⊥) → Yields (For n) count w n f (Part.None m) w₁
+        pub body_none : (kind_of w₁ count m ≡ LBRACE → ⊥) → Yields (For n) count w n f (none_at m) w₁
         body_none d = record {
           told = λ ts s.
               S.for_open (at n s h) (at (n + 1) s i) (at (n + 2) s j) (a.told ts s).told (not_at m (after_all a ts s) d);
@@ -149,7 +150,7 @@ module _ {count n f : ℕ} {w : List ℕ} (h : kind_of w count n ≡ FOR) where
 
 -- a start, its mark of the kind c, and an end with a step or none
 pub bounds_all : {count n f c r m k : ℕ} {b : Bool} {w w₁ w₂ w₃ : List ℕ} {z : Part} (g : Part)
-    → Yields (Tier 1 (n + 3)) count w (n + 3) f (Part.Tree r m k) w₁ → c ≡ kind_of w₁ count m → entry ranges c ≡ some b
+    → Yields (Tier 1 (n + 3)) count w (n + 3) f (tree_at r m k) w₁ → c ≡ kind_of w₁ count m → entry ranges c ≡ some b
     → YieldsAll (Ends m) n count w₁ m k g w₂ → Topped (λ u x y. put_row u x ARGUMENT n r y 0) (λ l. l) g w₂ z w₃
     → YieldsAll (Bounds b (n + 3)) n count w (n + 2) f z w₃
 bounds_all {n = n} {m = m} {b = b} g a h e d x =

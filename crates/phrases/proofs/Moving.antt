@@ -2,13 +2,14 @@
 -- behind what was read.
 use mathlib.Core.List.{List}
 use mathlib.Core.Path.{◌≡◌}
+use Rattle.std.specs.Prelude.{Ok, Err}
 use Prim.Native.Nat.{ℕ, ◌+◌, ◌*◌, ◌-◌, ◌≤◌, ◌<◌}
 use native.Mathlib.Omega.{arith}
 use lib.ListN.{length}
 use Rattle.language.specs.Sizes.{TOKENS, NODES, TABLE}
 use Rattle.language.specs.Trees.{Exp, Exps}
-use Rattle.phrases.specs.Parts.{REACH, Told, Room, Ahead, Placed, Answer, YieldsAll}
-use Rattle.phrases.specs.declared.parts.Part.{Part}
+use Rattle.phrases.specs.Parts.{Told, Room, Ahead, Placed, Answer, YieldsAll}
+use Rattle.phrases.specs.Words.{Part, REACH}
 
 module _ {count n f : ℕ} {w : List ℕ} (room : Room count w n f) where
   -- a token's kind can be asked
@@ -31,8 +32,8 @@ module _ {count n f : ℕ} {w : List ℕ} (room : Room count w n f) where
   -- a row behind what was read from token n₂ and row f₂ on
   placed : (n₂ f₂ lo hi : ℕ) {ℓ i : ℕ} (g : Part) → Ahead n₂ f₂ lo hi g → hi ≤ count + 1 → f₂ + hi ≤ n₂ + count → ℓ ≡ length w → i < count
       → (TABLE ≤ ℓ) × (i < TOKENS) × Placed g
-  placed n₂ f₂ lo hi (Part.Tree r m k) a b c e i = (omega arith, omega arith, (omega arith, omega arith))
-  placed n₂ f₂ lo hi (Part.None x) a b c e i = (omega arith, omega arith, tt)
+  placed n₂ f₂ lo hi (Ok t) a b c e i = (omega arith, omega arith, (omega arith, omega arith))
+  placed n₂ f₂ lo hi (Err x) a b c e i = (omega arith, omega arith, tt)
 
   -- behind a tree
   pub top_fits : {T : Told Exp} {n₂ f₂ lo hi ℓ i : ℕ} {v v' : List ℕ} (g : Part) → Answer T count v n₂ f₂ lo hi g v' → hi ≤ count + 1

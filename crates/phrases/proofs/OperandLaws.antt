@@ -1,6 +1,7 @@
 -- The ways through `assign`, `un` and `atom`.
 use mathlib.Core.Bool.{true, false}
 use mathlib.Core.List.{List}
+use Rattle.std.proofs.Common.{inl, inr, ◌⊎◌}
 use mathlib.Core.Path.{◌≡◌, refl, sym, ap, ◌∙◌}
 use Prim.Native.Nat.{ℕ, ◌+◌, ◌<◌}
 use native.Mathlib.Omega.{arith}
@@ -12,8 +13,8 @@ use Rattle.language.proofs.Executable.SettlesExpressions as S
 use Rattle.layout.specs.Table.{kind_of, put_row}
 use Rattle.layout.specs.Rows.{PREFIX, below, lay, literal_kind, binary_kind}
 use Rattle.phrases.specs.Parts.{in_table, Yields, Halts, Written, Topped, Assign, Tier, Un, Atom, Until}
-use Rattle.phrases.specs.declared.parts.Part.{Part}
-use Rattle.phrases.proofs.Standing.{at, not_at}
+use Rattle.phrases.specs.Words.{Part, tree_at, none_at}
+use Rattle.phrases.proofs.Standing.{at, not_at, within}
 use Rattle.phrases.proofs.RowKinds.{stands_for, stands_for_none, prefix_row, constant_row}
 use Rattle.phrases.proofs.Answering.{fails, fails_first, keeps, same, single, over_one, over_two}
 
@@ -21,12 +22,12 @@ module _ {count n f : ℕ} {w w₁ : List ℕ} where
   -- ---- assign
 
   -- no Or
-  pub assign_none : {e : ℕ} → Yields (Tier 1 n) count w n f (Part.None e) w₁ → Yields (Assign n) count w n f (Part.None e) w₁
+  pub assign_none : {e : ℕ} → Yields (Tier 1 n) count w n f (none_at e) w₁ → Yields (Assign n) count w n f (none_at e) w₁
   assign_none a = fails_first a (λ ts s x. S.assign_failed x)
 
-  module _ {r m k : ℕ} (a : Yields (Tier 1 n) count w n f (Part.Tree r m k) w₁) where
+  module _ {r m k : ℕ} (a : Yields (Tier 1 n) count w n f (tree_at r m k) w₁) where
     -- an Or, and no `:=`
-    pub assign_one : (kind_of w₁ count m ≡ BECOMES → ⊥) → Yields (Assign n) count w n f (Part.Tree r m k) w₁
+    pub assign_one : (kind_of w₁ count m ≡ BECOMES → ⊥) → Yields (Assign n) count w n f (tree_at r m k) w₁
     assign_one h = keeps a a.ahead (λ ts s v x p. S.assign_one p (not_at m v h))
 
     -- an Or, `:=`, and another Or or none
@@ -38,6 +39,11 @@ module _ {count n f : ℕ} {w w₁ : List ℕ} where
         over_two BECOMES m (λ ts. binary m Binary.assign) (λ ts v x y. (refl, refl))
         (λ ts s v x p. (λ y l q. S.assign_to p (at m v h) q, λ e q. S.assign_to p (at m v h) q))
         a b t (λ q l j o. record { least = omega arith; most = o.most; owned = omega arith; end = refl })
+
+-- a number or a float number stands before the end
+pub numeral_within : (w : List ℕ) (count n k : ℕ) → k ≡ kind_of w count n → (k ≡ NUMBER) ⊎ (k ≡ FLOAT_NUMBER) → n < count
+numeral_within w count n k h (inl i) = within w count n NUMBER (sym h ∙ i) (omega arith)
+numeral_within w count n k h (inr i) = within w count n FLOAT_NUMBER (sym h ∙ i) (omega arith)
 
 -- ---- the first token decides, its kind being k
 
@@ -69,20 +75,18 @@ module _ {count n f k : ℕ} {w w₁ : List ℕ} (h : k ≡ kind_of w count n) w
       (λ ts s. (refl, ap (λ (c : ℕ). put_row w f c n 0 0 0) (constant_row k p.1), S.atom_constant (rw (at n s (sym h)) p.1)))
       x (omega arith) (omega arith)
 
-  -- a number
-  pub atom_number : {g : Part} → k ≡ NUMBER → n < count → Written f (n + 1) (put_row w f NUMBER n 0 0 0) w g w₁
+  -- a number or a float number
+  pub atom_numeral : {g : Part} → (k ≡ NUMBER) ⊎ (k ≡ FLOAT_NUMBER) → Written f (n + 1) (put_row w f k n 0 0 0) w g w₁
       → Yields (Atom n) count w n f g w₁
   unfolding lay below literal_kind
-  atom_number i l x =
-      single NUMBER n (λ ts. literal n (whole (value_at ts n))) (λ ts s. (refl, refl, S.atom_number (at n s (sym h) ∙ i))) x (omega arith) (omega arith)
-
-  -- a float number
-  pub atom_float : {g : Part} → k ≡ FLOAT_NUMBER → n < count → Written f (n + 1) (put_row w f FLOAT_NUMBER n 0 0 0) w g w₁
-      → Yields (Atom n) count w n f g w₁
-  unfolding lay below literal_kind
-  atom_float i l x =
-      single FLOAT_NUMBER n (λ ts. literal n (decimal (float_of (spelling_at ts n))))
-      (λ ts s. (refl, refl, S.atom_float (at n s (sym h) ∙ i))) x (omega arith) (omega arith)
+  atom_numeral (inl i) x =
+      let l = numeral_within _ _ _ _ h (inl i) in
+      single k n (λ ts. literal n (whole (value_at ts n)))
+      (λ ts s. (refl, ap (λ (c : ℕ). put_row w f c n 0 0 0) (sym i), S.atom_number (at n s (sym h) ∙ i))) x (omega arith) (omega arith)
+  atom_numeral (inr i) x =
+      let l = numeral_within _ _ _ _ h (inr i) in
+      single k n (λ ts. literal n (decimal (float_of (spelling_at ts n))))
+      (λ ts s. (refl, ap (λ (c : ℕ). put_row w f c n 0 0 0) (sym i), S.atom_float (at n s (sym h) ∙ i))) x (omega arith) (omega arith)
 
   -- `(`, and a Seq with `)` or none
   pub atom_group : {w₂ : List ℕ} {g z : Part} → k ≡ LPAR → Halts (Until RPAR (n + 1)) count w (n + 1) f g w₁
@@ -104,7 +108,7 @@ module _ {count n f k : ℕ} {w w₁ : List ℕ} (h : k ≡ kind_of w count n) w
 
 -- no token that an Atom begins with
 pub atom_other : {count n f k : ℕ} {w : List ℕ} → k ≡ kind_of w count n → in_table constants k ≡ false → (k ≡ NUMBER → ⊥)
-    → (k ≡ FLOAT_NUMBER → ⊥) → (k ≡ NAME → ⊥) → (k ≡ LPAR → ⊥) → (k ≡ LBRACE → ⊥) → Yields (Atom n) count w n f (Part.None n) w
+    → (k ≡ FLOAT_NUMBER → ⊥) → (k ≡ NAME → ⊥) → (k ≡ LPAR → ⊥) → (k ≡ LBRACE → ⊥) → Yields (Atom n) count w n f (none_at n) w
 atom_other {count} {n} {f} {k} {w} h i a p b c d = fails (λ ts s.
     let e : kind_at ts n ≡ k = s.kinds n ∙ sym h in
     S.atom_other (rw e (stands_for_none constants k i)) (λ x. a (sym e ∙ x)) (λ x. p (sym e ∙ x)) (λ x. b (sym e ∙ x)) (λ x. c (sym e ∙ x))

@@ -2,6 +2,7 @@
 use mathlib.Core.Bool.{Bool, true, false, cond}
 use mathlib.Core.List.{List}
 use mathlib.Core.Path.{◌≡◌, refl, sym, ap, subst, ◌∙◌}
+use Rattle.std.specs.Prelude.{Ok, Err}
 use Prim.Native.Nat.{ℕ, zero, suc, ◌+◌, ◌≤◌, ◌<◌}
 use native.Mathlib.Decide.{ℕ_discrete}
 use native.Mathlib.Omega.{arith}
@@ -18,7 +19,7 @@ use Rattle.layout.specs.Names.{Stand}
 use Rattle.layout.specs.Rows.{below, lay, binary_kind}
 use Rattle.layout.proofs.TableLaws.{kind_within, without_put_row}
 use Rattle.phrases.specs.Parts.{Room, Yields, Continues, Tier, Un}
-use Rattle.phrases.specs.declared.parts.Part.{Part}
+use Rattle.phrases.specs.Words.{Part, tree_at, none_at}
 use Rattle.phrases.proofs.Standing.{stand_row}
 use Rattle.phrases.proofs.RowKinds.{joins_row}
 use Rattle.phrases.proofs.Answering.{after, fails_first}
@@ -53,13 +54,13 @@ follows p v c h a b d = go (eqb p 4) refl h
 
 module _ {count n f v : ℕ} {w w₁ : List ℕ} where
   -- no Un
-  pub tier_none : {e : ℕ} → v ≤ 7 → Yields (Un n) count w n f (Part.None e) w₁ → Yields (Tier v n) count w n f (Part.None e) w₁
+  pub tier_none : {e : ℕ} → v ≤ 7 → Yields (Un n) count w n f (none_at e) w₁ → Yields (Tier v n) count w n f (none_at e) w₁
   tier_none h a = fails_first a (λ ts s x. climb_failed 7 v h x)
 
   -- a Un, and what the operators behind it come to
-  pub tier_first : {r m k : ℕ} {w₂ : List ℕ} (g : Part) → Yields (Un n) count w n f (Part.Tree r m k) w₁ → Continues v 7 count w₁ m r k g w₂
+  pub tier_first : {r m k : ℕ} {w₂ : List ℕ} (g : Part) → Yields (Un n) count w n f (tree_at r m k) w₁ → Continues v 7 count w₁ m r k g w₂
       → Yields (Tier v n) count w n f g w₂
-  tier_first (Part.Tree r₂ m₂ k₂) a b = record {
+  tier_first (Ok g) a b = record {
     told = λ ts s.
         let x = a.told ts s in
         let y = b.told ts (after a ts s) x.tree w f x.top x.laid in
@@ -67,7 +68,7 @@ module _ {count n f v : ℕ} {w w₁ : List ℕ} where
     ahead = let p = a.ahead in let q = b.ahead in record { least = omega arith; most = q.most; owned = omega arith; end = q.end };
     clear = b.clear ∙ a.clear;
   }
-  tier_first (Part.None e) a b = record {
+  tier_first (Err e) a b = record {
     told = λ ts s. let x = a.told ts s in climb_first x.told (b.told ts (after a ts s) x.tree w f x.top x.laid);
     ahead = tt;
     clear = b.clear ∙ a.clear;
@@ -81,9 +82,9 @@ module _ {v u count n left f : ℕ} {w w' : List ℕ} {g : Part} where
   back_more a e = subst (λ (x : Part). Continues v u count w n left f x w') (sym e) a
 
   -- a tree whose last row is its root
-  pub back_end : {m : ℕ} → Continues v u count w n left f (Part.Tree left m f) w' → g ≡ Part.Tree left m (left + 1) → f ≡ left + 1
+  pub back_end : {m : ℕ} → Continues v u count w n left f (tree_at left m f) w' → g ≡ tree_at left m (left + 1) → f ≡ left + 1
       → Continues v u count w n left f g w'
-  back_end {m} a e o = back_more a (e ∙ ap (λ (k : ℕ). Part.Tree left m k) (sym o))
+  back_end {m} a e o = back_more a (e ∙ ap (λ (k : ℕ). tree_at left m k) (sym o))
 
 -- the token at n is of kind k, and binds as tightly as p
 
@@ -93,7 +94,7 @@ module _ (count n f v u left : ℕ) (w : List ℕ) (k p : ℕ) (low : 1 ≤ v) (
 
   -- no operator that may follow
   pub rest_end : Room count w n f → f ≡ left + 1 → v ≤ u → (v ≡ 4 → ⊥) → (v ≤ p → p ≤ u → ⊥)
-      → Continues v u count w n left f (Part.Tree left n f) w
+      → Continues v u count w n left f (tree_at left n f) w
   rest_end room o a b h = record {
     told = λ ts s x w₀ f₀ t l.
         let e = binds ts s in
@@ -110,8 +111,8 @@ module _ (count n f v u left : ℕ) (w : List ℕ) (k p : ℕ) (low : 1 ≤ v) (
         (j.0, subst (Joins (kind_at ts n) j.0) e j.1)
 
     -- an operator, and no right operand
-    pub rest_none : {e : ℕ} {w₁ : List ℕ} → Yields (Tier (p + 1) (n + 1)) count w (n + 1) f (Part.None e) w₁
-        → Continues v u count w n left f (Part.None e) w₁
+    pub rest_none : {e : ℕ} {w₁ : List ℕ} → Yields (Tier (p + 1) (n + 1)) count w (n + 1) f (none_at e) w₁
+        → Continues v u count w n left f (none_at e) w₁
     rest_none d = record {
       told = λ ts s x w₀ f₀ t l. climb_short (operator ts s).1 low a b (d.told ts s);
       ahead = tt;
@@ -119,7 +120,7 @@ module _ (count n f v u left : ℕ) (w : List ℕ) (k p : ℕ) (low : 1 ≤ v) (
     }
 
     module _ {r m k₂ : ℕ} {w₁ w₂ : List ℕ} (h : f ≡ left + 1) (i : k₂ < NODES) (d : Yields (Tier (p + 1) (n + 1)) count w (n + 1) f
-        (Part.Tree r m k₂) w₁)
+        (tree_at r m k₂) w₁)
         (q : w₂ ≡ put_row w₁ k₂ k n left r 0) where
       -- the operator's node over its two operands
       both : (ts : List Token) → Stand w count ts → Exp → Exp
@@ -149,24 +150,24 @@ module _ (count n f v u left : ℕ) (w : List ℕ) (k p : ℕ) (low : 1 ≤ v) (
       -- an operator, its right operand, and what the operators behind them come to
       pub rest_more : {c : ℕ} {w₃ : List ℕ} (g : Part) → c ≡ following p → Continues v c count w₂ m k₂ (k₂ + 1) g w₃
           → Continues v u count w n left f g w₃
-      rest_more {c} (Part.Tree r₂ m₂ k₃) z y = record {
+      rest_more {c} (Ok g) z y = record {
         told = λ ts s x w₀ f₀ t l.
             let e = laid_both ts s x w₀ f₀ t l in
             let j = y.told ts (stand_row k₂ k n left r 0 q (after d ts s)) (both ts s x) w₀ f₀ e.0 e.1 in
             record {
               tree = j.tree;
-              told = goes_on ts s x (subst (λ (i : ℕ). More ts v i (both ts s x) m (got j.tree m₂)) z j.told);
+              told = goes_on ts s x (subst (λ (i : ℕ). More ts v i (both ts s x) m (got j.tree g.next)) z j.told);
               top = j.top;
               laid = j.laid;
             };
         ahead = let o₁ = d.ahead in let o₂ = y.ahead in record { least = omega arith; most = o₂.most; owned = omega arith; end = o₂.end };
         clear = y.clear ∙ cleared;
       }
-      rest_more {c} (Part.None e₀) z y = record {
+      rest_more {c} (Err e₀) z y = record {
         told = λ ts s x w₀ f₀ t l.
             let e = laid_both ts s x w₀ f₀ t l in
             goes_on ts s x
-            (subst (λ (i : ℕ). More ts v i (both ts s x) m (failed e₀)) z
+            (subst (λ (i : ℕ). More ts v i (both ts s x) m (failed e₀.at)) z
             (y.told ts (stand_row k₂ k n left r 0 q (after d ts s)) (both ts s x) w₀ f₀ e.0 e.1));
         ahead = tt;
         clear = y.clear ∙ cleared;

@@ -9,7 +9,7 @@ use Rattle.language.proofs.Executable.SettlesExpressions as S
 use Rattle.layout.specs.Table.{kind_of, put_row}
 use Rattle.layout.specs.Rows.{below, lay}
 use Rattle.phrases.specs.Parts.{Yields, Halts, Topped, Seq, Clause, Let, Until}
-use Rattle.phrases.specs.declared.parts.Part.{Part}
+use Rattle.phrases.specs.Words.{Part, tree_at, none_at}
 use Rattle.phrases.proofs.Standing.{at, not_at, within}
 use Rattle.phrases.proofs.Answering.{fails, fails_first, fails_behind, keeps, over_two}
 
@@ -17,31 +17,31 @@ module _ {count n f : ℕ} {w w₁ : List ℕ} where
   -- ---- until
 
   -- the mark stands behind the Seq
-  pub until_here : {mark r m k : ℕ} → 1 ≤ mark → Yields (Seq n) count w n f (Part.Tree r m k) w₁ → kind_of w₁ count m ≡ mark
-      → Halts (Until mark n) count w n f (Part.Tree r m k) w₁
+  pub until_here : {mark r m k : ℕ} → 1 ≤ mark → Yields (Seq n) count w n f (tree_at r m k) w₁ → kind_of w₁ count m ≡ mark
+      → Halts (Until mark n) count w n f (tree_at r m k) w₁
   until_here {mark} {m = m} p a h =
       let i = within w₁ count m mark h p in
       let o = a.ahead in
       keeps a record { least = o.least; most = i; owned = o.owned; end = o.end } (λ ts s v x y. S.until_got y (at m v h))
 
   -- another token does
-  pub until_other : {mark r m k : ℕ} → Yields (Seq n) count w n f (Part.Tree r m k) w₁ → (kind_of w₁ count m ≡ mark → ⊥)
-      → Halts (Until mark n) count w n f (Part.None m) w₁
+  pub until_other : {mark r m k : ℕ} → Yields (Seq n) count w n f (tree_at r m k) w₁ → (kind_of w₁ count m ≡ mark → ⊥)
+      → Halts (Until mark n) count w n f (none_at m) w₁
   until_other {m = m} a h = fails_behind a (λ ts s v x y. S.until_other y (not_at m v h))
 
   -- no Seq
-  pub until_none : {mark e : ℕ} → Yields (Seq n) count w n f (Part.None e) w₁ → Halts (Until mark n) count w n f (Part.None e) w₁
+  pub until_none : {mark e : ℕ} → Yields (Seq n) count w n f (none_at e) w₁ → Halts (Until mark n) count w n f (none_at e) w₁
   until_none a = fails_first a (λ ts s x. S.until_failed x)
 
   -- ---- seq
 
   -- no clause
-  pub seq_none : {e : ℕ} → Yields (Clause n) count w n f (Part.None e) w₁ → Yields (Seq n) count w n f (Part.None e) w₁
+  pub seq_none : {e : ℕ} → Yields (Clause n) count w n f (none_at e) w₁ → Yields (Seq n) count w n f (none_at e) w₁
   seq_none a = fails_first a (λ ts s x. S.seq_failed x)
 
-  module _ {r m k : ℕ} (a : Yields (Clause n) count w n f (Part.Tree r m k) w₁) where
+  module _ {r m k : ℕ} (a : Yields (Clause n) count w n f (tree_at r m k) w₁) where
     -- a clause, and no `;`
-    pub seq_one : (kind_of w₁ count m ≡ SEMI → ⊥) → Yields (Seq n) count w n f (Part.Tree r m k) w₁
+    pub seq_one : (kind_of w₁ count m ≡ SEMI → ⊥) → Yields (Seq n) count w n f (tree_at r m k) w₁
     seq_one i = keeps a a.ahead (λ ts s v x y. S.seq_one y (not_at m v i))
 
     -- a clause, `;`, and another Seq or none
@@ -58,11 +58,11 @@ module _ {count n f : ℕ} {w w₁ : List ℕ} where
 
   module _ (h : kind_of w count n ≡ LET) (i : kind_of w count (n + 1) ≡ NAME) (j : kind_of w count (n + 2) ≡ IS) where
     -- no value, or no `in` behind it
-    pub let_none : {e : ℕ} → Halts (Until IN (n + 3)) count w (n + 3) f (Part.None e) w₁ → Yields (Let n) count w n f (Part.None e) w₁
+    pub let_none : {e : ℕ} → Halts (Until IN (n + 3)) count w (n + 3) f (none_at e) w₁ → Yields (Let n) count w n f (none_at e) w₁
     let_none a = fails_first a (λ ts s x. S.let_failed (at n s h) (at (n + 1) s i) (at (n + 2) s j) x)
 
     -- a value, `in`, and a body or none
-    pub let_all : {r m k : ℕ} {w₂ w₃ : List ℕ} {g z : Part} → Halts (Until IN (n + 3)) count w (n + 3) f (Part.Tree r m k) w₁
+    pub let_all : {r m k : ℕ} {w₂ w₃ : List ℕ} {g z : Part} → Halts (Until IN (n + 3)) count w (n + 3) f (tree_at r m k) w₁
         → Yields (Seq (m + 1)) count w₁ (m + 1) k g w₂ → Topped (λ u y x. put_row u y LET n r x 0) (λ l. l) g w₂ z w₃
         → Yields (Let n) count w n f z w₃
     unfolding lay below
@@ -74,9 +74,9 @@ module _ {count n f : ℕ} {w w₁ : List ℕ} where
 
 module _ {count n f : ℕ} {w : List ℕ} (h : kind_of w count n ≡ LET) where
   -- no name
-  pub let_name : (kind_of w count (n + 1) ≡ NAME → ⊥) → Yields (Let n) count w n f (Part.None (n + 1)) w
+  pub let_name : (kind_of w count (n + 1) ≡ NAME → ⊥) → Yields (Let n) count w n f (none_at (n + 1)) w
   let_name i = fails (λ ts s. S.let_name (at n s h) (not_at (n + 1) s i)) refl
 
   -- no `=`
-  pub let_is : kind_of w count (n + 1) ≡ NAME → (kind_of w count (n + 2) ≡ IS → ⊥) → Yields (Let n) count w n f (Part.None (n + 2)) w
+  pub let_is : kind_of w count (n + 1) ≡ NAME → (kind_of w count (n + 2) ≡ IS → ⊥) → Yields (Let n) count w n f (none_at (n + 2)) w
   let_is i j = fails (λ ts s. S.let_is (at n s h) (at (n + 1) s i) (not_at (n + 2) s j)) refl

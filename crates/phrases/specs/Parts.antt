@@ -1,7 +1,8 @@
 -- What the readers of an expression require and ensure. A reader begins at token n with the table w, whose first free
 -- row is f, and answers g with the table w'. Numbers are told of for themselves; what was read is told of every token
 -- list that the table stands for.
-use Rattle.std.specs.Prelude.{Bool, true, false, List, ◌≡◌, ℕ, zero, suc, ◌+◌, ◌/◌, ◌%◌, ◌≤◌, ◌<◌, length}
+use Rattle.std.specs.Prelude.{Bool, true, false, List, ◌≡◌, ℕ, ◌+◌, ◌≤◌, ◌<◌, length}
+use Rattle.std.specs.Prelude.{Ok, Err}
 use Rattle.std.proofs.Math.Option.{Option, none, some}
 use Rattle.language.specs.Sizes.{TOKENS, NODES, TABLE}
 use Rattle.language.specs.Tokens.{Token, Entry, entry, Means}
@@ -14,7 +15,7 @@ use Rattle.language.proofs.Executable.Climbing.{tier_of, More}
 use Rattle.layout.specs.Table.{without_rows}
 use Rattle.layout.specs.Names.{Stand}
 use Rattle.layout.specs.Rows.{below, under, head, lay, lay_all}
-use Rattle.phrases.specs.declared.parts.Part.{Part}
+use Rattle.phrases.specs.Words.{Part, tree_at, none_at}
 
 -- ---- one token
 
@@ -77,20 +78,6 @@ abbrev pub Ends : ℕ → Told Exps
 Ends n = λ ts r. (i : ℕ) (b : Bool) (x : Exp)
     → Tier 1 i ts (got x n) → Means ts n ranges b → Bounds b i ts (made r (more x))
 
--- ---- words
-
--- A reader answers its part as one word: REACH times the first free row, and the token. No tree is without a row, so
--- where that is 0 reading failed; and a tree's root is the row before the first free one.
-abbrev pub REACH : ℕ
-REACH = 65536
-
-unfoldable pub parted : ℕ → ℕ → Part
-parted zero m = Part.None m
-parted (suc r) m = Part.Tree r m (suc r)
-
-unfoldable pub part_of : ℕ → Part
-part_of word = parted (word / REACH) (word % REACH)
-
 -- ---- numbers
 
 -- a reader may begin: no more rows than tokens are behind
@@ -109,8 +96,8 @@ pub record On (n f lo hi r m k : ℕ) : Type 0 where
   pub end : k ≡ r + 1
 
 abbrev pub Ahead : ℕ → ℕ → ℕ → ℕ → Part → Type 0
-Ahead n f lo hi (Part.Tree r m k) = On n f lo hi r m k
-Ahead n f lo hi (Part.None e) = Unit {0}
+Ahead n f lo hi (Ok t) = On n f lo hi t.root t.next t.free
+Ahead n f lo hi (Err e) = Unit {0}
 
 -- ---- trees
 
@@ -122,8 +109,8 @@ pub record Laid (T : Result Exp → Type 0) (w : List ℕ) (f r m : ℕ) (w' : L
   pub laid : w' ≡ lay w f tree
 
 abbrev pub Outcome : (Result Exp → Type 0) → List ℕ → ℕ → Part → List ℕ → Type 0
-Outcome T w f (Part.Tree r m k) w' = Laid T w f r m w'
-Outcome T w f (Part.None e) w' = T (failed e)
+Outcome T w f (Ok t) w' = Laid T w f t.root t.next w'
+Outcome T w f (Err e) w' = T (failed e.at)
 
 -- what was read ends at a token from lo up to hi, and no word but those of rows and functions was written
 pub record Answer (T : Told Exp) (count : ℕ) (w : List ℕ) (n f lo hi : ℕ) (g : Part) (w' : List ℕ) : Type 0 where
@@ -157,8 +144,8 @@ pub record LaidAll (T : Result Exps → Type 0) (w : List ℕ) (i f r m k : ℕ)
   pub laid : w' ≡ lay_all w f i args
 
 abbrev pub OutcomeAll : (Result Exps → Type 0) → List ℕ → ℕ → ℕ → Part → List ℕ → Type 0
-OutcomeAll T w i f (Part.Tree r m k) w' = LaidAll T w i f r m k w'
-OutcomeAll T w i f (Part.None e) w' = T (failed e)
+OutcomeAll T w i f (Ok t) w' = LaidAll T w i f t.root t.next t.free w'
+OutcomeAll T w i f (Err e) w' = T (failed e.at)
 
 pub record YieldsAll (T : Told Exps) (i count : ℕ) (w : List ℕ) (n f : ℕ) (g : Part) (w' : List ℕ) : Type 0 where
   pub told : (ts : List Token) → Stand w count ts → OutcomeAll (T ts) w i f g w'
@@ -169,17 +156,17 @@ pub record YieldsAll (T : Told Exps) (i count : ℕ) (w : List ℕ) (n f : ℕ) 
 
 -- row k was written, so that the table is v; what was read ends at token m
 pub record Written (k m : ℕ) (v w : List ℕ) (g : Part) (w' : List ℕ) : Type 0 where
-  pub answer : g ≡ Part.Tree k m (k + 1)
+  pub answer : g ≡ tree_at k m (k + 1)
   pub laid : w' ≡ v
   pub clear : without_rows w' ≡ without_rows w
 
 -- the row behind a node's last part can be written
 abbrev pub Placed : Part → Type 0
-Placed (Part.Tree r m k) = (k < NODES) × (m ≤ TOKENS)
-Placed (Part.None e) = Unit {0}
+Placed (Ok t) = (t.free < NODES) × (t.next ≤ TOKENS)
+Placed (Err e) = Unit {0}
 
 -- It is written by `put`, with the last part's root as its last link, and `behind` gives the token behind the node;
 -- where the part failed, nothing is written.
 abbrev pub Topped : (List ℕ → ℕ → ℕ → List ℕ) → (ℕ → ℕ) → Part → List ℕ → Part → List ℕ → Type 0
-Topped put behind (Part.Tree r m k) w g w' = Written k (behind m) (put w k r) w g w'
-Topped put behind (Part.None e) w g w' = (g ≡ Part.None e) × (w' ≡ w)
+Topped put behind (Ok t) w g w' = Written t.free (behind t.next) (put w t.free t.root) w g w'
+Topped put behind (Err e) w g w' = (g ≡ none_at e.at) × (w' ≡ w)

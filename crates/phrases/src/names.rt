@@ -2,20 +2,20 @@
 ghost use Rattle.std.specs.Prelude.{◌≡◌, ◌<◌};
 ghost use Rattle.language.specs.Tokens.{NAME};
 ghost use Rattle.layout.specs.Table.{kind_of};
-ghost use Rattle.phrases.specs.Parts.{part_of, Room, Yields, YieldsAll, Atom, Closed};
+ghost use Rattle.phrases.specs.Parts.{Room, Yields, YieldsAll, Atom, Closed};
 
 use crate::items::seq;
-use crate::parts::{Part, failed_at, node, over, pair, unpack};
+use crate::parts::{Read, around, node, over, pair};
 use language::kinds;
 use layout::rows::{ARGUMENT, CALL};
 use layout::token::kind;
 
 // At a name, which is called where `(` stands behind it.
 #[cycle(phrases)]
-pub fn named(table: &mut [u32], count: usize, at: usize, free: usize) -> u32
+pub fn named(table: &mut [u32], count: usize, at: usize, free: usize) -> Read
     requires room { Room count table.old at free }
     requires at_value { kind_of table.old count at ≡ NAME }
-    ensures { Yields (Atom at) count table.old at free (part_of result) table.new }
+    ensures { Yields (Atom at) count table.old at free result table.new }
 {
     if kind(table, count, at + 1) != kinds::LPAR {
         return node(table, free, at + 1, kinds::NAME, at, 0, 0, 0);
@@ -30,29 +30,21 @@ pub fn named(table: &mut [u32], count: usize, at: usize, free: usize) -> u32
 // The arguments of the call at `own`, up to the `)` and with it. An argument's row comes behind the
 // rows of those after it, and links to the first of them.
 #[cycle(phrases)]
-fn arguments(table: &mut [u32], count: usize, at: usize, free: usize, own: usize) -> u32
+fn arguments(table: &mut [u32], count: usize, at: usize, free: usize, own: usize) -> Read
     requires room { Room count table.old at free }
     requires own_lt_count { own < count }
-    ensures { YieldsAll (Closed at) own count table.old at free (part_of result) table.new }
+    ensures { YieldsAll (Closed at) own count table.old at free result table.new }
 {
-    let first_word = seq(table, count, at, free);
-    let first = unpack(first_word);
-    match first {
-        Part::Tree {
-            root,
-            next,
-            free: rows,
-        } => {
-            let k = kind(table, count, next);
-            if k == kinds::RPAR {
-                return node(table, rows, next + 1, ARGUMENT, own, root, 0, 0);
-            }
-            if k != kinds::COMMA {
-                return failed_at(next);
-            }
-            let list = arguments(table, count, next + 1, rows, own);
-            pair(table, ARGUMENT, own, root, list)
+    let read = seq(table, count, at, free);
+    let Ok(first) = read.part() else {
+        return read;
+    };
+    match kind(table, count, first.next) {
+        kinds::RPAR => around(table, ARGUMENT, own, read),
+        kinds::COMMA => {
+            let list = arguments(table, count, first.next + 1, first.free, own);
+            pair(table, ARGUMENT, own, first.root, list)
         }
-        Part::None { at: _ } => first_word,
+        _ => Read::failed(first.next),
     }
 }

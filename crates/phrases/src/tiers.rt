@@ -1,58 +1,47 @@
 // Assign, the levels of operators, Un and Atom.
 ghost use Rattle.std.specs.Prelude.{◌≡◌, ◌+◌, ◌≤◌};
-ghost use Rattle.phrases.specs.Parts.{part_of, Room, Yields, Continues, Assign, Tier, Un, Atom};
+ghost use Rattle.phrases.specs.Parts.{Room, Yields, Continues, Assign, Tier, Un, Atom};
 
 use crate::items::until;
 use crate::names::named;
 use crate::operators::{LEVEL_OR, OPERAND, after, is_constant, is_prefix, tightness};
-use crate::parts::{Part, around, failed_at, node, over, pair, tree_of, unpack};
+use crate::parts::{Read, around, node, over, pair};
 use language::kinds;
 use layout::rows::{PREFIX, put};
 use layout::token::kind;
 
 // `:=` does not chain.
 #[cycle(phrases)]
-pub fn assign(table: &mut [u32], count: usize, at: usize, free: usize) -> u32
+pub fn assign(table: &mut [u32], count: usize, at: usize, free: usize) -> Read
     requires { Room count table.old at free }
-    ensures { Yields (Assign at) count table.old at free (part_of result) table.new }
+    ensures { Yields (Assign at) count table.old at free result table.new }
 {
-    let target_word = tier(table, count, at, free, LEVEL_OR);
-    let target = unpack(target_word);
-    match target {
-        Part::Tree {
-            root,
-            next,
-            free: rows,
-        } => {
-            if kind(table, count, next) == kinds::BECOMES {
-                let value = tier(table, count, next + 1, rows, LEVEL_OR);
-                pair(table, kinds::BECOMES, next, root, value)
-            } else {
-                target_word
-            }
-        }
-        Part::None { at: _ } => target_word,
+    let read = tier(table, count, at, free, LEVEL_OR);
+    let Ok(target) = read.part() else {
+        return read;
+    };
+    if kind(table, count, target.next) != kinds::BECOMES {
+        return read;
     }
+    let value = tier(table, count, target.next + 1, target.free, LEVEL_OR);
+    pair(table, kinds::BECOMES, target.next, target.root, value)
 }
 
 // Or, And, Cmp, Sum, Prod and Un, all by one function: operands with operators between them that bind
 // at least as tightly as `least`.
 #[cycle(phrases)]
-pub fn tier(table: &mut [u32], count: usize, at: usize, free: usize, least: u32) -> u32
+pub fn tier(table: &mut [u32], count: usize, at: usize, free: usize, least: u32) -> Read
     requires room { Room count table.old at free }
     requires le_least { (1 ≤ least) × (least ≤ 7) × (least ≡ 4 → ⊥) }
-    ensures { Yields (Tier least at) count table.old at free (part_of result) table.new }
+    ensures { Yields (Tier least at) count table.old at free result table.new }
 {
-    let first_word = un(table, count, at, free);
-    let first = unpack(first_word);
-    match first {
-        Part::Tree {
-            root,
-            next,
-            free: rows,
-        } => rest(table, count, next, rows, root, least, OPERAND),
-        Part::None { at: _ } => first_word,
-    }
+    let read = un(table, count, at, free);
+    let Ok(first) = read.part() else {
+        return read;
+    };
+    rest(
+        table, count, first.next, first.free, first.root, least, OPERAND,
+    )
 }
 
 // The operators behind a left operand whose root `left` is the last row, from those that bind as
@@ -66,41 +55,39 @@ fn rest(
     left: u32,
     least: u32,
     most: u32,
-) -> u32
+) -> Read
     requires room { Room count table.old at free }
     requires free_value { free ≡ left + 1 }
     requires le_least { (1 ≤ least) × (least ≤ most) × (most ≤ 7) × (least ≡ 4 → ⊥) }
-    ensures { Continues least most count table.old at left free (part_of result) table.new }
+    ensures { Continues least most count table.old at left free result table.new }
 {
     let k = kind(table, count, at);
     let p = tightness(k);
-    if p < least {
-        return tree_of(left, at);
+    if p < least || p > most {
+        return Read::tree(left, at);
     }
-    if p > most {
-        return tree_of(left, at);
-    }
-    let right_word = tier(table, count, at + 1, free, p + 1);
-    let right = unpack(right_word);
-    match right {
-        Part::Tree {
-            root,
-            next,
-            free: rows,
-        } => {
-            put(table, rows, k, at as u32, left, root, 0);
-            let tightest = after(p);
-            rest(table, count, next, rows + 1, rows as u32, least, tightest)
-        }
-        Part::None { at: _ } => right_word,
-    }
+    let read = tier(table, count, at + 1, free, p + 1);
+    let Ok(right) = read.part() else {
+        return read;
+    };
+    put(table, right.free, k, at as u32, left, right.root, 0);
+    let joined = right.free as u32;
+    rest(
+        table,
+        count,
+        right.next,
+        right.free + 1,
+        joined,
+        least,
+        after(p),
+    )
 }
 
 // Operators before an Atom.
 #[cycle(phrases)]
-fn un(table: &mut [u32], count: usize, at: usize, free: usize) -> u32
+fn un(table: &mut [u32], count: usize, at: usize, free: usize) -> Read
     requires { Room count table.old at free }
-    ensures { Yields (Un at) count table.old at free (part_of result) table.new }
+    ensures { Yields (Un at) count table.old at free result table.new }
 {
     let k = kind(table, count, at);
     if is_prefix(k) {
@@ -113,17 +100,16 @@ fn un(table: &mut [u32], count: usize, at: usize, free: usize) -> u32
 
 // A constant, a number, a float number, a name, a call, a Group or a Block.
 #[cycle(phrases)]
-fn atom(table: &mut [u32], count: usize, at: usize, free: usize) -> u32
+fn atom(table: &mut [u32], count: usize, at: usize, free: usize) -> Read
     requires { Room count table.old at free }
-    ensures { Yields (Atom at) count table.old at free (part_of result) table.new }
+    ensures { Yields (Atom at) count table.old at free result table.new }
 {
     let k = kind(table, count, at);
     if is_constant(k) {
         return node(table, free, at + 1, k, at, 0, 0, 0);
     }
     match k {
-        kinds::NUMBER => node(table, free, at + 1, kinds::NUMBER, at, 0, 0, 0),
-        kinds::FLOAT_NUMBER => node(table, free, at + 1, kinds::FLOAT_NUMBER, at, 0, 0, 0),
+        kinds::NUMBER | kinds::FLOAT_NUMBER => node(table, free, at + 1, k, at, 0, 0, 0),
         kinds::NAME => named(table, count, at, free),
         kinds::LPAR => {
             let inside = until(table, count, at + 1, free, kinds::RPAR);
@@ -133,6 +119,6 @@ fn atom(table: &mut [u32], count: usize, at: usize, free: usize) -> u32
             let inside = until(table, count, at + 1, free, kinds::RBRACE);
             around(table, kinds::LBRACE, at, inside)
         }
-        _ => failed_at(at),
+        _ => Read::failed(at),
     }
 }

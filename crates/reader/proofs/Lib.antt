@@ -1,5 +1,4 @@
 -- What is true of the reader: a file for the ways through each group of its functions, and that its contract leaves one answer.
-mod Heading
 mod TypeLaws
 mod DefinitionLaws
 mod ProgramLaws

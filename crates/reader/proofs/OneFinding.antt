@@ -1,6 +1,7 @@
 -- The reader's contract leaves no choice, and a program that it finds is held by the table.
 use mathlib.Core.List.{List}
 use mathlib.Core.Path.{◌≡◌, sym, ◌∙◌}
+use Rattle.std.specs.Prelude.{Result, Ok, Err}
 use Prim.Native.Nat.{ℕ, ◌≤◌}
 use lib.ListN.{length}
 use Rattle.language.specs.Sizes.{TABLE}
@@ -14,23 +15,23 @@ use Rattle.layout.specs.Decode.{Holds}
 use Rattle.layout.specs.declared.Held.{Held}
 use Rattle.layout.proofs.HeldPrograms.{held}
 use Rattle.reader.specs.Findings.{Finds}
-use Rattle.reader.specs.declared.Found.{Found}
+use Rattle.phrases.specs.declared.parts.Failed.{Failed}
 
 module _ (ts : List Token) where
   -- for tokens that the table stands for there are no two answers, and no two tables
-  pub one_finding : (w : List ℕ) (g h : Found) (x y : List ℕ) → Finds ts w g x → Finds ts w h y → (g ≡ h) × (x ≡ y)
-  one_finding w (Found.Program P) (Found.Program Q) x y a b =
+  pub one_finding : (w : List ℕ) (g h : Result Held Failed) (x y : List ℕ) → Finds ts w g x → Finds ts w h y → (g ≡ h) × (x ≡ y)
+  one_finding w (Ok P) (Ok Q) x y a b =
       let e = one_reading ts a.program b.program a.reading b.reading in
       let h₁ = a.held in
       let h₂ = b.held in
       let l₁ = a.laid in
       let l₂ = b.laid in
       (cc, cc)
-  one_finding w (Found.Program P) (Found.None e) x y a b = absurd ((place_exactly ts).0 (_, b.at) a.program a.reading)
-  one_finding w (Found.None e) (Found.Program P) x y a b = absurd ((place_exactly ts).0 (_, a.at) b.program b.reading)
-  one_finding w (Found.None e) (Found.None e₂) x y a b = let q = one_place ts a.at b.at in (cc, a.clear ∙ sym b.clear)
+  one_finding w (Ok P) (Err e) x y a b = absurd ((place_exactly ts).0 (_, b.at) a.program a.reading)
+  one_finding w (Err e) (Ok P) x y a b = absurd ((place_exactly ts).0 (_, a.at) b.program b.reading)
+  one_finding w (Err e) (Err e₂) x y a b = (λ i. Err (record { at = one_place ts a.at b.at i }), a.clear ∙ sym b.clear)
 
   -- the table holds the program that was found, a reading of the tokens
-  pub found_held : {w w' : List ℕ} {count : ℕ} {P : Held} → TABLE ≤ length w → Stand w count ts → Finds ts w (Found.Program P) w'
+  pub found_held : {w w' : List ℕ} {count : ℕ} {P : Held} → TABLE ≤ length w → Stand w count ts → Finds ts w (Ok P) w'
       → (p : Program) × Reading ts p × Holds ts w' P p
   found_held {w} l s a = (a.program, a.reading, rw (a.laid, a.held) (held ts a.program w l s a.reading))

@@ -1,6 +1,7 @@
 -- The ways through `program` and `read`.
 use mathlib.Core.List.{List, []}
 use mathlib.Core.Path.{◌≡◌, sym, ap, subst, ◌∙◌}
+use Rattle.std.specs.Prelude.{Ok, Err}
 use Prim.Native.Nat.{ℕ, ◌+◌, ◌<◌}
 use native.Mathlib.Omega.{arith}
 use Rattle.language.specs.Sizes.{TOKENS}
@@ -16,12 +17,9 @@ use Rattle.layout.specs.declared.Held.{Held}
 use Rattle.layout.specs.Rows.{lay, lay_def, def_rows, defs_rows, lay_defs, lay_program, main_row}
 use Rattle.layout.proofs.TableLaws.{without_put_function}
 use Rattle.phrases.specs.Parts.{Told, Yields, Seq}
-use Rattle.reader.specs.Definitions.{Function, Sequel, DefAnswer, ProgramAnswer}
+use Rattle.phrases.specs.Words.{tree_at, none_at}
+use Rattle.reader.specs.Definitions.{laid_at, Parsed, whole_at, Function, Sequel, DefAnswer, ProgramAnswer}
 use Rattle.reader.specs.Findings.{Finds}
-use Rattle.phrases.specs.declared.parts.Part.{Part}
-use Rattle.reader.specs.declared.definitions.Rows.{Rows}
-use Rattle.reader.specs.declared.definitions.Parsed.{Parsed}
-use Rattle.reader.specs.declared.Found.{Found}
 use Rattle.phrases.proofs.Standing.{at, not_at, stand_def}
 
 -- an answer that is known
@@ -33,12 +31,12 @@ known_program {T} {count} {f} {c} {w} {w'} a e = subst (λ (x : Parsed). Program
 
 module _ {count n f c : ℕ} {w w₁ : List ℕ} where
   -- `def`, and no function
-  pub program_failed : {e : ℕ} → kind_of w count n ≡ DEF → DefAnswer (Function n) count w n f (Rows.None e) w₁
-      → ProgramAnswer (Sequel n) count w f c (Parsed.None e) w₁
+  pub program_failed : {e : ℕ} → kind_of w count n ≡ DEF → DefAnswer (Function n) count w n f (none_at e) w₁
+      → ProgramAnswer (Sequel n) count w f c (none_at e) w₁
   program_failed h a = record { told = λ ts s. S.program_failed (at n s h) (a.told ts s); clear = a.clear }
 
   -- a function, and another program or none
-  module _ {m k : ℕ} {w₂ : List ℕ} (h : kind_of w count n ≡ DEF) (a : DefAnswer (Function n) count w n f (Rows.Laid m k) w₁) (i : c < TOKENS)
+  module _ {m k : ℕ} {w₂ : List ℕ} (h : kind_of w count n ≡ DEF) (a : DefAnswer (Function n) count w n f (laid_at m k) w₁) (i : c < TOKENS)
       (q : w₂ ≡ put_function w₁ c f) where
     cleared : without_rows w₂ ≡ without_rows w
     cleared = ap without_rows q ∙ without_put_function w₁ c f i ∙ a.clear
@@ -49,7 +47,7 @@ module _ {count n f c : ℕ} {w w₁ : List ℕ} where
     -- whatever comes behind it
     pub program_more : {w₃ : List ℕ} (g : Parsed) → ProgramAnswer (Sequel m) count w₂ k (c + 1) g w₃ → ProgramAnswer (Sequel n) count w f c g w₃
     unfolding lay_defs defs_rows
-    program_more {w₃} (Parsed.Program d r j) b = record {
+    program_more {w₃} (Ok g) b = record {
       told = λ ts s.
           let x = a.told ts s in
           let y = b.told ts (stand ts s) in
@@ -67,7 +65,7 @@ module _ {count n f c : ℕ} {w w₁ : List ℕ} where
           };
       clear = b.clear ∙ cleared;
     }
-    program_more (Parsed.None e) b = record {
+    program_more (Err e) b = record {
       told = λ ts s. S.program_def (at n s h) (a.told ts s).told (b.told ts (stand ts s));
       clear = b.clear ∙ cleared;
     }
@@ -75,12 +73,12 @@ module _ {count n f c : ℕ} {w w₁ : List ℕ} where
   -- no `def`
   module _ (h : kind_of w count n ≡ DEF → ⊥) where
     -- no Seq
-    pub program_none : {e : ℕ} → Yields (Seq n) count w n f (Part.None e) w₁ → ProgramAnswer (Sequel n) count w f c (Parsed.None e) w₁
+    pub program_none : {e : ℕ} → Yields (Seq n) count w n f (none_at e) w₁ → ProgramAnswer (Sequel n) count w f c (none_at e) w₁
     program_none a = record { told = λ ts s. S.program_seq (not_at n s h) (a.told ts s); clear = a.clear }
 
     -- a Seq
-    pub program_seq : {r m k : ℕ} → Yields (Seq n) count w n f (Part.Tree r m k) w₁
-        → ProgramAnswer (Sequel n) count w f c (Parsed.Program c r m) w₁
+    pub program_seq : {r m k : ℕ} → Yields (Seq n) count w n f (tree_at r m k) w₁
+        → ProgramAnswer (Sequel n) count w f c (whole_at c r m) w₁
     unfolding lay_defs defs_rows
     program_seq a = record {
       told = λ ts s.
@@ -106,20 +104,20 @@ held_is a b c = λ i. record { count = a i; functions = b i; root = c i }
 
 module _ {count : ℕ} {w w₁ : List ℕ} where
   -- nothing, or no program
-  pub found_none : {e : ℕ} {w₂ : List ℕ} → ProgramAnswer (Sequel 0) count w 0 0 (Parsed.None e) w₁ → w₂ ≡ without_rows w₁
-      → (ts : List Token) → Stand w count ts → Finds ts w (Found.None e) w₂
+  pub found_none : {e : ℕ} {w₂ : List ℕ} → ProgramAnswer (Sequel 0) count w 0 0 (none_at e) w₁ → w₂ ≡ without_rows w₁
+      → (ts : List Token) → Stand w count ts → Finds ts w (none_at e) w₂
   found_none a q ts s = record { at = place ts (S.entire_failed (a.told ts s)); clear = q ∙ a.clear }
 
-  module _ {d r m : ℕ} (a : ProgramAnswer (Sequel 0) count w 0 0 (Parsed.Program d r m) w₁) where
+  module _ {d r m : ℕ} (a : ProgramAnswer (Sequel 0) count w 0 0 (whole_at d r m) w₁) where
     -- a program that ends too early
     pub found_short : {w₂ : List ℕ} → (m ≡ count → ⊥) → w₂ ≡ without_rows w₁ → (ts : List Token) → Stand w count ts
-        → Finds ts w (Found.None m) w₂
+        → Finds ts w (none_at m) w₂
     found_short h q ts s =
         record { at = place ts (S.entire_short (a.told ts s).told (λ e. h (e ∙ s.long))); clear = q ∙ a.clear }
 
     -- a program
     pub found_program : m ≡ count → (ts : List Token) → Stand w count ts
-        → Finds ts w (Found.Program record { count = count; functions = d; root = r }) w₁
+        → Finds ts w (Ok record { count = count; functions = d; root = r }) w₁
     unfolding main_row lay_program
     found_program h ts s =
         let x = a.told ts s in

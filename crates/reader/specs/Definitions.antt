@@ -1,4 +1,5 @@
 -- What the readers of types, parameters, functions and the program require and ensure, in the words of `Parts`.
+use Rattle.std.specs.Prelude.{Result as Fallible, Ok, Err, Option as Maybe, Some, None}
 use Rattle.std.specs.Prelude.{List, ◌≡◌, ℕ, ◌+◌, ◌*◌, ◌≤◌, ◌<◌, length}
 use Rattle.std.proofs.Math.Option.{Option, none, some}
 use Rattle.language.specs.Tokens.{Token, entry}
@@ -13,10 +14,10 @@ use Rattle.layout.specs.Types.{REF, PLAIN}
 use Rattle.layout.specs.Names.{Stand}
 use Rattle.layout.specs.Rows.{below, lay, lay_params, lay_def, def_rows, defs_rows, lay_defs}
 use Rattle.phrases.specs.Parts.{Told}
-use Rattle.phrases.specs.declared.parts.Part.{Part}
-use Rattle.reader.specs.declared.types.Typing.{Typing}
-use Rattle.reader.specs.declared.definitions.Rows.{Rows}
-use Rattle.reader.specs.declared.definitions.Parsed.{Parsed}
+use Rattle.phrases.specs.declared.parts.Failed.{Failed}
+use Rattle.reader.specs.declared.types.Named.{Named}
+use Rattle.reader.specs.declared.definitions.Laid.{Laid}
+use Rattle.reader.specs.declared.definitions.Whole.{Whole}
 
 -- ---- what is told of the tokens from n on
 
@@ -39,15 +40,35 @@ Function n = λ ts. Settles ts (read def) n
 abbrev pub Sequel : ℕ → Told Program
 Sequel n = λ ts. Settles ts (read program) n
 
+-- ---- what is answered
+
+abbrev pub Typing : Type 0
+Typing = Fallible Named Failed
+
+abbrev pub named_at : ℕ → ℕ → Typing
+named_at number m = Ok (record { number = number; next = m })
+
+abbrev pub Rows : Type 0
+Rows = Fallible Laid Failed
+
+abbrev pub laid_at : ℕ → ℕ → Rows
+laid_at m k = Ok (record { next = m; free = k })
+
+abbrev pub Parsed : Type 0
+Parsed = Fallible Whole Failed
+
+abbrev pub whole_at : ℕ → ℕ → ℕ → Parsed
+whole_at defs root m = Ok (record { defs = defs; root = root; next = m })
+
 -- ---- types
 
--- the number of the type that a word of kind k stands for, 0 where it stands for none
-abbrev pub number_or : Option Ty → ℕ
-number_or (some t) = type_number t
-number_or none = 0
+-- the number of the type that a word of kind k stands for, if it stands for one
+abbrev pub number_if : Option Ty → Maybe ℕ
+number_if (some t) = Some (type_number t)
+number_if none = None
 
-abbrev pub basic_number : ℕ → ℕ
-basic_number k = number_or (entry basics k)
+abbrev pub basic_number : ℕ → Maybe ℕ
+basic_number k = number_if (entry basics k)
 
 pub record Typed (T : Result Ty → Type 0) (number m : ℕ) : Type 0 where
   pub type : Ty
@@ -55,8 +76,8 @@ pub record Typed (T : Result Ty → Type 0) (number m : ℕ) : Type 0 where
   pub numbered : number ≡ type_number type
 
 abbrev pub TypeOutcome : (Result Ty → Type 0) → Typing → Type 0
-TypeOutcome T (Typing.Type number m) = Typed T number m
-TypeOutcome T (Typing.None e) = T (failed e)
+TypeOutcome T (Ok t) = Typed T t.number t.next
+TypeOutcome T (Err e) = T (failed e.at)
 
 -- the type ends at a token m from lo up to hi; its number is small enough to count one `ref` for each token
 pub record Numbered (lo hi number m : ℕ) : Type 0 where
@@ -65,18 +86,18 @@ pub record Numbered (lo hi number m : ℕ) : Type 0 where
   pub small : number ≤ REF * m + PLAIN
 
 abbrev pub TypeAhead : ℕ → ℕ → Typing → Type 0
-TypeAhead lo hi (Typing.Type number m) = Numbered lo hi number m
-TypeAhead lo hi (Typing.None e) = Unit {0}
+TypeAhead lo hi (Ok t) = Numbered lo hi t.number t.next
+TypeAhead lo hi (Err e) = Unit {0}
 
 pub record TypeAnswer (T : Told Ty) (count : ℕ) (w : List ℕ) (lo hi : ℕ) (g : Typing) : Type 0 where
   pub told : (ts : List Token) → Stand w count ts → TypeOutcome (T ts) g
   pub ahead : TypeAhead lo hi g
 
 -- the same behind a type of this number
-pub record RefsAnswer (count : ℕ) (w : List ℕ) (n number : ℕ) (g : Typing) : Type 0 where
+pub record RefsAnswer (count : ℕ) (w : List ℕ) (n number : ℕ) (g : Named) : Type 0 where
   pub told : (ts : List Token) → Stand w count ts → (t : Ty) → number ≡ type_number t
-      → TypeOutcome (Settles ts (refs t) n) g
-  pub ahead : TypeAhead n (count + 1) g
+      → Typed (Settles ts (refs t) n) g.number g.next
+  pub ahead : Numbered n (count + 1) g.number g.next
 
 -- ---- parameters and functions
 
@@ -87,13 +108,13 @@ pub record Past (count n f m k : ℕ) : Type 0 where
   pub owned : k + n < m + f
 
 abbrev pub RowsAhead : ℕ → ℕ → ℕ → Rows → Type 0
-RowsAhead count n f (Rows.Laid m k) = Past count n f m k
-RowsAhead count n f (Rows.None e) = Unit {0}
+RowsAhead count n f (Ok l) = Past count n f l.next l.free
+RowsAhead count n f (Err e) = Unit {0}
 
 -- parameters give no row back
 abbrev pub RowsGrow : ℕ → Rows → Type 0
-RowsGrow f (Rows.Laid m k) = f ≤ k
-RowsGrow f (Rows.None e) = Unit {0}
+RowsGrow f (Ok l) = f ≤ l.free
+RowsGrow f (Err e) = Unit {0}
 
 pub record LaidParams (T : Result (List Param) → Type 0) (w : List ℕ) (f m k : ℕ) (w' : List ℕ) : Type 0 where
   pub params : List Param
@@ -102,8 +123,8 @@ pub record LaidParams (T : Result (List Param) → Type 0) (w : List ℕ) (f m k
   pub laid : w' ≡ lay_params w f params
 
 abbrev pub ParamsOutcome : (Result (List Param) → Type 0) → List ℕ → ℕ → Rows → List ℕ → Type 0
-ParamsOutcome T w f (Rows.Laid m k) w' = LaidParams T w f m k w'
-ParamsOutcome T w f (Rows.None e) w' = T (failed e)
+ParamsOutcome T w f (Ok l) w' = LaidParams T w f l.next l.free w'
+ParamsOutcome T w f (Err e) w' = T (failed e.at)
 
 pub record ParamsAnswer (T : Told (List Param)) (count : ℕ) (w : List ℕ) (n f : ℕ) (g : Rows) (w' : List ℕ) : Type 0
   where
@@ -119,19 +140,13 @@ pub record LaidDef (T : Result Def → Type 0) (w : List ℕ) (f m k : ℕ) (w' 
   pub laid : w' ≡ lay_def w f def
 
 abbrev pub DefOutcome : (Result Def → Type 0) → List ℕ → ℕ → Rows → List ℕ → Type 0
-DefOutcome T w f (Rows.Laid m k) w' = LaidDef T w f m k w'
-DefOutcome T w f (Rows.None e) w' = T (failed e)
+DefOutcome T w f (Ok l) w' = LaidDef T w f l.next l.free w'
+DefOutcome T w f (Err e) w' = T (failed e.at)
 
 pub record DefAnswer (T : Told Def) (count : ℕ) (w : List ℕ) (n f : ℕ) (g : Rows) (w' : List ℕ) : Type 0 where
   pub told : (ts : List Token) → Stand w count ts → DefOutcome (T ts) w f g w'
   pub ahead : RowsAhead count n f g
   pub clear : without_rows w' ≡ without_rows w
-
--- A function's row is written by `put` once its body has been read, with the body's root; where there is none, nothing
--- is.
-abbrev pub Headed : (List ℕ → ℕ → List ℕ) → Part → List ℕ → Rows → List ℕ → Type 0
-Headed put (Part.Tree r m k) w g w' = (g ≡ Rows.Laid m k) × (w' ≡ put w r)
-Headed put (Part.None e) w g w' = (g ≡ Rows.None e) × (w' ≡ w)
 
 -- ---- the program, `before` functions being behind
 
@@ -144,8 +159,8 @@ pub record LaidProgram (T : Result Program → Type 0) (w : List ℕ) (f before 
     pub laid : w' ≡ lay (lay_defs w f before program.defs) (f + defs_rows program.defs) program.main
 
 abbrev pub ProgramOutcome : (Result Program → Type 0) → List ℕ → ℕ → ℕ → Parsed → List ℕ → Type 0
-ProgramOutcome T w f before (Parsed.Program defs root m) w' = LaidProgram T w f before defs root m w'
-ProgramOutcome T w f before (Parsed.None e) w' = T (failed e)
+ProgramOutcome T w f before (Ok p) w' = LaidProgram T w f before p.defs p.root p.next w'
+ProgramOutcome T w f before (Err e) w' = T (failed e.at)
 
 pub record ProgramAnswer (T : Told Program) (count : ℕ) (w : List ℕ) (f before : ℕ) (g : Parsed) (w' : List ℕ) : Type 0
   where

@@ -1,5 +1,5 @@
 -- What the reader finds in a table whose tokens stand for ts: the table was w, and is w'.
-use Rattle.std.specs.Prelude.{List, ◌≡◌, ℕ, ◌≤◌, length}
+use Rattle.std.specs.Prelude.{Result, Ok, Err, List, ◌≡◌, ℕ, ◌≤◌, length}
 use Rattle.language.specs.Sizes.{TABLE}
 use Rattle.language.specs.Tokens.{Token}
 use Rattle.language.specs.Trees.{Program}
@@ -9,7 +9,7 @@ use Rattle.layout.specs.Table.{without_rows}
 use Rattle.layout.specs.Names.{Stand}
 use Rattle.layout.specs.Rows.{lay_program, held_as}
 use Rattle.layout.specs.declared.Held.{Held}
-use Rattle.reader.specs.declared.Found.{Found}
+use Rattle.phrases.specs.declared.parts.Failed.{Failed}
 
 -- the table stands for some tokens
 pub record Standing (w : List ℕ) (count : ℕ) : Type 0 where
@@ -29,6 +29,6 @@ pub record Unread (ts : List Token) (w : List ℕ) (e : ℕ) (w' : List ℕ) : T
   pub at : FirstWrong ts e
   pub clear : w' ≡ without_rows w
 
-abbrev pub Finds : List Token → List ℕ → Found → List ℕ → Type 0
-Finds ts w (Found.Program P) w' = Read ts w P w'
-Finds ts w (Found.None e) w' = Unread ts w e w'
+abbrev pub Finds : List Token → List ℕ → Result Held Failed → List ℕ → Type 0
+Finds ts w (Ok P) w' = Read ts w P w'
+Finds ts w (Err e) w' = Unread ts w e.at w'

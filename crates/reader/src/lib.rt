@@ -10,43 +10,30 @@ ghost use Rattle.language.specs.Tokens.{Token};
 ghost use Rattle.layout.specs.Names.{Stand};
 ghost use Rattle.reader.specs.Findings.{Standing, Finds};
 
-use definitions::{Parsed, program};
+use definitions::program;
 use layout::memory::clear;
 use layout::{Held, ROWS_AT, VARIABLES_AT};
+use phrases::parts::Failed;
 
-#[derive(Clone, Copy)]
-pub enum Found {
-    // The reading, laid down in the table.
-    Program(Held),
-    // The token at which reading failed.
-    None { at: usize },
-}
-
-// Reads the first `count` tokens of the table. Where there is no reading, no row is left in it. Each row has a
-// token of its own, so there is room for every row.
-pub fn read(table: &mut [u32], count: usize) -> Found
+// Reads the first `count` tokens of the table: the reading, laid down in it, or the token at which reading failed.
+// Where there is no reading, no row is left in it. Each row has a token of its own, so there is room for every row.
+pub fn read(table: &mut [u32], count: usize) -> Result<Held, Failed>
     requires { Standing table.old count }
     ensures { (ts : List Token) → Stand table.old count ts
         → Finds ts table.old result table.new }
 {
-    let parsed = program(table, count, 0, 0, 0);
-    match parsed {
-        Parsed::Program { defs, root, next } => {
-            if next != count {
-                clear(table, ROWS_AT, VARIABLES_AT);
-                return Found::None { at: next };
-            }
-            let row = root as usize;
+    let failed = match program(table, count, 0, 0, 0) {
+        Ok(whole) if whole.next == count => {
             let held = Held {
                 count,
-                functions: defs,
-                root: row,
+                functions: whole.defs,
+                root: whole.root as usize,
             };
-            Found::Program(held)
+            return Ok(held);
         }
-        Parsed::None { at: e } => {
-            clear(table, ROWS_AT, VARIABLES_AT);
-            Found::None { at: e }
-        }
-    }
+        Ok(whole) => Failed { at: whole.next },
+        Err(failed) => failed,
+    };
+    clear(table, ROWS_AT, VARIABLES_AT);
+    Err(failed)
 }

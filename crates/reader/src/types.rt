@@ -7,77 +7,62 @@ ghost use Rattle.reader.specs.Definitions.{TypeAnswer, RefsAnswer, Typeful, Resu
 use language::kinds;
 use layout::token::kind;
 use layout::types;
+use phrases::parts::Failed;
 
+// A type's number, and the token behind it.
 #[derive(Clone, Copy)]
-pub enum Typing {
-    // Its number, and the token behind it.
-    Type { number: u32, next: usize },
-    // The token at which reading failed.
-    None { at: usize },
+pub struct Named {
+    pub number: u32,
+    pub next: usize,
 }
 
-// The number of the type that a word stands for, 0 for any other token.
-fn basic(k: u32) -> u32
+// The number of the type that a word stands for; none for any other token.
+fn basic(k: u32) -> Option<u32>
     ensures { result ≡ basic_number k }
 {
     match k {
-        kinds::INT => types::INT,
-        kinds::BOOL => types::BOOL,
-        kinds::UNIT => types::UNIT,
-        kinds::FLOAT => types::FLOAT,
-        _ => 0,
+        kinds::INT => Some(types::INT),
+        kinds::BOOL => Some(types::BOOL),
+        kinds::UNIT => Some(types::UNIT),
+        kinds::FLOAT => Some(types::FLOAT),
+        _ => None,
     }
 }
 
 // Each `ref` behind a type.
-fn refs(table: &[u32], count: usize, at: usize, number: u32) -> Typing
+fn refs(table: &[u32], count: usize, at: usize, number: u32) -> Named
     requires { (TABLE ≤ length table.now) × (count ≤ TOKENS) × (at ≤ count) × (number ≤ REF * at + PLAIN) }
     ensures { RefsAnswer count table.now at number result }
 {
     if kind(table, count, at) == kinds::REF {
         refs(table, count, at + 1, types::REF + number)
     } else {
-        Typing::Type {
-            number: number,
-            next: at,
-        }
+        Named { number, next: at }
     }
 }
 
 // A word, and each `ref` behind it.
-pub fn type_at(table: &[u32], count: usize, at: usize) -> Typing
+pub fn type_at(table: &[u32], count: usize, at: usize) -> Result<Named, Failed>
     requires { (TABLE ≤ length table.now) × (count ≤ TOKENS) × (at ≤ count) }
     ensures { TypeAnswer (Typeful at) count table.now (at + 1) (count + 1) result }
 {
-    let k = kind(table, count, at);
-    let number = basic(k);
-    if number == 0 {
-        Typing::None { at: at }
-    } else {
-        refs(table, count, at + 1, number)
+    match basic(kind(table, count, at)) {
+        Some(number) => Ok(refs(table, count, at + 1, number)),
+        None => Err(Failed { at }),
     }
 }
 
 // `:`, the type of a result, and the `{` behind it, at which it stops.
-pub fn result(table: &[u32], count: usize, at: usize) -> Typing
+pub fn result(table: &[u32], count: usize, at: usize) -> Result<Named, Failed>
     requires { (TABLE ≤ length table.now) × (count ≤ TOKENS) × (at ≤ count) }
     ensures { TypeAnswer (Resulting at) count table.now (at + 2) count result }
 {
     if kind(table, count, at) != kinds::COLON {
-        return Typing::None { at: at };
+        return Err(Failed { at });
     }
-    let named = type_at(table, count, at + 1);
-    match named {
-        Typing::Type { number, next } => {
-            if kind(table, count, next) == kinds::LBRACE {
-                Typing::Type {
-                    number: number,
-                    next: next,
-                }
-            } else {
-                Typing::None { at: next }
-            }
-        }
-        Typing::None { at: e } => Typing::None { at: e },
+    let named = type_at(table, count, at + 1)?;
+    if kind(table, count, named.next) != kinds::LBRACE {
+        return Err(Failed { at: named.next });
     }
+    Ok(named)
 }

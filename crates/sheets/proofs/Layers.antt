@@ -33,7 +33,6 @@ use Rattle.std.specs.Prelude.{Result, Ok, Err}
 use Rattle.tokens.specs.declared.answer.Unsplit as unsplit
 use Rattle.reader.specs.Findings as Reader
 use Rattle.reader.specs.Findings.{Standing}
-use Rattle.reader.specs.declared.Found as found
 use Rattle.checker.specs.Checked as Checker
 use Rattle.rules.specs.Asked.{Typing}
 use Rattle.rules.specs.declared.Fault.{Fault}
@@ -96,8 +95,9 @@ module _ (w w' : List ℕ) (P : Held) where
 -- ---- the reading of tokens
 
 module _ (w w₁ : List ℕ) (count : ℕ) (st : Standing w count) where
-  abbrev Found : found.Found → Type 0
-  Found g = (ts : List Token) → Stand w count ts → Reader.Finds ts w g w₁
+  -- the tokens are read as the program that P says
+  abbrev Reads : Held → Type 0
+  Reads P = (ts : List Token) → Stand w count ts → Reader.Read ts w P w₁
 
   program_holds : {P : Held} {ts : List Token} → Stand w count ts → (r : Reader.Read ts w P w₁) → Holds ts w₁ P r.program
   program_holds {ts = ts} s r = rw (r.laid, r.held) (held ts r.program w st.long s r.reading)
@@ -107,9 +107,8 @@ module _ (w w₁ : List ℕ) (count : ℕ) (st : Standing w count) where
   program_count s r = ap (λ (P : Held). P.count) r.held ∙ s.long
 
   -- the reader's table can be given to the checker
-  pub program_held : (r : found.Found) (P : Held) → Found r → r ≡ found.TheVariants.Program P → Checker.Checkable w₁ P
-  program_held r P f e =
-      let g = subst Found e f in
+  pub program_held : (P : Held) → Reads P → Checker.Checkable w₁ P
+  program_held P g =
       let r = g st.tokens st.stand in
       record { tokens = st.tokens; program = r.program; holds = program_holds st.stand r }
 
@@ -130,21 +129,18 @@ module _ (w w₁ : List ℕ) (count : ℕ) (st : Standing w count) where
   }
   of_program (Verdict.Denied y i) r (v, f, e) h = rw e (faulty r.reading f)
 
-  pub read_program : (w₂ : List ℕ) (r : found.Found) (P : Held) (v : Verdict) → Found r → r ≡ found.TheVariants.Program P
-      → Typed w₁ w₂ P v → Read w w₂ count v
-  read_program w₂ r P v f e t =
-      let g = subst Found e f in
-      record {
-        told = λ ts x.
-            let r = g ts x in
-            let h = program_holds x r in
-            of_program v r (t.told ts r.program h) (t.holds ts r.program h);
-        stands = λ ts x.
-            let r = g ts x in
-            subst (λ (n : ℕ). Stand w₂ n ts) (program_count x r) (t.holds ts r.program (program_holds x r)).stand;
-        rest = t.rest ∙ program_rest (g st.tokens st.stand);
-        long = t.long ∙ ap length (g st.tokens st.stand).laid ∙ length_lay_program (g st.tokens st.stand).program w;
-      }
+  pub read_program : (w₂ : List ℕ) (P : Held) (v : Verdict) → Reads P → Typed w₁ w₂ P v → Read w w₂ count v
+  read_program w₂ P v g t = record {
+    told = λ ts x.
+        let r = g ts x in
+        let h = program_holds x r in
+        of_program v r (t.told ts r.program h) (t.holds ts r.program h);
+    stands = λ ts x.
+        let r = g ts x in
+        subst (λ (n : ℕ). Stand w₂ n ts) (program_count x r) (t.holds ts r.program (program_holds x r)).stand;
+    rest = t.rest ∙ program_rest (g st.tokens st.stand);
+    long = t.long ∙ ap length (g st.tokens st.stand).laid ∙ length_lay_program (g st.tokens st.stand).program w;
+  }
 
   -- where there is no program the rows are cleared
   read_denied : (y : Refusal) (i : ℕ) → w₁ ≡ without_rows w → ((ts : List Token) → Stand w count ts → Denied ts (refusal_meant y) (at i))
@@ -156,10 +152,9 @@ module _ (w w₁ : List ℕ) (count : ℕ) (st : Standing w count) where
     long = ap length e ∙ length_zeros _ w _;
   }
 
-  pub read_none : (r : found.Found) (i : ℕ) → Found r → r ≡ found.TheVariants.None i → Read w w₁ count (Verdict.Denied Refusal.NoReading i)
-  read_none r i f e =
-      let g = subst Found e f in
-      read_denied Refusal.NoReading i (g st.tokens st.stand).clear λ ts x. unread (g ts x).at
+  pub read_none : (i : ℕ) → ((ts : List Token) → Stand w count ts → Reader.Unread ts w i w₁)
+      → Read w w₁ count (Verdict.Denied Refusal.NoReading i)
+  read_none i g = read_denied Refusal.NoReading i (g st.tokens st.stand).clear λ ts x. unread (g ts x).at
 
 -- ---- a source
 

@@ -17,7 +17,6 @@ ghost use Rattle.sheets.specs.Forms.{origin_of, place_of};
 
 use layout::Held;
 use numbers::Refusal;
-use reader::Found;
 use stored::Denied;
 use tokens::answer::Unsplit;
 use tokens::edition::{Edition, named};
@@ -85,8 +84,8 @@ fn read(table: &mut [u32], count: usize) -> Verdict
     ensures { Read table.old table.new count result }
 {
     match reader::read(table, count) {
-        Found::Program(program) => typed(table, program),
-        Found::None { at } => Verdict::Denied(Refusal::NoReading, at),
+        Ok(program) => typed(table, program),
+        Err(failed) => Verdict::Denied(Refusal::NoReading, failed.at),
     }
 }
 

@@ -3,12 +3,12 @@ use Rattle.sheets.proofs.read.Goals as goal
 
 pub typed-requires : goal.typed-requires
 typed-requires c =
-    program_held _ _ _ c.requires _ _ c.read.ensures c.in-Program.is
+    program_held _ _ _ c.requires _ c.in-Ok.ensures
 
-pub returns-in-Program : goal.returns-in-Program
-returns-in-Program c =
-    read_program _ _ _ c.requires _ _ _ _ c.read.ensures c.in-Program.is c.typed.ensures
+pub returns-in-Ok : goal.returns-in-Ok
+returns-in-Ok c =
+    read_program _ _ _ c.requires _ _ _ c.in-Ok.ensures c.typed.ensures
 
-pub returns-in-None : goal.returns-in-None
-returns-in-None c =
-    read_none _ _ _ c.requires _ _ c.read.ensures c.in-None.is
+pub returns-in-Err : goal.returns-in-Err
+returns-in-Err c =
+    read_none _ _ _ c.requires _ c.in-Err.ensures

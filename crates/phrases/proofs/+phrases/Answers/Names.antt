@@ -1,50 +1,50 @@
 -- What the borrow checker leaves of the readers of names and calls.
-use mathlib.Core.Path.{refl, sym, ◌∙◌}
+use mathlib.Core.Path.{refl, sym, subst, ◌∙◌}
 use native.Mathlib.Omega.{arith}
 use Rattle.phrases.proofs.Moving.{node_fits, call_fits, second_with}
 use Rattle.phrases.proofs.Standing.{within}
-use Rattle.phrases.proofs.Answering.{known}
+use Rattle.phrases.specs.Parts.{Placed}
+use Rattle.phrases.proofs.Answering.{known, written}
 use Rattle.phrases.proofs.Listing.{back_all}
 use Rattle.phrases.proofs.CallLaws.{args_none, args_other, args_last, args_more, just_name, call_none, call_some}
 use Rattle.phrases.proofs.+phrases.Goals as goal
 
-pub arguments-node-requires : goal.names::arguments-node-requires
-arguments-node-requires t c =
+pub arguments-around-requires : goal.names::arguments-around-requires
+arguments-around-requires t c =
     let p = c.requires.room in
-    let seen = c.unpack-first.ensures ∙ c.in-Tree.is in
-    let o = (known c.seq-first_word.ensures seen).ahead in
-    let i = within _ _ _ _ (sym c.kind-k.ensures ∙ c.if-k-eq-RPAR.true) (omega arith) in
-    node_fits p c.seq-first_word.auto.table c.requires.own_lt_count (omega arith) (omega arith)
+    let seen = sym c.part.ensures ∙ c.in-Ok.is in
+    let o = (known c.seq-read.ensures seen).ahead in
+    let i = within _ _ _ _ (sym c.kind.ensures ∙ c.in-36.is) (omega arith) in
+    (omega arith, omega arith, subst Placed (sym seen) (omega arith, omega arith))
 
-pub arguments-returns-then-k-eq-RPAR : goal.names::arguments-returns-then-k-eq-RPAR
-arguments-returns-then-k-eq-RPAR t c =
-    let i = within _ _ _ _ (sym c.kind-k.ensures ∙ c.if-k-eq-RPAR.true) (omega arith) in
-    let seen = c.unpack-first.ensures ∙ c.in-Tree.is in
-    args_last (known c.seq-first_word.ensures seen) (sym c.kind-k.ensures ∙ c.if-k-eq-RPAR.true) i c.node.ensures
+pub arguments-returns-in-36 : goal.names::arguments-returns-in-36
+arguments-returns-in-36 t c =
+    let i = within _ _ _ _ (sym c.kind.ensures ∙ c.in-36.is) (omega arith) in
+    let seen = sym c.part.ensures ∙ c.in-Ok.is in
+    args_last (known c.seq-read.ensures seen) (sym c.kind.ensures ∙ c.in-36.is) i (written _ _ seen c.around.ensures)
 
-pub arguments-returns-then-k-ne-COMMA : goal.names::arguments-returns-then-k-ne-COMMA
-arguments-returns-then-k-ne-COMMA t c =
-    let seen = c.unpack-first.ensures ∙ c.in-Tree.is in
-    back_all (args_other (known c.seq-first_word.ensures seen) (λ e. c.if-k-eq-RPAR.false (c.kind-k.ensures ∙ e))
-    (λ e. c.if-k-ne-COMMA.true (c.kind-k.ensures ∙ e))) c.failed_at.ensures
+pub arguments-returns-in_default-kind : goal.names::arguments-returns-in_default-kind
+arguments-returns-in_default-kind t c =
+    let seen = sym c.part.ensures ∙ c.in-Ok.is in
+    back_all (args_other (known c.seq-read.ensures seen) (omega arith) (omega arith)) c.failed.ensures
 
 pub arguments-arguments-list-requires : goal.names::arguments-arguments-list-requires
 arguments-arguments-list-requires t c =
     let p = c.requires.room in
-    let seen = c.unpack-first.ensures ∙ c.in-Tree.is in
-    let o = (known c.seq-first_word.ensures seen).ahead in
-    let i = within _ _ _ _ (sym c.kind-k.ensures ∙ c.if-k-ne-COMMA.false) (omega arith) in
-    second_with p 17 17 c.decreases c.seq-first_word.auto.table (omega arith) (omega arith) (omega arith) (omega arith) c.requires.own_lt_count
+    let seen = sym c.part.ensures ∙ c.in-Ok.is in
+    let o = (known c.seq-read.ensures seen).ahead in
+    let i = within _ _ _ _ (sym c.kind.ensures ∙ c.in-33.is) (omega arith) in
+    second_with p 17 17 c.decreases c.seq-read.auto.table (omega arith) (omega arith) (omega arith) (omega arith) c.requires.own_lt_count
 
-pub arguments-returns-else-k-ne-COMMA : goal.names::arguments-returns-else-k-ne-COMMA
-arguments-returns-else-k-ne-COMMA t c =
-    let seen = c.unpack-first.ensures ∙ c.in-Tree.is in
-    args_more (known c.seq-first_word.ensures seen) _ (sym c.kind-k.ensures ∙ c.if-k-ne-COMMA.false) c.arguments-list.ensures c.pair.ensures
+pub arguments-returns-in-33 : goal.names::arguments-returns-in-33
+arguments-returns-in-33 t c =
+    let seen = sym c.part.ensures ∙ c.in-Ok.is in
+    args_more (known c.seq-read.ensures seen) _ (sym c.kind.ensures ∙ c.in-33.is) c.arguments-list.ensures c.pair.ensures
 
-pub arguments-returns-in-None : goal.names::arguments-returns-in-None
-arguments-returns-in-None t c =
-    let seen = c.unpack-first.ensures ∙ c.in-None.is in
-    back_all (args_none (known c.seq-first_word.ensures seen)) seen
+pub arguments-returns-in_default : goal.names::arguments-returns-in_default
+arguments-returns-in_default t c =
+    let seen = sym c.part.ensures ∙ c.in_default.is in
+    back_all (args_none (known c.seq-read.ensures seen)) seen
 
 pub named-node-requires : goal.names::named-node-requires
 named-node-requires t c =

@@ -5,7 +5,7 @@ use Rattle.phrases.proofs.Moving.{top_fits, later, later_with, node_fits}
 use Rattle.phrases.proofs.Standing.{within}
 use Rattle.phrases.proofs.Answering.{back, known}
 use Rattle.phrases.proofs.RowKinds.{constant_within, prefix_within, prefix_small}
-use Rattle.phrases.proofs.OperandLaws.{assign_none, assign_one, assign_to, atom_constant, atom_number, atom_float, atom_group, atom_block}
+use Rattle.phrases.proofs.OperandLaws.{assign_none, assign_one, assign_to, atom_constant, numeral_within, atom_numeral, atom_group, atom_block}
 use Rattle.phrases.proofs.OperandLaws.{atom_other, un_prefix, un_atom}
 use Rattle.phrases.proofs.OperatorLaws.{back_end, back_more, binding, rest_end, rest_none, rest_more, tier_none, tier_first}
 use Rattle.phrases.proofs.+phrases.Goals as goal
@@ -13,34 +13,34 @@ use Rattle.phrases.proofs.+phrases.Goals as goal
 pub assign-tier-value-requires : goal.tiers::assign-tier-value-requires
 assign-tier-value-requires t c =
     let p = c.requires in
-    let seen = c.unpack-target.ensures ∙ c.in-Tree.is in
-    let o = (known c.tier-target_word.ensures seen).ahead in
-    let i = within _ _ _ _ (sym c.kind.ensures ∙ c.if-kind-eq-BECOMES.true) (omega arith) in
-    later_with p 5 4 c.decreases c.tier-target_word.auto.table (omega arith) (omega arith) (omega arith) (omega arith)
+    let seen = sym c.part.ensures ∙ c.in-Ok.is in
+    let o = (known c.tier-read.ensures seen).ahead in
+    let i = within _ _ _ _ (sym c.kind.ensures ∙ c.if-kind-ne-BECOMES.false) (omega arith) in
+    later_with p 5 4 c.decreases c.tier-read.auto.table (omega arith) (omega arith) (omega arith) (omega arith)
     (omega arith, omega arith, λ e. omega arith)
 
 pub assign-pair-requires : goal.tiers::assign-pair-requires
 assign-pair-requires t c =
     let p = c.requires in
-    let seen = c.unpack-target.ensures ∙ c.in-Tree.is in
-    let o = (known c.tier-target_word.ensures seen).ahead in
-    let i = within _ _ _ _ (sym c.kind.ensures ∙ c.if-kind-eq-BECOMES.true) (omega arith) in
-    top_fits p _ c.tier-value.ensures (omega arith) (omega arith) (c.tier-value.auto.table ∙ c.tier-target_word.auto.table) i
+    let seen = sym c.part.ensures ∙ c.in-Ok.is in
+    let o = (known c.tier-read.ensures seen).ahead in
+    let i = within _ _ _ _ (sym c.kind.ensures ∙ c.if-kind-ne-BECOMES.false) (omega arith) in
+    top_fits p _ c.tier-value.ensures (omega arith) (omega arith) (c.tier-value.auto.table ∙ c.tier-read.auto.table) i
 
-pub assign-returns-then-kind-eq-BECOMES : goal.tiers::assign-returns-then-kind-eq-BECOMES
-assign-returns-then-kind-eq-BECOMES t c =
-    let seen = c.unpack-target.ensures ∙ c.in-Tree.is in
-    assign_to (known c.tier-target_word.ensures seen) (sym c.kind.ensures ∙ c.if-kind-eq-BECOMES.true) c.tier-value.ensures c.pair.ensures
+pub assign-returns : goal.tiers::assign-returns
+assign-returns t c =
+    let seen = sym c.part.ensures ∙ c.in-Ok.is in
+    assign_to (known c.tier-read.ensures seen) (sym c.kind.ensures ∙ c.if-kind-ne-BECOMES.false) c.tier-value.ensures c.pair.ensures
 
-pub assign-returns-else-kind-eq-BECOMES : goal.tiers::assign-returns-else-kind-eq-BECOMES
-assign-returns-else-kind-eq-BECOMES t c =
-    let seen = c.unpack-target.ensures ∙ c.in-Tree.is in
-    back (assign_one (known c.tier-target_word.ensures seen) (λ e. c.if-kind-eq-BECOMES.false (c.kind.ensures ∙ e))) seen
+pub assign-returns-then-kind-ne-BECOMES : goal.tiers::assign-returns-then-kind-ne-BECOMES
+assign-returns-then-kind-ne-BECOMES t c =
+    let seen = sym c.part.ensures ∙ c.in-Ok.is in
+    back (assign_one (known c.tier-read.ensures seen) (λ e. c.if-kind-ne-BECOMES.true (c.kind.ensures ∙ e))) seen
 
-pub assign-returns-in-None : goal.tiers::assign-returns-in-None
-assign-returns-in-None t c =
-    let seen = c.unpack-target.ensures ∙ c.in-None.is in
-    back (assign_none (known c.tier-target_word.ensures seen)) seen
+pub assign-returns-in_default : goal.tiers::assign-returns-in_default
+assign-returns-in_default t c =
+    let seen = sym c.part.ensures ∙ c.in_default.is in
+    back (assign_none (known c.tier-read.ensures seen)) seen
 
 pub atom-node-requires : goal.tiers::atom-node-requires
 atom-node-requires t c =
@@ -56,13 +56,7 @@ atom-returns-then-is_constant t c =
 pub atom-node-requires-in-2 : goal.tiers::atom-node-requires-in-2
 atom-node-requires-in-2 t c =
     let p = c.requires in
-    let i = within _ _ _ _ (sym c.kind-k.ensures ∙ c.in-2.is) (omega arith) in
-    node_fits p refl i (omega arith) (omega arith)
-
-pub atom-node-requires-in-39 : goal.tiers::atom-node-requires-in-39
-atom-node-requires-in-39 t c =
-    let p = c.requires in
-    let i = within _ _ _ _ (sym c.kind-k.ensures ∙ c.in-39.is) (omega arith) in
+    let i = numeral_within _ _ _ _ c.kind-k.ensures c.in-2.is in
     node_fits p refl i (omega arith) (omega arith)
 
 pub atom-until-inside-requires : goal.tiers::atom-until-inside-requires
@@ -91,13 +85,7 @@ atom-around-requires-in-37 t c =
 
 pub atom-returns-in-2 : goal.tiers::atom-returns-in-2
 atom-returns-in-2 t c =
-    let i = within _ _ _ _ (sym c.kind-k.ensures ∙ c.in-2.is) (omega arith) in
-    atom_number c.kind-k.ensures c.in-2.is i c.node-in-2.ensures
-
-pub atom-returns-in-39 : goal.tiers::atom-returns-in-39
-atom-returns-in-39 t c =
-    let i = within _ _ _ _ (sym c.kind-k.ensures ∙ c.in-39.is) (omega arith) in
-    atom_float c.kind-k.ensures c.in-39.is i c.node-in-39.ensures
+    atom_numeral c.kind-k.ensures c.in-2.is c.node-in-2.ensures
 
 pub atom-returns-in-35 : goal.tiers::atom-returns-in-35
 atom-returns-in-35 t c =
@@ -109,22 +97,16 @@ atom-returns-in-37 t c =
 
 pub atom-returns-in_default : goal.tiers::atom-returns-in_default
 atom-returns-in_default t c =
-    back (atom_other c.kind-k.ensures (sym c.is_constant.ensures ∙ c.if-is_constant.false) (omega arith) (omega arith) (omega arith) (omega arith)
-    (omega arith)) c.failed_at.ensures
+    back (atom_other c.kind-k.ensures (sym c.is_constant.ensures ∙ c.if-is_constant.false) (grind arith) (grind arith) (omega arith) (omega arith)
+    (omega arith)) c.failed.ensures
 
 pub rest-returns-then-p-least : goal.tiers::rest-returns-then-p-least
 rest-returns-then-p-least t c =
     back_end (rest_end _ _ _ _ _ _ _ _ _ c.requires.le_least.0 c.kind-k.ensures c.tightness-p.ensures c.requires.room c.requires.free_value
-    c.requires.le_least.1 c.requires.le_least.3 (let y = c.if-p-least.true in λ s t. omega arith)) c.tree_of.ensures c.requires.free_value
+    c.requires.le_least.1 c.requires.le_least.3 (let y = c.then-p-least.either in λ s t. grind arith)) c.tree.ensures c.requires.free_value
 
-pub rest-returns-then-p-most : goal.tiers::rest-returns-then-p-most
-rest-returns-then-p-most t c =
-    back_end (rest_end _ _ _ _ _ _ _ _ _ c.requires.le_least.0 c.kind-k.ensures c.tightness-p.ensures c.requires.room c.requires.free_value
-    c.requires.le_least.1 c.requires.le_least.3 (let y = c.if-p-most.true in λ s t. omega arith)) c.tree_of-then-p-most.ensures
-    c.requires.free_value
-
-pub rest-tier-right_word-requires : goal.tiers::rest-tier-right_word-requires
-rest-tier-right_word-requires t c =
+pub rest-tier-read-requires : goal.tiers::rest-tier-read-requires
+rest-tier-read-requires t c =
     let p = c.requires.room in
     let b = c.requires.le_least in
     let y = c.if-p-least.false in
@@ -132,33 +114,33 @@ rest-tier-right_word-requires t c =
     let x = binding _ _ _ _ _ c.kind-k.ensures c.tightness-p.ensures (omega arith) in
     later_with p 0 4 c.decreases refl (omega arith) (omega arith) (omega arith) (omega arith) (omega arith, omega arith, λ e. x.2 (omega arith))
 
-pub rest-returns-in-Tree : goal.tiers::rest-returns-in-Tree
-rest-returns-in-Tree t c =
+pub rest-returns : goal.tiers::rest-returns
+rest-returns t c =
     let p = c.requires.room in
-    let seen = c.unpack-right.ensures ∙ c.in-Tree.is in
-    let o = (known c.tier-right_word.ensures seen).ahead in
+    let seen = sym c.part.ensures ∙ c.in-Ok.is in
+    let o = (known c.tier-read.ensures seen).ahead in
     let y = c.if-p-least.false in
     let z = c.if-p-most.false in
     rest_more _ _ _ _ _ _ _ _ _ c.requires.le_least.0 c.kind-k.ensures c.tightness-p.ensures y z c.requires.free_value (omega arith)
-    (known c.tier-right_word.ensures seen) c.put.ensures _ c.after-tightest.ensures c.rest.ensures
+    (known c.tier-read.ensures seen) c.put.ensures _ c.after.ensures c.rest.ensures
 
-pub rest-returns-in-None : goal.tiers::rest-returns-in-None
-rest-returns-in-None t c =
+pub rest-returns-in_default : goal.tiers::rest-returns-in_default
+rest-returns-in_default t c =
     let y = c.if-p-least.false in
     let z = c.if-p-most.false in
-    let seen = c.unpack-right.ensures ∙ c.in-None.is in
+    let seen = sym c.part.ensures ∙ c.in_default.is in
     back_more (rest_none _ _ _ _ _ _ _ _ _ c.requires.le_least.0 c.kind-k.ensures c.tightness-p.ensures y z
-    (known c.tier-right_word.ensures seen)) seen
+    (known c.tier-read.ensures seen)) seen
 
-pub tier-returns-in-Tree : goal.tiers::tier-returns-in-Tree
-tier-returns-in-Tree t c =
-    let seen = c.unpack-first.ensures ∙ c.in-Tree.is in
-    tier_first _ (known c.un-first_word.ensures seen) c.rest.ensures
+pub tier-returns : goal.tiers::tier-returns
+tier-returns t c =
+    let seen = sym c.part.ensures ∙ c.in-Ok.is in
+    tier_first _ (known c.un-read.ensures seen) c.rest.ensures
 
-pub tier-returns-in-None : goal.tiers::tier-returns-in-None
-tier-returns-in-None t c =
-    let seen = c.unpack-first.ensures ∙ c.in-None.is in
-    back (tier_none c.requires.le_least.1 (known c.un-first_word.ensures seen)) seen
+pub tier-returns-in_default : goal.tiers::tier-returns-in_default
+tier-returns-in_default t c =
+    let seen = sym c.part.ensures ∙ c.in_default.is in
+    back (tier_none c.requires.le_least.1 (known c.un-read.ensures seen)) seen
 
 pub un-un-operand-requires : goal.tiers::un-un-operand-requires
 un-un-operand-requires t c =

@@ -8,7 +8,7 @@ use Rattle.phrases.proofs.parts.node.Goals as goal
 pub returns : goal.returns
 returns c =
     record {
-      answer = c.tree_of.ensures;
+      answer = c.tree.ensures;
       laid = c.put.ensures;
       clear = ap without_rows c.put.ensures
           ∙ without_put_row _ _ _ _ _ _ _ (omega arith);

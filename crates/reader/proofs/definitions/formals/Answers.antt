@@ -1,8 +1,9 @@
 -- Parameters between parentheses.
 use mathlib.Core.Path.{sym, ◌∙◌}
 use native.Mathlib.Omega.{arith}
+use Rattle.std.proofs.lemmas.Result.{err_from_is_err_and}
 use Rattle.phrases.proofs.Standing.{within}
-use Rattle.reader.proofs.DefinitionLaws.{known_params, formals_none, formals_failed, formals_other, formals_some}
+use Rattle.reader.proofs.DefinitionLaws.{formals_none, formals_failed, formals_other, formals_some}
 use Rattle.reader.proofs.definitions.formals.Goals as goal
 
 pub returns-then-kind-eq-RPAR : goal.returns-then-kind-eq-RPAR
@@ -10,26 +11,18 @@ returns-then-kind-eq-RPAR c =
     let i = within _ _ _ _ (sym c.kind.ensures ∙ c.if-kind-eq-RPAR.true) (omega arith) in
     formals_none (sym c.kind.ensures ∙ c.if-kind-eq-RPAR.true) i
 
-pub returns-then-kind-eq-RPAR-2 : goal.returns-then-kind-eq-RPAR-2
-returns-then-kind-eq-RPAR-2 c =
-    let i = within _ _ _ _ (sym c.kind-in-Laid.ensures ∙ c.if-kind-eq-RPAR-2.true) (omega arith) in
-    formals_some
-    (λ e. c.if-kind-eq-RPAR.false
-    (c.kind.ensures ∙ e))
-    (known_params c.params-list.ensures
-    c.in-Laid.is) (sym c.kind-in-Laid.ensures ∙ c.if-kind-eq-RPAR-2.true) i
+pub returns-in_err-list : goal.returns-in_err-list
+returns-in_err-list c =
+    let p = err_from_is_err_and c.from_residual.result c.from_residual.ensures.1 in
+    rw (p.1, p.2) (formals_failed (λ e. c.if-kind-eq-RPAR.false (c.kind.ensures ∙ e)) c.in_err-list.ensures)
 
-pub returns-else-kind-eq-RPAR-2 : goal.returns-else-kind-eq-RPAR-2
-returns-else-kind-eq-RPAR-2 c =
-    formals_other
-    (λ e. c.if-kind-eq-RPAR.false
-    (c.kind.ensures ∙ e))
-    (known_params c.params-list.ensures
-    c.in-Laid.is) (λ e. c.if-kind-eq-RPAR-2.false (c.kind-in-Laid.ensures ∙ e))
+pub returns-then-kind-ne-RPAR : goal.returns-then-kind-ne-RPAR
+returns-then-kind-ne-RPAR c =
+    formals_other (λ e. c.if-kind-eq-RPAR.false (c.kind.ensures ∙ e)) c.in_ok-list.ensures
+    (λ e. c.if-kind-ne-RPAR.true (c.kind-2.ensures ∙ e))
 
-pub returns-in-None : goal.returns-in-None
-returns-in-None c =
-    formals_failed
-    (λ e. c.if-kind-eq-RPAR.false
-    (c.kind.ensures ∙ e))
-    (known_params c.params-list.ensures c.in-None.is)
+pub returns : goal.returns
+returns c =
+    let i = within _ _ _ _ (sym c.kind-2.ensures ∙ c.if-kind-ne-RPAR.false) (omega arith) in
+    formals_some (λ e. c.if-kind-eq-RPAR.false (c.kind.ensures ∙ e)) c.in_ok-list.ensures
+    (sym c.kind-2.ensures ∙ c.if-kind-ne-RPAR.false) i

@@ -1,10 +1,11 @@
 -- A function: what stands before its body, its body, and its row.
 use mathlib.Core.Path.{refl, sym, ◌∙◌}
 use native.Mathlib.Omega.{arith}
+use Rattle.std.proofs.lemmas.Result.{err_from_is_err_and}
 use Rattle.phrases.proofs.Standing.{within}
 use Rattle.phrases.proofs.ItemLaws.{body}
-use Rattle.reader.proofs.TypeLaws.{known_type}
-use Rattle.reader.proofs.DefinitionLaws.{known_params, function_name, function_open, function_formals, function_result, function_all}
+use Rattle.phrases.proofs.Answering.{known}
+use Rattle.reader.proofs.DefinitionLaws.{function_name, function_open, function_formals, function_result, function_body, function_all}
 use Rattle.reader.proofs.definitions.function.Goals as goal
 
 pub returns-then-kind-ne-NAME : goal.returns-then-kind-ne-NAME
@@ -17,27 +18,35 @@ returns-then-kind-ne-LPAR c =
     (sym c.kind.ensures ∙ c.if-kind-ne-NAME.false)
     (λ e. c.if-kind-ne-LPAR.true (c.kind-2.ensures ∙ e))
 
-pub formals-list-requires : goal.formals-list-requires
-formals-list-requires c =
+pub formals-requires : goal.formals-requires
+formals-requires c =
     let p = c.requires.room in
     let i = within _ _ _ _ (sym c.kind-2.ensures ∙ c.if-kind-ne-LPAR.false) (omega arith) in
     record { wide = p.wide; few = p.few; inside = omega arith; owned = omega arith }
 
-pub returns-in-Type : goal.returns-in-Type
-returns-in-Type c =
+pub returns-in_err-list : goal.returns-in_err-list
+returns-in_err-list c =
+    let p = err_from_is_err_and c.from_residual.result c.from_residual.ensures.1 in
+    rw (p.1, p.2) (function_formals c.requires.at_value (sym c.kind.ensures ∙ c.if-kind-ne-NAME.false)
+    (sym c.kind-2.ensures ∙ c.if-kind-ne-LPAR.false) c.in_err-list.ensures)
+
+pub returns-in_err-named : goal.returns-in_err-named
+returns-in_err-named c =
+    let p = err_from_is_err_and c.from_residual-in_err-named.result c.from_residual-in_err-named.ensures.1 in
+    rw (p.1, p.2) (function_result c.requires.at_value (sym c.kind.ensures ∙ c.if-kind-ne-NAME.false)
+    (sym c.kind-2.ensures ∙ c.if-kind-ne-LPAR.false) c.in_ok-list.ensures c.in_err-named.ensures)
+
+pub returns-in_err-body : goal.returns-in_err-body
+returns-in_err-body c =
+    let p = err_from_is_err_and c.from_residual-in_err-body.result c.from_residual-in_err-body.ensures.1 in
+    let d = known (body c.until-inside.ensures c.around.ensures) (sym c.part.ensures ∙ c.in_err-body.was) in
+    rw (p.1, p.2) (function_body c.requires.at_value (sym c.kind.ensures ∙ c.if-kind-ne-NAME.false)
+    (sym c.kind-2.ensures ∙ c.if-kind-ne-LPAR.false) c.in_ok-list.ensures c.in_ok-named.ensures d)
+
+pub returns : goal.returns
+returns c =
     let p = c.requires.room in
     let i = within _ _ _ _ c.requires.at_value (omega arith) in
+    let d = known (body c.until-inside.ensures c.around.ensures) (sym c.part.ensures ∙ c.in_ok-body.was) in
     function_all c.requires.at_value (sym c.kind.ensures ∙ c.if-kind-ne-NAME.false) (sym c.kind-2.ensures ∙ c.if-kind-ne-LPAR.false)
-    (known_params c.formals-list.ensures c.in-Laid.is) (known_type c.result-named.ensures c.in-Type.is)
-    (omega arith) refl _ (body c.until-inside.ensures c.around-body.ensures) c.header.ensures
-
-pub returns-in-None-named : goal.returns-in-None-named
-returns-in-None-named c =
-    function_result c.requires.at_value (sym c.kind.ensures ∙ c.if-kind-ne-NAME.false) (sym c.kind-2.ensures ∙ c.if-kind-ne-LPAR.false)
-    (known_params c.formals-list.ensures c.in-Laid.is)
-    (known_type c.result-named.ensures c.in-None-named.is)
-
-pub returns-in-None : goal.returns-in-None
-returns-in-None c =
-    function_formals c.requires.at_value (sym c.kind.ensures ∙ c.if-kind-ne-NAME.false) (sym c.kind-2.ensures ∙ c.if-kind-ne-LPAR.false)
-    (known_params c.formals-list.ensures c.in-None.is)
+    c.in_ok-list.ensures c.in_ok-named.ensures d (omega arith) refl c.put.ensures

@@ -14,7 +14,7 @@ refs-requires t c =
 
 pub returns-then-kind-eq-REF : goal.returns-then-kind-eq-REF
 returns-then-kind-eq-REF t c =
-    refs_more _ (sym c.kind.ensures ∙ c.if-kind-eq-REF.true) c.refs.ensures
+    refs_more (sym c.kind.ensures ∙ c.if-kind-eq-REF.true) c.refs.ensures
 
 pub returns-else-kind-eq-REF : goal.returns-else-kind-eq-REF
 returns-else-kind-eq-REF t c =

@@ -1,6 +1,6 @@
 -- The word of a tree.
 use Rattle.phrases.proofs.Words.{tree_word}
-use Rattle.phrases.proofs.parts.tree_of.Goals as goal
+use Rattle.phrases.proofs.parts.Read.tree.Goals as goal
 
 pub returns : goal.returns
 returns c =

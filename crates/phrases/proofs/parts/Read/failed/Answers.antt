@@ -1,6 +1,6 @@
 -- The word of a failure.
 use Rattle.phrases.proofs.Words.{none_word}
-use Rattle.phrases.proofs.parts.failed_at.Goals as goal
+use Rattle.phrases.proofs.parts.Read.failed.Goals as goal
 
 pub returns : goal.returns
 returns c =
