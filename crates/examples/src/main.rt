@@ -121,7 +121,12 @@ fn report(rt: &impl Print, answer: Ran<usize>, out: &[u8]) {
                     number(rt, value);
                 }
                 Err(stop) => {
-                    three(rt, numbers::of_stop(stop.why), stop.place, ended.type_number);
+                    three(
+                        rt,
+                        numbers::of_stop(stop.why),
+                        stop.place,
+                        ended.type_number,
+                    );
                     field(rt, 0);
                 }
             }

@@ -1,7 +1,7 @@
 -- How the cases of an answer are told in words, and the contracts of the C functions from those of the services.
 use mathlib.Core.List.{List}
 use mathlib.Core.Path.{◌≡◌, refl, sym, ap, subst, ◌∙◌}
-use Rattle.std.proofs.Common.{Ok, Err}
+use Rattle.std.proofs.Common.{Result, Ok, Err}
 use Prim.Native.Nat.{ℕ, ◌≤◌, ◌<◌}
 use native.Mathlib.Omega.{arith}
 use lib.ListN.{length, set, length-set}
@@ -25,7 +25,7 @@ use Rattle.numbers.specs.declared.Refusal.{Refusal}
 use Rattle.numbers.specs.declared.Stop.{Stop}
 use Rattle.sheets.specs.declared.Located.{Located}
 use Rattle.grumpy.specs.declared.answers.Ended.{Ended}
-use Rattle.grumpy.specs.Reports.{CheckedAt, RefusedAt, RanAt, Written, checked_report, ran_report, wrote_report}
+use Rattle.grumpy.specs.Reports.{CheckedAt, RefusedAt, RanAt, end_told, same, Written, checked_report, ran_report, wrote_report}
 use Rattle.grumpy_c.specs.Reports.{three, six, check_words, run_words, ToldChecked, ToldRan, CheckedC, check_no_report, check_reported, RanC}
 use Rattle.grumpy_c.specs.Reports.{run_no_report, run_reported, write_words, ToldWrote, Writing, WroteC, write_no_report, write_reported}
 
@@ -39,12 +39,13 @@ three_long w v n i t x h e =
 
 -- ---- the cases
 
-pub told_stopped : (t u p : ℕ) (s : Located Stop ℕ) (r : Ended ℕ) (w w' : List ℕ) (n : ℕ)
-    → r ≡ record { type_number = t; ending = record { end = Err s; units = u; printed = p } } → n ≡ stop_number (stop_meant s.why)
-    → w' ≡ six w n s.place t 0 u p → ToldRan (Ok r) w w' n
+pub told_stopped : (r : Ended ℕ) (s : Located Stop ℕ) (w w' : List ℕ) (n : ℕ) → r.ending.end ≡ Err s → n ≡ stop_number (stop_meant s.why)
+    → w' ≡ six w n s.place r.type_number 0 r.ending.units r.ending.printed → ToldRan (Ok r) w w' n
 unfolding value_number
-told_stopped t u p s r w w' n e m h =
-    subst (λ (r : Ended ℕ). ToldRan (Ok r) w w' n) (sym e) (m, h ∙ ap (λ (n : ℕ). six w n s.place t 0 u p) m)
+told_stopped r s w w' n e m h =
+    let told : Result Value (Located Stop ℕ) → RunReport ℕ = end_told 0 same r.type_number r.ending.units r.ending.printed in
+    subst (λ (x : Result Value (Located Stop ℕ)). (n ≡ number (told x).told) × (w' ≡ run_words w (told x))) (sym e)
+    (m, h ∙ ap (λ (n : ℕ). six w n s.place r.type_number 0 r.ending.units r.ending.printed) m)
 
 pub told_not_run : (a : RanAt ℕ) (w w' : List ℕ) (r : RefusedAt ℕ) (n : ℕ) → a ≡ Err r → n ≡ refusal_number (refusal_meant r.why)
     → w' ≡ six w n r.place 0 0 0 0 → ToldRan a w w' n

@@ -1,7 +1,7 @@
 -- How the cases of an answer for two sheets are told in words, and the contracts of the C functions from those of the services.
 use mathlib.Core.List.{List}
 use mathlib.Core.Path.{◌≡◌, refl, sym, ap, ap₂, subst, ◌∙◌}
-use Rattle.std.proofs.Common.{Ok, Err}
+use Rattle.std.proofs.Common.{Result, Ok, Err}
 use Prim.Native.Nat.{ℕ, ◌≤◌}
 use native.Mathlib.Omega.{arith}
 use lib.ListN.{length, length-set}
@@ -23,7 +23,7 @@ use Rattle.pairs.specs.Spots.{meant}
 use Rattle.pairs.specs.declared.Spot.{Spot}
 use Rattle.sheets.specs.declared.Located.{Located}
 use Rattle.grumpy.specs.declared.answers.Ended.{Ended}
-use Rattle.grumpy.specs.Reports.{CheckedAt, RefusedAt, RanAt, pair_checked_report, pair_ran_report}
+use Rattle.grumpy.specs.Reports.{CheckedAt, RefusedAt, RanAt, end_told, pair_checked_report, pair_ran_report}
 use Rattle.grumpy_c.specs.Reports.{three, six}
 use Rattle.grumpy_c.specs.Pairs.{spot_words, pair_check_words, pair_run_words, ToldPairChecked, ToldPairRan, PairCheckedC}
 use Rattle.grumpy_c.specs.Pairs.{check_no_report, check_reported, PairRanC, run_no_report, run_reported}
@@ -40,13 +40,13 @@ six_same w v n i t x u p e = ap length e ∙ simp length-set
 
 -- ---- the cases
 
-pub told_stopped : (t u p : ℕ) (s : Located Stop Spot) (r : Ended Spot) (w w' : List ℕ) (n : ℕ)
-    → r ≡ record { type_number = t; ending = record { end = Err s; units = u; printed = p } } → n ≡ stop_number (stop_meant s.why)
-    → w' ≡ spot_words (six w n s.place.at t 0 u p) 6 (meant s.place) → ToldPairRan (Ok r) w w' n
+pub told_stopped : (r : Ended Spot) (s : Located Stop Spot) (w w' : List ℕ) (n : ℕ) → r.ending.end ≡ Err s → n ≡ stop_number (stop_meant s.why)
+    → w' ≡ spot_words (six w n s.place.at r.type_number 0 r.ending.units r.ending.printed) 6 (meant s.place) → ToldPairRan (Ok r) w w' n
 unfolding value_number
-told_stopped t u p s r w w' n e m h =
-    subst (λ (r : Ended Spot). ToldPairRan (Ok r) w w' n) (sym e)
-    (m, h ∙ ap (λ (n : ℕ). spot_words (six w n s.place.at t 0 u p) 6 (meant s.place)) m)
+told_stopped r s w w' n e m h =
+    let told : Result Value (Located Stop Spot) → RunReport Place = end_told front meant r.type_number r.ending.units r.ending.printed in
+    subst (λ (x : Result Value (Located Stop Spot)). (n ≡ number (told x).told) × (w' ≡ pair_run_words w (told x))) (sym e)
+    (m, h ∙ ap (λ (n : ℕ). spot_words (six w n s.place.at r.type_number 0 r.ending.units r.ending.printed) 6 (meant s.place)) m)
 
 pub told_not_run : (a : RanAt Spot) (w w' : List ℕ) (r : RefusedAt Spot) (n : ℕ) → a ≡ Err r → n ≡ refusal_number (refusal_meant r.why)
     → w' ≡ spot_words (six w n r.place.at 0 0 0 0) 6 (meant r.place) → ToldPairRan a w w' n

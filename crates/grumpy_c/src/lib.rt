@@ -63,7 +63,15 @@ fn report_ended(report: &mut [u64], ended: Ended<usize>) -> u32
     match ending.end {
         Ok(value) => {
             let bits = words::word(value);
-            write_run_report(report, 0, 0, type_number, bits, ending.units, ending.printed);
+            write_run_report(
+                report,
+                0,
+                0,
+                type_number,
+                bits,
+                ending.units,
+                ending.printed,
+            );
             0
         }
         Err(stop) => {

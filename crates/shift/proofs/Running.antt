@@ -94,41 +94,38 @@ module _ (ed : ℕ) (book : List ℕ) (P : Held) (table work out : List ℕ) (al
     Pays : Ending ℕ → Type 0
     Pays r = Ran ed book l j P table work out (ended_as r) table' work' out'
 
-    abbrev valued : Value → ℕ → ℕ → Ending ℕ
-    valued v u n = record { end = Ok v; units = u; printed = n }
+    abbrev ended : ℕ → ℕ → Result Value (Located Stop ℕ) → Ending ℕ
+    ended u n e = record { end = e; units = u; printed = n }
 
-    value_so : (v : Value) (u n : ℕ) → Ends (valued v u n) → (z : ℤ) → Values.meant v ≡ number z → in_range z ≡ true → Pays (valued v u n)
+    value_so : (u n : ℕ) (v : Value) → Ends (ended u n (Ok v)) → (z : ℤ) → Values.meant v ≡ number z → in_range z ≡ true → Pays (ended u n (Ok v))
     unfolding Pays
-    value_so (Value.Int y) u n x z e r = record {
-      printed = (so (valued (Value.Int y) u n) x).printed;
-      runs = runs_to_pay (so (valued (Value.Int y) u n) x).ran refl refl;
+    value_so u n (Value.Int y) x z e r = record {
+      printed = (so (ended u n (Ok (Value.Int y))) x).printed;
+      runs = runs_to_pay (so (ended u n (Ok (Value.Int y))) x).ran refl refl;
       small = small_int _ (subst (λ (z : ℤ). in_range z ≡ true) (one_int e) r);
-      leaves = leaves (valued (Value.Int y) u n) x;
+      leaves = leaves (ended u n (Ok (Value.Int y))) x;
     }
-    value_so (Value.Float y) u n x z e r = absurd (float_number e)
-    value_so (Value.Flag b) u n x z e r = absurd (flag_number e)
-    value_so Value.Nothing u n x z e r = absurd (nothing_number e)
-    value_so (Value.Cell c) u n x z e r = absurd (cell_number e)
+    value_so u n (Value.Float y) x z e r = absurd (float_number e)
+    value_so u n (Value.Flag b) x z e r = absurd (flag_number e)
+    value_so u n Value.Nothing x z e r = absurd (nothing_number e)
+    value_so u n (Value.Cell c) x z e r = absurd (cell_number e)
+
+    end_so : (u n : ℕ) (e : Result Value (Located Stop ℕ)) → Ends (ended u n e) → Pays (ended u n e)
+    unfolding Pays
+    end_so u n (Ok v) x = by (ended_so (ended u n (Ok v)) x)
+      where
+        by : Ended passed (Values.meant v) → Pays (ended u n (Ok v))
+        by (inl e) = value_so u n v x e.1 e.2 e.3
+        by (inr e) = absurd (passed_stop e.1)
+    end_so u n (Err s) x = record {
+      printed = (so (ended u n (Err s)) x).printed;
+      runs = runs_to_stop (so (ended u n (Err s)) x).ran refl;
+      small = tt;
+      leaves = leaves (ended u n (Err s)) x;
+    }
 
     pays_so : (r : Ending ℕ) → Ends r → Pays r
-    unfolding Pays
-    pays_so r x = go r.end x
-      where
-        abbrev whole : Result Value (Located Stop ℕ) → Ending ℕ
-        whole e = record { end = e; units = r.units; printed = r.printed }
-
-        by : (v : Value) → Ends (whole (Ok v)) → Ended passed (Values.meant v) → Pays (whole (Ok v))
-        by v x (inl e) = value_so v r.units r.printed x e.1 e.2 e.3
-        by v x (inr e) = absurd (passed_stop e.1)
-
-        go : (e : Result Value (Located Stop ℕ)) → Ends (whole e) → Pays (whole e)
-        go (Ok v) x = by v x (ended_so (whole (Ok v)) x)
-        go (Err s) x = record {
-          printed = (so (whole (Err s)) x).printed;
-          runs = runs_to_stop (so (whole (Err s)) x).ran refl;
-          small = tt;
-          leaves = leaves (whole (Err s)) x;
-        }
+    pays_so r x = end_so r.units r.printed r.end x
 
     pub ran_so : (r : Ending ℕ) (o : Outcome) → Called table work out table' work' out' P j allowance r → o ≡ ended_as r
         → Ran ed book (needed (length out) allowance) j P table work out o table' work' out'
