@@ -12,7 +12,7 @@ mod lines;
 mod names;
 mod rows;
 
-use crate::entries::{Entry, entry_at};
+use crate::entries::entry_at;
 use crate::lines::count_of;
 use crate::rows::keep;
 use language::{SOURCE, TOKENS};
@@ -44,11 +44,11 @@ fn tokens_of(
     let mut bytes = 0;
     while at < stored.len() {
         match entry_at(edition, stored, at) {
-            Ok(Entry { kind, worth, end }) => {
-                bytes += (end - at) / 2;
-                keep(stored, table, count, bytes, kind, worth, at, end);
+            Ok(entry) => {
+                bytes += (entry.end - at) / 2;
+                keep(stored, table, count, bytes, at, entry);
                 count += 1;
-                at = end + 1;
+                at = entry.end + 1;
             }
             Err(why) => {
                 return Err(Denied {

@@ -6,6 +6,7 @@ ghost use Rattle.language.specs.Tokens.{NAME};
 ghost use Rattle.tokens.specs.Forks.{Planted, Foretold};
 ghost use Rattle.stored.specs.Names.{Searchable, First, Numbered, TableWorth, digits_of};
 
+use crate::entries::Entry;
 use language::kinds;
 use layout::{PUTCHAR, token};
 use tokens::forks::{STARTS_AT, hang, way_end};
@@ -57,23 +58,16 @@ fn name_number(stored: &[u8], table: &mut [u32], count: usize, p: usize, q: usiz
     ordinal as u32
 }
 
-// What a token is worth in the table whose next one it is to be: a name its number.
-pub fn table_worth(
-    stored: &[u8],
-    table: &mut [u32],
-    count: usize,
-    kind: u32,
-    p: usize,
-    q: usize,
-    worth: u64,
-) -> u64
-    requires { kind ≡ NAME → Searchable stored.now table.old count p q }
-    ensures { TableWorth stored.now table.old count kind p q worth result
+// What the token on the line that begins at a place is worth in the table whose next one it is to be: a name its
+// number.
+pub fn table_worth(stored: &[u8], table: &mut [u32], count: usize, at: usize, entry: Entry) -> u64
+    requires { entry.kind ≡ NAME → Searchable stored.now table.old count at entry.end }
+    ensures { TableWorth stored.now table.old count entry.kind at entry.end entry.worth result
         × Foretold (digits_of stored.now table.old) table.old table.new count
-        kind (slice p q stored.now) }
+        entry.kind (slice at entry.end stored.now) }
 {
-    if kind == kinds::NAME {
-        return u64::from(name_number(stored, table, count, p, q));
+    if entry.kind == kinds::NAME {
+        return u64::from(name_number(stored, table, count, at, entry.end));
     }
-    worth
+    entry.worth
 }

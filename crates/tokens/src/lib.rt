@@ -50,7 +50,7 @@ fn table_worth(
         table.new count kind (slice p q (text_of text.now)) }
 {
     if kind == kinds::NAME {
-        return names::name_number(text, table, count, p, q) as u64;
+        return u64::from(names::name_number(text, table, count, p, q));
     }
     worth
 }

@@ -13,13 +13,11 @@ loop-at-init c =
 
 pub keep-requires : goal.keep-requires
 keep-requires c =
-    let entry = rw c.in-Ok.field-0-is at c.in-Ok.ensures in
-    reached_keepable c.loop-at.invariant (laws_of c.args.edition) entry
+    reached_keepable c.loop-at.invariant (laws_of c.args.edition) c.in-Ok.ensures
 
 pub loop-at-preserved : goal.loop-at-preserved
 loop-at-preserved c =
-    let entry = rw c.in-Ok.field-0-is at c.in-Ok.ensures in
-    reached_next c.loop-at.invariant (laws_of c.args.edition) entry c.keep.ensures
+    reached_next c.loop-at.invariant (laws_of c.args.edition) c.in-Ok.ensures c.keep.ensures
 
 pub returns-in-Err : goal.returns-in-Err
 returns-in-Err c =
