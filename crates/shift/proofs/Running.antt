@@ -34,6 +34,8 @@ use Rattle.grumpy.proofs.Calling.{laid_rest, prepared_on}
 use Rattle.tally.specs.Parts.{job_told}
 use Rattle.tally.specs.declared.lines.Part.{Part}
 use Rattle.tally.specs.declared.lines.Job as Line
+use Rattle.std.specs.Prelude.{Option, Some, None}
+use Rattle.std.proofs.lemmas.Bool.Decides.{nat_tests}
 use Rattle.tally.specs.declared.sums.Outcome.{Outcome}
 use Rattle.shift.specs.Feeding.{Ready, ReadyForSome, ended_as, Leaves, Ran, RanForAny, CameForAny}
 use Rattle.shift.specs.Taking.{needed, ends_bad, ends_run}
@@ -147,40 +149,20 @@ ready_callable P table work allowance j x p q = record {
 
 -- ---- a line
 
-good_not_bad : {a b : ℕ} → ◌≡◌ {A = Line.Job} Line.Job.Bad (Line.Job.Good a b) → ⊥
-good_not_bad e = let z : ◌≡◌ {A = ℕ} 0 1 = cc in omega arith
-
-both_good : {a b c d : ℕ} → ◌≡◌ {A = Line.Job} (Line.Job.Good a b) (Line.Job.Good c d) → (a ≡ c) × (b ≡ d)
-both_good e = (cc, cc)
-
 -- what a good line asks for can be written
-pub good_small : (p : Part) (k : Line.Job) (a b : ℕ) → k ≡ job_told p → k ≡ Line.Job.Good a b → (a ≤ LARGEST) × (b ≤ LARGEST)
+pub good_small : (p : Part) (k : Option Line.Job) (j : Line.Job) → k ≡ job_told p → k ≡ Some j → (j.picks ≤ LARGEST) × (j.rate ≤ LARGEST)
 unfolding job_told
-good_small p k a b e f =
-    by p.bad (eqb p.at 20) (leb p.picks LARGEST) (leb p.rate LARGEST) refl refl (sym e ∙ f)
-  where
-    by : (w x y z : Bool) → leb p.picks LARGEST ≡ y → leb p.rate LARGEST ≡ z
-        → cond w Line.Job.Bad
-        (cond x (cond y (cond z (Line.Job.Good p.picks p.rate) Line.Job.Bad) Line.Job.Bad) Line.Job.Bad)
-        ≡ Line.Job.Good a b
-        → (a ≤ LARGEST) × (b ≤ LARGEST)
-    by true x y z g h e = absurd (good_not_bad e)
-    by false false y z g h e = absurd (good_not_bad e)
-    by false true false z g h e = absurd (good_not_bad e)
-    by false true true false g h e = absurd (good_not_bad e)
-    by false true true true g h e =
-        let s = both_good e in
-        (subst (λ (n : ℕ). n ≤ LARGEST) s.0 (leb-true _ _ g), subst (λ (n : ℕ). n ≤ LARGEST) s.1 (leb-true _ _ h))
+good_small p k j e f = grind (arith, nat_tests)
 
-module _ (P : Held) (table work out : List ℕ) (allowance : ℕ) (part : Part) (k : Line.Job) (told : k ≡ job_told part) where
-  pub came_good : (a b : ℕ) (o : Outcome) (table' work' out' : List ℕ) → k ≡ Line.Job.Good a b
-      → RanForAny P record { picks = a; rate = b } table work out allowance o table' work' out'
+module _ (P : Held) (table work out : List ℕ) (allowance : ℕ) (part : Part) (k : Option Line.Job) (told : k ≡ job_told part) where
+  pub came_good : (j : Line.Job) (o : Outcome) (table' work' out' : List ℕ) → k ≡ Some j
+      → RanForAny P record { picks = j.picks; rate = j.rate } table work out allowance o table' work' out'
       → CameForAny P part table work out allowance o table' work' out'
-  came_good a b o table' work' out' e ran ed book x =
+  came_good j o table' work' out' e ran ed book x =
       let r = ran ed book x in
       record { printed = r.printed; ends = ends_run (sym told ∙ e) r.runs; small = r.small; leaves = r.leaves }
 
-  pub came_bad : k ≡ Line.Job.Bad → CameForAny P part table work out allowance Outcome.Bad table work out
+  pub came_bad : k ≡ None → CameForAny P part table work out allowance Outcome.Bad table work out
   came_bad e ed book x = record {
     printed = [];
     ends = ends_bad (sym told ∙ e);

@@ -13,6 +13,7 @@ use Rattle.language.specs.Feeding as Written
 use Rattle.tally.specs.Parts.{no_part, longer_by, job_told}
 use Rattle.tally.specs.Parts as Tally
 use Rattle.tally.specs.Stands.{Stands, job_meant, outcome_meant}
+use Rattle.std.specs.Prelude as Prelude
 use Rattle.tally.specs.declared.lines.Job.{Job}
 use Rattle.tally.specs.declared.lines.Part.{Part}
 use Rattle.tally.specs.declared.sums.Outcome.{Outcome}
@@ -63,7 +64,7 @@ module _ {s : State} {x : Sofar} (k : Keeps s x) where
       record { part = refl; sums = added_stands x.outcomes s.sums o k.sums few k.ints; over = k.over; ints = ints }
 
   -- the job that was kept is the one of the line
-  job_so : {j : Job} → job_told s.part ≡ j → job_of (ended_line x.part) ≡ job_meant j
+  job_so : {j : Prelude.Option Job} → job_told s.part ≡ j → job_of (ended_line x.part) ≡ job_meant j
   job_so e = sym (kept_job x.part) ∙ ap (λ (p : Part). job_meant (job_told p)) (sym k.part) ∙ ap job_meant e
 
   ends_comes : {ed : ℕ} {book : List ℕ} {l : Lent} {line : EndedLine} → Ends ed book l s.part line

@@ -13,6 +13,7 @@ use Rattle.language.proofs.Text.Choices.{clash}
 use Rattle.language.proofs.Shift.LineOutcomes.{one_runs}
 use Rattle.numbers.proofs.Apart.{stop_of, stop_back}
 use Rattle.tally.specs.Stands.{outcome_meant}
+use Rattle.std.specs.Prelude.{Option, Some, None}
 use Rattle.tally.specs.declared.lines.Job.{Job}
 use Rattle.tally.specs.declared.lines.Part.{Part}
 use Rattle.tally.specs.declared.sums.Outcome.{Outcome}
@@ -60,14 +61,11 @@ outcome_back (Outcome.Paid z) = refl
 same_outcome : (o p : Outcome) → outcome_meant o ≡ outcome_meant p → o ≡ p
 same_outcome o p e = sym (outcome_back o) ∙ ap outcome_of e ∙ outcome_back p
 
-bad_good : {k : Job} {a b : ℕ} {A : Type 0} → k ≡ Job.Bad → k ≡ Job.Good a b → A
-bad_good e f = let z : ◌≡◌ {A = ℕ} 0 1 = cc in absurd (omega arith)
+bad_good : {k : Option Job} {j : Job} → k ≡ None → k ≡ Some j → ⊥
+bad_good e f = cc
 
-same_picks : {k : Job} {a b c d : ℕ} → k ≡ Job.Good a b → k ≡ Job.Good c d → a ≡ c
-same_picks e f = cc
-
-same_rate : {k : Job} {a b c d : ℕ} → k ≡ Job.Good a b → k ≡ Job.Good c d → b ≡ d
-same_rate e f = cc
+same_job : {k : Option Job} {i j : Job} → k ≡ Some i → k ≡ Some j → i ≡ j
+same_job e f = cc
 
 module _ {ed : ℕ} {book : List ℕ} {l : Lent} where
   one_run : {a b c d : ℕ} {o p : Outcome} {x y : List ℕ} → a ≡ c → b ≡ d → Runs ed book l record { picks = a; rate = b } (outcome_meant o) x
@@ -81,9 +79,9 @@ module _ {ed : ℕ} {book : List ℕ} {l : Lent} where
 module _ {ed : ℕ} {book : List ℕ} {l : Lent} {part : Part} where
   pub one_end : {x y : EndedLine} → Ends ed book l part x → Ends ed book l part y → x ≡ y
   one_end (ends_bad e) (ends_bad f) = refl
-  one_end (ends_bad e) (ends_run f q) = bad_good e f
-  one_end (ends_run e r) (ends_bad f) = bad_good f e
-  one_end (ends_run e r) (ends_run f q) = one_run (same_picks e f) (same_rate e f) r q
+  one_end (ends_bad e) (ends_run f q) = absurd (bad_good e f)
+  one_end (ends_run e r) (ends_bad f) = absurd (bad_good f e)
+  one_end (ends_run e r) (ends_run f q) = one_run (ap (λ (j : Job). j.picks) (same_job e f)) (ap (λ (j : Job). j.rate) (same_job e f)) r q
 
 -- ---- one end of a piece
 

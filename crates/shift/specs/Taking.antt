@@ -1,6 +1,6 @@
 -- What a piece does to a state, byte by byte, whatever the state is: it is the caller's words, so nothing is asked of
 -- it. What each line came to that ended on the way can be read off, in their order.
-use Rattle.std.specs.Prelude.{true, false, List, [], ◌∷◌, ◌++◌, ◌≡◌, ℕ, ◌≤◌, ◌<◌, length, drop}
+use Rattle.std.specs.Prelude.{true, false, List, [], ◌∷◌, ◌++◌, ◌≡◌, ℕ, ◌≤◌, ◌<◌, length, drop, Some, None}
 use Rattle.language.specs.Sizes.{TABLE, WORK, LINES}
 use Rattle.language.specs.Answers.{Lent}
 use Rattle.language.specs.Shift.{Runs}
@@ -8,7 +8,6 @@ use Rattle.language.specs.Text.{is_in_line}
 use Rattle.tally.specs.Parts.{no_part, longer, job_told}
 use Rattle.tally.specs.Stands.{outcome_meant}
 use Rattle.tally.specs.Sums.{added}
-use Rattle.tally.specs.declared.lines.Job.{Job}
 use Rattle.tally.specs.declared.lines.Part.{Part}
 use Rattle.tally.specs.declared.sums.Outcome.{Outcome}
 use Rattle.shift.specs.declared.State.{State}
@@ -28,8 +27,8 @@ pub record EndedLine : Type 0 where
 -- R14.4, R14.5: what was kept of a line tells a job, whatever was kept; that is run afresh, or there is none and the
 -- line is bad
 pub data Ends (edition : ℕ) (book : List ℕ) (l : Lent) (part : Part) : EndedLine → Type 0 where
-  ends_bad : job_told part ≡ Job.Bad → Ends edition book l part record { outcome = Outcome.Bad; printed = [] }
-  ends_run : {picks rate : ℕ} {o : Outcome} {printed : List ℕ} → job_told part ≡ Job.Good picks rate
+  ends_bad : job_told part ≡ None → Ends edition book l part record { outcome = Outcome.Bad; printed = [] }
+  ends_run : {picks rate : ℕ} {o : Outcome} {printed : List ℕ} → job_told part ≡ Some record { picks = picks; rate = rate }
       → Runs edition book l record { picks = picks; rate = rate } (outcome_meant o) printed
       → Ends edition book l part record { outcome = o; printed = printed }
 

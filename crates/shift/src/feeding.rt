@@ -41,18 +41,17 @@ fn ended(ending: Ending<u32>) -> Outcome
 // A good line runs the book with its call.
 fn run(
     program: Held,
-    picks: u32,
-    rate: u32,
+    job: Job,
     table: &mut [u32],
     work: &mut [u32],
     out: &mut [u8],
     allowance: u64,
 ) -> Outcome
-    requires { ReadyForSome program table.old work.old allowance × (picks ≤ LARGEST) × (rate ≤ LARGEST) }
-    ensures { RanForAny program record { picks = picks; rate = rate } table.old work.old
+    requires { ReadyForSome program table.old work.old allowance × (job.picks ≤ LARGEST) × (job.rate ≤ LARGEST) }
+    ensures { RanForAny program record { picks = job.picks; rate = job.rate } table.old work.old
         out.old allowance result table.new work.new out.new }
 {
-    ended(calls::call(table, work, out, program, picks, rate, allowance))
+    ended(calls::call(table, work, out, program, job.picks, job.rate, allowance))
 }
 
 // A line that has ended, of which so much was kept.
@@ -69,8 +68,8 @@ fn come(
         table.new work.new out.new }
 {
     match lines::ended(part) {
-        Job::Good { picks, rate } => run(program, picks, rate, table, work, out, allowance),
-        Job::Bad => Outcome::Bad,
+        Some(job) => run(program, job, table, work, out, allowance),
+        None => Outcome::Bad,
     }
 }
 
