@@ -7,7 +7,8 @@ ghost use Rattle.language.proofs.Executable.Climbing.{tightness as TIGHTNESS, af
 use language::kinds;
 
 // How tightly the operators of each level bind, the loosest first. Comparisons do not chain: what may
-// follow one binds looser than it, so that there is a number between it and `&&`.
+// follow one binds looser than it, so that there is a number between it and `&&`. They are numbers, not an enum, since
+// they are reckoned with: a right operand begins at the next one.
 pub const LEVEL_OR: u32 = 1;
 
 pub const LEVEL_AND: u32 = 2;
@@ -23,19 +24,17 @@ pub const LEVEL_PROD: u32 = 6;
 // Tighter than every operator: a Un.
 pub const OPERAND: u32 = 7;
 
-// How tightly a token of kind k binds what stands around it; 0 where it is no operator.
+// How tightly a token of kind k binds what stands around it; 0, looser than every level, where it is no operator.
+#[tactic(auto, unfolding(language::specs::Tokens::entry, language::proofs::Executable::Climbing::tightness))]
 pub fn tightness(k: u32) -> u32
     ensures { result ≡ TIGHTNESS k }
 {
     match k {
         kinds::OR => LEVEL_OR,
         kinds::AND => LEVEL_AND,
-        kinds::LESS => COMPARISON,
-        kinds::EQUAL => COMPARISON,
-        kinds::PLUS => LEVEL_SUM,
-        kinds::MINUS => LEVEL_SUM,
-        kinds::STAR => LEVEL_PROD,
-        kinds::SLASH => LEVEL_PROD,
+        kinds::LESS | kinds::EQUAL => COMPARISON,
+        kinds::PLUS | kinds::MINUS => LEVEL_SUM,
+        kinds::STAR | kinds::SLASH => LEVEL_PROD,
         _ => 0,
     }
 }
@@ -52,37 +51,25 @@ pub fn after(p: u32) -> u32
 }
 
 // Does a token of kind k stand before its operand?
+#[tactic(auto, unfolding(language::specs::Tokens::entry))]
 pub fn is_prefix(k: u32) -> bool
     ensures { result ≡ in_table prefixes k }
 {
-    match k {
-        kinds::MINUS => true,
-        kinds::NOT => true,
-        kinds::BANG => true,
-        kinds::REF => true,
-        _ => false,
-    }
+    matches!(k, kinds::MINUS | kinds::NOT | kinds::BANG | kinds::REF)
 }
 
 // Is it `true`, `false` or `tt`?
+#[tactic(auto, unfolding(language::specs::Tokens::entry))]
 pub fn is_constant(k: u32) -> bool
     ensures { result ≡ in_table constants k }
 {
-    match k {
-        kinds::TRUE => true,
-        kinds::FALSE => true,
-        kinds::TT => true,
-        _ => false,
-    }
+    matches!(k, kinds::TRUE | kinds::FALSE | kinds::TT)
 }
 
 // Is it `..` or `..=`?
+#[tactic(auto, unfolding(language::specs::Tokens::entry))]
 pub fn is_range(k: u32) -> bool
     ensures { result ≡ in_table ranges k }
 {
-    match k {
-        kinds::UPTO => true,
-        kinds::THROUGH => true,
-        _ => false,
-    }
+    matches!(k, kinds::UPTO | kinds::THROUGH)
 }

@@ -17,6 +17,7 @@ pub struct Named {
 }
 
 // The number of the type that a word stands for; none for any other token.
+#[tactic(auto, unfolding(language::specs::Tokens::entry, language::specs::Meaning::type_number))]
 fn basic(k: u32) -> Option<u32>
     ensures { result ≡ basic_number k }
 {
