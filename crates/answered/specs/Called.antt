@@ -1,8 +1,7 @@
 -- What came of a rate sheet with a call under it as the second sheet, and what is known by its profile.
-use Rattle.std.specs.Prelude.{Bool, true, false, cond, eqb, ℕ, Result, Ok, Err}
+use Rattle.std.specs.Prelude.{Bool, true, false, cond, eqb, ℕ, Option, Some, None, Result, Ok, Err}
 use Rattle.wording.specs.declared.ends.End.{End}
 use Rattle.wording.specs.declared.ends.End.TheVariants.{Passed, Counted, Value, Refused, Stopped}
-use Rattle.wording.specs.declared.limits.Most.{Most}
 use Rattle.grumpy.specs.Reports.{CheckedAt, ProfiledAt, RanAt}
 use Rattle.layout.specs.declared.values.Value as value
 use Rattle.numbers.specs.declared.Stop as stop
@@ -49,6 +48,6 @@ abbrev pub profiled_under : ProfiledAt Spot → End
 profiled_under (Ok p) = Counted p.type_number p.count
 profiled_under (Err r) = refused_under r.why r.place
 
-abbrev pub most_under : ProfiledAt Spot → Most
-most_under (Ok p) = Most.Units p.count
-most_under (Err r) = Most.Unknown
+abbrev pub most_under : ProfiledAt Spot → Option ℕ
+most_under (Ok p) = Some p.count
+most_under (Err r) = None

@@ -1,8 +1,7 @@
 -- What came of a whole sheet, from what the box answered, and what is known by its profile.
-use Rattle.std.specs.Prelude.{Bool, false, ℕ, Result, Ok, Err}
+use Rattle.std.specs.Prelude.{Bool, false, ℕ, Option, Some, None, Result, Ok, Err}
 use Rattle.wording.specs.declared.ends.End.{End}
 use Rattle.wording.specs.declared.ends.End.TheVariants.{Passed, Counted, Value, Refused, Stopped}
-use Rattle.wording.specs.declared.limits.Most.{Most}
 use Rattle.grumpy.specs.Reports.{CheckedAt, ProfiledAt, RanAt}
 use Rattle.layout.specs.declared.values.Value as value
 use Rattle.numbers.specs.declared.Stop as stop
@@ -31,6 +30,6 @@ abbrev pub profiled_end : ProfiledAt ℕ → End
 profiled_end (Ok p) = Counted p.type_number p.count
 profiled_end (Err r) = Refused (cause.TheVariants.Refused r.why) r.place
 
-abbrev pub most_of : ProfiledAt ℕ → Most
-most_of (Ok p) = Most.Units p.count
-most_of (Err r) = Most.Unknown
+abbrev pub most_of : ProfiledAt ℕ → Option ℕ
+most_of (Ok p) = Some p.count
+most_of (Err r) = None

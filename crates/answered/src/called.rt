@@ -9,7 +9,6 @@ use numbers::Refusal;
 use pairs::Spot;
 use wording::causes::Cause;
 use wording::ends::End;
-use wording::limits::Most;
 
 const INT: u32 = 1;
 
@@ -102,12 +101,12 @@ pub fn of_profile(answer: Profiled<Spot>) -> End
 }
 
 // What is known by that of the units that the call can use.
-pub fn known(answer: Profiled<Spot>) -> Most
+pub fn known(answer: Profiled<Spot>) -> Option<u32>
     ensures { result ≡ most_under answer }
 {
     match answer {
-        Ok(costs) => Most::Units(costs.count),
-        Err(_) => Most::Unknown,
+        Ok(costs) => Some(costs.count),
+        Err(_) => None,
     }
 }
 

@@ -6,7 +6,6 @@ use crate::refusals::is_unread;
 use grumpy::answers::{Checked, Ended, Ending, Profiled, Ran};
 use wording::causes::Cause;
 use wording::ends::End;
-use wording::limits::Most;
 
 // What came of its check.
 pub fn of_check(answer: Checked<usize>) -> End
@@ -65,12 +64,12 @@ pub fn of_profile(answer: Profiled<usize>) -> End
 }
 
 // What is known by that of the units that it can use.
-pub fn known(answer: Profiled<usize>) -> Most
+pub fn known(answer: Profiled<usize>) -> Option<u32>
     ensures { result ≡ most_of answer }
 {
     match answer {
-        Ok(costs) => Most::Units(costs.count),
-        Err(_) => Most::Unknown,
+        Ok(costs) => Some(costs.count),
+        Err(_) => None,
     }
 }
 

@@ -1,5 +1,5 @@
 -- The whole report on a sheet, for people.
-use Rattle.std.specs.Prelude.{List, [], ◌++◌, ℕ}
+use Rattle.std.specs.Prelude.{List, [], ◌++◌, Option, Some, None, ℕ}
 use Rattle.language.specs.Tokens.{spell}
 use Rattle.layout.specs.Values.{meant}
 use Rattle.page.specs.Text.{decimal_of}
@@ -7,7 +7,6 @@ use Rattle.wording.specs.Types.{type_line}
 use Rattle.wording.specs.Values.{value_lines}
 use Rattle.wording.specs.declared.ends.End.{End}
 use Rattle.wording.specs.declared.limits.Limits.{Limits}
-use Rattle.wording.specs.declared.limits.Most.{Most}
 use Rattle.wording.specs.declared.places.Places.{Places}
 use Rattle.clerk.specs.Told.{cause_lines}
 
@@ -15,9 +14,9 @@ unfoldable pub well_line : List ℕ
 well_line = spell "number 0: all is well\n"
 
 -- how many units it can use, where that is known
-unfoldable pub bound_words : Most → List ℕ
-bound_words Most.Unknown = []
-bound_words (Most.Units n) = spell ", at most " ++ decimal_of n ++ spell " by the profile"
+unfoldable pub bound_words : Option ℕ → List ℕ
+bound_words None = []
+bound_words (Some n) = spell ", at most " ++ decimal_of n ++ spell " by the profile"
 
 unfoldable pub units_line : (used : ℕ) → Limits → List ℕ
 units_line used limits =

@@ -3,6 +3,7 @@ ghost use Rattle.desk.specs.Statuses.{Status, Due};
 
 use crate::output::say;
 use crate::statuses::kept;
+use page::Page;
 use std::io::{Eprint, Print};
 
 // What `--help` is answered.
@@ -11,8 +12,9 @@ pub fn help(rt: &(impl Print + Eprint)) -> u32
     ensures status { Status result }
 {
     let mut text = io::buffer();
-    let n = wording::help::help(&mut text, 0);
-    kept(0, say(rt, &text[..n]))
+    let mut page = Page::on(&mut text);
+    wording::help::help(&mut page);
+    kept(0, say(rt, page.text()))
 }
 
 // What `--version` is answered.
@@ -21,6 +23,7 @@ pub fn version(rt: &(impl Print + Eprint)) -> u32
     ensures status { Status result }
 {
     let mut text = io::buffer();
-    let n = wording::help::version(&mut text, 0);
-    kept(0, say(rt, &text[..n]))
+    let mut page = Page::on(&mut text);
+    wording::help::version(&mut page);
+    kept(0, say(rt, page.text()))
 }

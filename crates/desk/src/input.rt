@@ -9,7 +9,7 @@ use crate::arguments::{fits, word};
 use crate::output;
 use orders::asked::Asked;
 use orders::tasks;
-use page::Number;
+use page::{Number, Page};
 use std::fs;
 use std::io::{Eprint, Error, ErrorKind, Input, Read};
 use std::rt::{Env, Files};
@@ -112,8 +112,9 @@ fn numbered(rt: &impl Eprint, found: Number, what: &[u8], word: &[u8], most: u32
         Number::Of(n) => Some(n),
         Number::None => {
             let mut text = [0u8; 20000];
-            let n = wording::mistakes::no_number(&mut text, 0, what, word, most);
-            output::tell(rt, &text[..n]);
+            let mut page = Page::on(&mut text);
+            wording::mistakes::no_number(&mut page, what, word, most);
+            output::tell(rt, page.text());
             None
         }
     }
@@ -160,16 +161,18 @@ pub fn strange(rt: &(impl Env + Eprint), i: usize) {
     }
     let mut room = io::buffer();
     let mut text = [0u8; 20000];
-    let n = wording::mistakes::strange(&mut text, 0, word(rt, Some(i), &mut room));
-    output::tell(rt, &text[..n]);
+    let mut page = Page::on(&mut text);
+    wording::mistakes::strange(&mut page, word(rt, Some(i), &mut room));
+    output::tell(rt, page.text());
 }
 
 // Says of the file that a word names that it is no report of a shift.
 pub fn no_report(rt: &(impl Env + Eprint), i: usize) {
     let mut room = io::buffer();
     let mut text = [0u8; 20000];
-    let n = wording::mistakes::no_report(&mut text, 0, word(rt, Some(i), &mut room));
-    output::tell(rt, &text[..n]);
+    let mut page = Page::on(&mut text);
+    wording::mistakes::no_report(&mut page, word(rt, Some(i), &mut room));
+    output::tell(rt, page.text());
 }
 
 // Are these two words the same? Where one of them is missing they are not.

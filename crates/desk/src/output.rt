@@ -3,6 +3,7 @@ ghost use Rattle.std.specs.Prelude.{◌≡◌, min};
 ghost use Rattle.std.specs.Process.{exit_status};
 
 use crate::input::within;
+use page::Page;
 use std::fmt;
 use std::fmt::{Display, Formatter};
 use std::io::{Cursor, Eprint, Error, Print, Write};
@@ -63,8 +64,9 @@ pub fn tell(rt: &impl Eprint, text: &[u8]) -> bool {
 // What failed with a file, and why.
 pub fn fail(rt: &impl Eprint, word: &[u8], why: &Error) {
     let mut text = [0u8; 20000];
-    let n = wording::mistakes::file(&mut text, 0, word);
-    failed(rt, &text[..n], why);
+    let mut page = Page::on(&mut text);
+    wording::mistakes::file(&mut page, word);
+    failed(rt, page.text(), why);
 }
 
 // The same of a word that does not fit.

@@ -155,9 +155,9 @@ fn field(rt: &impl Print, n: u64) {
 fn signed(rt: &impl Print, n: i64) {
     if n < 0 {
         write(rt, b" -");
-        decimal(rt, page::magnitude(n));
+        decimal(rt, n.unsigned_abs());
     } else {
-        field(rt, page::magnitude(n));
+        field(rt, n.unsigned_abs());
     }
 }
 

@@ -1,49 +1,15 @@
--- Text put behind text: one byte more, a whole part, and parts one behind the other.
-use lib.ListN.{length, get_or, set, take, drop, length-append, length-take, length-drop, drop_of_length-le, take-append-drop}
-use lib.Seq.{paste, paste-zero, paste-suc, take_all, take-length, take-append_seam, take-append-add, take_at}
-use lib.Seq.{drop-append-add, drop-drop, length-take-le}
+-- Text put behind text: one part into lent bytes, and parts one behind the other.
+use borrow.Rule.Slice.PartMut.{put_mid}
+use lib.ListN.{length, take, drop, length-append, length-take, length-drop, drop_of_length-le, take-append-drop}
+use lib.Seq.{take_all, take-length, take-append-add, take_at, drop-append-add, drop-drop, length-take-le}
 use mathlib.Core.List.{List, [], ◌∷◌, ◌++◌, append_assoc, append-nil}
 use mathlib.Core.Logic.{◌⊎◌, inl, inr, ⊎_elim}
 use mathlib.Core.Path.{◌≡◌, refl, sym, ◌∙◌, ap, subst}
-use native.Mathlib.Nat.{min-eq_left, le_of_lt, add-zero, add_assoc}
-use native.Mathlib.Numerals.{add-one}
+use native.Mathlib.Nat.{add-zero, add_assoc}
 use native.Mathlib.Omega.{arith}
 use Prim.Native.Nat.{ℕ, zero, suc, ◌+◌, ◌-◌, ◌≤◌, ◌<◌, zero-le, suc-le-suc, min}
-use Rattle.io.proofs.Counting.{prefix_len_of_le}
-use Rattle.io.specs.Counts.{IsPrefixLen}
-use Rattle.page.specs.Text.{Adds}
-
--- what is told of a part that was put: that its end lies within, and which bytes there are
-abbrev pub Added : (part entry exit : List ℕ) (at r : ℕ) → Type 0
-Added part entry exit at r = IsPrefixLen r exit × Adds part entry exit at r
-
--- ---- a part, byte by byte
-
--- the first i bytes of the part are put
-pub record Copied (entry now : List ℕ) (at : ℕ) (part : List ℕ) (i : ℕ) : Type 0 where
-  pub same : length now ≡ length entry
-  pub held : now ≡ paste entry at part i
-
-pub copied_none : (d s : List ℕ) (at : ℕ) → Copied d d at s 0
-copied_none d s at = record { same = refl; held = paste-zero d at s }
-
-pub copied_more : {d w : List ℕ} {at : ℕ} {s : List ℕ} {i : ℕ} → Copied d w at s i → at + i < length d → i < length s
-    → length (set w (at + i) (get_or s i 0)) ≡ length w
-    → Copied d (set w (at + i) (get_or s i 0)) at s (i + 1)
-copied_more {d} {w} {at} {s} {i} g a b k =
-    record { same = k ∙ g.same; held = rw (g.held, add-one i) (paste-suc d at s i 0 a b) }
-
--- no byte has room
-pub put_none : (d s : List ℕ) (at : ℕ) → length d ≤ at → Added s d d at (length d)
-put_none d s at h =
-    let all : take at d ≡ d = take_all at d h in
-    let past : length d ≤ at + length s = omega arith in (
-      prefix_len_of_le _ d (omega arith),
-      record {
-        text = sym (rw (all, take-append_seam d s, drop_of_length-le d past) (append-nil d));
-        ends = sym (min-eq_left past);
-      },
-    )
+use Rattle.page.specs.Text.{Adds, Writes}
+use Rattle.page.specs.declared.pages.Page.{Page}
 
 -- ---- as many bytes as have room
 
@@ -52,14 +18,14 @@ le_or_lt zero b = inl zero-le
 le_or_lt (suc a) zero = inr (suc-le-suc zero-le)
 le_or_lt (suc a) (suc b) = ⊎_elim (λ p. inl (suc-le-suc p)) (λ q. inr (suc-le-suc q)) (le_or_lt a b)
 
-module _ (d s : List ℕ) (at : ℕ) (h : at < length d) where
+module _ (d s : List ℕ) (at : ℕ) (h : at ≤ length d) where
   -- the bytes that stand first
   front : take (length d) (take at d ++ s) ≡ take at d ++ take (length d - at) s
   front =
-      let e : length d ≡ length (take at d) + (length d - at) = omega (arith, length-take-le at d (le_of_lt h)) in
+      let e : length d ≡ length (take at d) + (length d - at) = omega (arith, length-take-le at d h) in
       ap (λ (k : ℕ). take k (take at d ++ s)) e ∙ take-append-add (take at d) s (length d - at)
 
-  module _ {n : ℕ} (m : n ≡ min (length d - at) (length s)) where
+  module _ {n : ℕ} (m : n ≡ min (length s) (length d - at)) where
     same_part : take n s ≡ take (length d - at) s
     same_part =
         ⊎_elim
@@ -75,12 +41,13 @@ module _ (d s : List ℕ) (at : ℕ) (h : at < length d) where
         drop_of_length-le d {i = at + n} (omega arith) ∙ sym (drop_of_length-le d {i = at + length s} (omega arith)))
         (le_or_lt (length s) (length d - at))
 
-    pub put_all : {w : List ℕ} {i : ℕ} → i ≤ n → n ≤ i → Copied d w at s i → Added s d w at (at + n)
-    put_all {w} {i} a b g =
-        let e : i ≡ n = omega arith in
-        let all : w ≡ take (length d) (take at d ++ s) ++ drop (at + length s) d =
-        g.held ∙ rw (e, same_part, same_rest, front) in
-        (prefix_len_of_le _ w (omega (arith, g.same)), record { text = all; ends = omega arith })
+    -- the first n bytes of the part are copied
+    pub put_part : {k : ℕ} {ys : List ℕ} → k ≡ n → ys ≡ take n s → Adds s d (put_mid at k d ys) at (at + n)
+    put_part {k} {ys} e f =
+        record {
+          text = rw (e, f, same_part, drop-drop n at d, same_rest, front, append_assoc (take at d) _ _);
+          ends = omega arith;
+        }
 
 -- ---- parts one behind the other
 
@@ -112,7 +79,7 @@ module _ {a d0 d1 : List ℕ} {n0 n1 : ℕ} (p : Adds a d0 d1 n0 n1) where
       omega (arith, length-take (length d0) (take n0 d0 ++ a), length-append (take n0 d0) a, length-take n0 d0, p.ends)
 
   -- there are as many bytes as before
-  pub adds_long : length d1 ≡ length d0
+  adds_long : length d1 ≡ length d0
   unfolding first rest
   adds_long =
       rw p.text (omega (arith, length-append first rest, first_long, p.ends, length-drop (n0 + length a) d0))
@@ -130,7 +97,7 @@ module _ {a d0 d1 : List ℕ} {n0 n1 : ℕ} (p : Adds a d0 d1 n0 n1) where
         ∙ drop-drop (length b) (n0 + length a) d0
         ∙ ap (λ (k : ℕ). drop k d0) (add_assoc n0 (length a) (length b)))
 
-    adds_both : Adds (a ++ b) d0 d2 n0 n2
+    pub adds_both : Adds (a ++ b) d0 d2 n0 n2
     unfolding first
     adds_both =
         record {
@@ -138,26 +105,19 @@ module _ {a d0 d1 : List ℕ} {n0 n1 : ℕ} (p : Adds a d0 d1 n0 n1) where
           ends = omega (arith, q.ends, adds_long, p.ends, length-append a b);
         }
 
--- where a part was put it ends within
-pub added : {a d0 d1 : List ℕ} {n0 n1 : ℕ} → Adds a d0 d1 n0 n1 → Added a d0 d1 n0 n1
-added {d1 = d1} p = (prefix_len_of_le _ d1 (omega (arith, adds_long p, p.ends)), p)
+-- one behind the other on a page, read from what is told of each
+infixl 40 ◌▸◌
+pub ◌▸◌ : {a b : List ℕ} {p q r : Page} → Writes a p q → Writes b q r → Writes (a ++ b) p r
+f ▸ g = record { same = g.same ∙ f.same; adds = adds_both f.adds g.adds }
 
--- one behind the other, read from what is told of each
-pub both : {a b d0 d1 d2 : List ℕ} {n0 n1 n2 : ℕ} → Adds a d0 d1 n0 n1 → Adds b d1 d2 n1 n2 → Adds (a ++ b) d0 d2 n0 n2
-both p q = adds_both p q
-
--- nothing, from where the bytes end at the latest
-pub nothing : (d : List ℕ) {at r : ℕ} → r ≡ min at (length d) → Added [] d d at r
-nothing d e = (prefix_len_of_le _ d (omega arith), adds_none d e)
+-- nothing
+pub nothing : {p : Page} → Writes [] p p
+nothing {p} = record { same = refl; adds = adds_none p.out.now (omega (arith, p.within)) }
 
 -- a part that is the same text
-pub being : {a b d0 d1 : List ℕ} {n0 n1 : ℕ} → a ≡ b → Adds a d0 d1 n0 n1 → Adds b d0 d1 n0 n1
-being {d0 = d0} {d1} {n0} {n1} e p = subst (λ (t : List ℕ). Adds t d0 d1 n0 n1) e p
+pub being : {a b : List ℕ} {p q : Page} → a ≡ b → Writes a p q → Writes b p q
+being {p = p} {q} e w = subst (λ (t : List ℕ). Writes t p q) e w
 
--- the text that f gives for x, where x is known to be y
-pub worded : {X : Type 0} (f : X → List ℕ) {x y : X} → x ≡ y → {d0 d1 : List ℕ} {n0 n1 : ℕ} → Adds (f y) d0 d1 n0 n1 → Adds (f x) d0 d1 n0 n1
-worded f e p = being (sym (ap f e)) p
-
--- there are as many bytes as before
-pub long : {a d0 d1 : List ℕ} {n0 n1 : ℕ} → Adds a d0 d1 n0 n1 → length d1 ≡ length d0
-long p = adds_long p
+-- on a page that is the same
+pub onto : {b : List ℕ} {q s r : Page} → q ≡ s → Writes b q r → Writes b s r
+onto {b} {r = r} e w = subst (λ (q : Page). Writes b q r) e w

@@ -10,8 +10,9 @@ use native.Mathlib.Nat.{one-mul, div-eq_of_lt, mod-eq_of_lt, div-one}
 use native.Mathlib.Omega.{arith}
 use Prim.Native.Nat.{ℕ, zero, suc, ◌+◌, ◌-◌, ◌*◌, ◌/◌, ◌%◌, ◌^◌, ◌≤◌, ◌<◌}
 use Rattle.language.specs.Tokens.{spell}
-use Rattle.page.proofs.Adding.{Added, added, both, being}
-use Rattle.page.specs.Text.{Adds}
+use Rattle.page.proofs.Adding.{◌▸◌, being}
+use Rattle.page.specs.Text.{Writes}
+use Rattle.page.specs.declared.pages.Page.{Page}
 use Rattle.page.specs.Floats.{unsigned, ENDLESS, significand, steps, thousandths, is_exact, sign_text, about_text}
 use Rattle.page.specs.Floats.{decimal_text, product_text, float_text, capital, hexadecimal, bits_text}
 
@@ -90,40 +91,29 @@ module _ (b : ℕ) where
 
 -- ---- the digits of the bits
 
--- all are put but the last `left`
-pub record Nibbles (b : ℕ) (entry now : List ℕ) (at left r : ℕ) : Type 0 where
-  pub few : left ≤ 16
-  pub done : Added (hexadecimal (16 - left) (b / 2 ^ (4 * left))) entry now at r
+-- all are put but the last `left`, and one more of these
+pub nibbles_more : (b left : ℕ) {d : ℕ} {p q r : Page} → 0 < left → left ≤ 16 → d ≡ capital (b / 2 ^ (4 * (left - 1)) % 16)
+    → Writes (hexadecimal (16 - left) (b / 2 ^ (4 * left))) p q → Writes (d ∷ []) q r
+    → Writes (hexadecimal (16 - (left - 1)) (b / 2 ^ (4 * (left - 1)))) p r
+unfolding hexadecimal
+nibbles_more b zero some few x g w = absurd (omega arith)
+nibbles_more b (suc l) some few x g w = being text (g ▸ being (ap (λ (k : ℕ). k ∷ []) (x ∙ digit)) w)
+  where
+    less : suc l - 1 ≡ l
+    less = omega arith
 
-module _ {b : ℕ} {entry now : List ℕ} {at : ℕ} where
-  pub nibbles_none : {r : ℕ} → Added [] entry now at r → Nibbles b entry now at 16 r
-  unfolding hexadecimal
-  nibbles_none p = record { few = omega arith; done = p }
+    digit : capital (b / 2 ^ (4 * (suc l - 1)) % 16) ≡ capital (b / 2 ^ (4 * l) % 16)
+    digit = rw less
 
-  -- one more
-  pub nibbles_more : {next : List ℕ} {left r e d : ℕ} → Nibbles b entry now at left r → 0 < left
-      → d ≡ capital (b / 2 ^ (4 * (left - 1)) % 16) → Adds (d ∷ []) now next r e
-      → Nibbles b entry next at (left - 1) e
-  unfolding hexadecimal
-  nibbles_more {left = zero} g h x p = absurd (omega arith)
-  nibbles_more {left = suc l} {d = d} g h x p =
-      record { few = omega (arith, g.few); done = added (being text (both g.done.1 (being (ap (λ (k : ℕ). k ∷ []) (x ∙ digit)) p))) }
-    where
-      less : suc l - 1 ≡ l
-      less = omega arith
+    above : b / 2 ^ (4 * suc l) ≡ b / 2 ^ (4 * l) / 16
+    above = let e : 4 * suc l ≡ 4 * l + 4 = omega arith in rw e (sym (shr-shr b (4 * l) 4))
 
-      digit : capital (b / 2 ^ (4 * (suc l - 1)) % 16) ≡ capital (b / 2 ^ (4 * l) % 16)
-      digit = rw less
+    text : hexadecimal (16 - suc l) (b / 2 ^ (4 * suc l)) ++ (capital (b / 2 ^ (4 * l) % 16) ∷ [])
+        ≡ hexadecimal (16 - (suc l - 1)) (b / 2 ^ (4 * (suc l - 1)))
+    text = let e : 16 - l ≡ suc (16 - suc l) = omega arith in rw (less, e, above)
 
-      above : b / 2 ^ (4 * suc l) ≡ b / 2 ^ (4 * l) / 16
-      above = let e : 4 * suc l ≡ 4 * l + 4 = omega arith in rw e (sym (shr-shr b (4 * l) 4))
-
-      text : hexadecimal (16 - suc l) (b / 2 ^ (4 * suc l)) ++ (capital (b / 2 ^ (4 * l) % 16) ∷ [])
-          ≡ hexadecimal (16 - (suc l - 1)) (b / 2 ^ (4 * (suc l - 1)))
-      text = let e : 16 - l ≡ suc (16 - suc l) = omega (arith, g.few) in rw (less, e, above)
-
-  -- all
-  pub nibbles_all : {left r : ℕ} → Nibbles b entry now at left r → left ≤ 0 → Added (bits_text b) entry now at r
-  unfolding bits_text
-  nibbles_all {left = zero} g h = added (being (ap (hexadecimal 16) (div-one b)) g.done.1)
-  nibbles_all {left = suc l} g h = absurd (omega arith)
+pub nibbles_all : (b : ℕ) {left : ℕ} {p q : Page} → left ≤ 0 → Writes (hexadecimal (16 - left) (b / 2 ^ (4 * left))) p q
+    → Writes (bits_text b) p q
+unfolding bits_text
+nibbles_all b {left = zero} h g = being (ap (hexadecimal 16) (div-one b)) g
+nibbles_all b {left = suc l} h g = absurd (omega arith)

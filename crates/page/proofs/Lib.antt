@@ -11,3 +11,4 @@ pub mod Seen
 pub mod Spelling
 pub mod Signed
 pub mod Named
+pub mod Padding

@@ -10,9 +10,10 @@ use native.Mathlib.Omega.{arith}
 use Prim.Native.Nat.{ℕ, ◌+◌, ◌/◌, ◌%◌, ◌≤◌, ◌<◌}
 use Rattle.io.specs.Digits.{hex_digit_ascii}
 use Rattle.language.specs.Tokens.{spell}
-use Rattle.page.proofs.Adding.{Added, added, both, being}
+use Rattle.page.proofs.Adding.{◌▸◌, being}
 use Rattle.page.specs.Characters.{inner}
-use Rattle.page.specs.Text.{Adds, each, is_hidden, byte_shown, byte_blank}
+use Rattle.page.specs.Text.{Writes, each, is_hidden, byte_shown, byte_blank}
+use Rattle.page.specs.declared.pages.Page.{Page}
 
 -- ---- a byte
 
@@ -50,26 +51,8 @@ module _ (f : ℕ → List ℕ) where
   each_end [] b = append-nil (f b)
   each_end (x ∷ t) b = rw (each_end t b) (sym (append_assoc (f x) (each f t) (f b)))
 
-  -- the first i are put
-  pub record Put (t entry now : List ℕ) (at i r : ℕ) : Type 0 where
-    pub within : i ≤ length t
-    pub done : Added (each f (take i t)) entry now at r
-
-  -- none
-  pub put_none : {t entry now : List ℕ} {at r : ℕ} → Added [] entry now at r → Put t entry now at 0 r
-  unfolding each
-  put_none p = record { within = omega arith; done = p }
-
-  module _ {t entry now : List ℕ} {at i r : ℕ} (g : Put t entry now at i r) where
-    longer : i < length t → each f (take i t) ++ f (get_or t i 0) ≡ each f (take (i + 1) t)
-    longer h = rw (add-one i, take-suc t i 0 h) (sym (each_end (take i t) (get_or t i 0)))
-
-    -- one more
-    pub put_more : i < length t → {next : List ℕ} {e : ℕ} → Adds (f (get_or t i 0)) now next r e → Put t entry next at (i + 1) e
-    put_more h p = record { within = omega arith; done = added (being (longer h) (both g.done.1 p)) }
-
-    -- all
-    pub put_all : length t ≤ i → Added (each f t) entry now at r
-    put_all h =
-        let y : i ≡ length t = omega (arith, g.within) in
-        added (being (ap (λ (k : ℕ). each f (take k t)) y ∙ ap (each f) (take-length t)) g.done.1)
+  -- one more is put
+  pub put_more : (t : List ℕ) (i : ℕ) {p q r : Page} → i < length t → Writes (each f (take i t)) p q
+      → Writes (f (get_or t i 0)) q r → Writes (each f (take (i + 1) t)) p r
+  put_more t i h g w =
+      being (sym (rw (add-one i, take-suc t i 0 h) (each_end (take i t) (get_or t i 0)))) (g ▸ w)

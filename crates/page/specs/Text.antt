@@ -3,13 +3,26 @@ use Rattle.std.specs.Prelude.{Bool, true, false, cond, not, List, [], ◌∷◌,
 use Prim.Native.Char.{code}
 use Rattle.io.specs.Digits.{last_digits, hex_digit_ascii}
 use Rattle.language.specs.Tokens.{spell}
+use Rattle.std.specs.Borrow.{MutBor}
 use Rattle.page.specs.Characters.{inner}
+use Rattle.page.specs.declared.pages.Page.{Page}
 
 -- The bytes before the place `at` stay, the part stands behind them, and what is behind the part is as it was; where
 -- the lent bytes have no room for all of it, the part is cut. r is where it ends.
 pub record Adds (part entry exit : List ℕ) (at r : ℕ) : Type 0 where
   pub text : exit ≡ take (length entry) (take at entry ++ part) ++ drop (at + length part) entry
   pub ends : r ≡ min (length entry) (at + length part)
+
+-- a page that was written on: the same bytes are lent, and the part stands behind what stood there
+pub record Writes (part : List ℕ) (entry exit : Page) : Type 0 where
+  pub same : exit.out.ghost_name ≡ entry.out.ghost_name
+  pub adds : Adds part entry.out.now exit.out.now entry.at exit.at
+
+-- a page on lent bytes, with nothing on it
+pub record Begins (lent : MutBor (List ℕ)) (page : Page) : Type 0 where
+  pub same : page.out.ghost_name ≡ lent.ghost_name
+  pub bytes : page.out.now ≡ lent.now
+  pub starts : page.at ≡ 0
 
 -- ---- numbers
 

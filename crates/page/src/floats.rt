@@ -2,15 +2,13 @@
 ghost use Rattle.std.specs.Prelude.{◌≡◌, ◌≤◌, ◌<◌, ◌^◌};
 ghost use Rattle.std.specs.Float.{binary64};
 ghost use Rattle.std.specs.Float.Ieee.{low};
-ghost use Rattle.io.specs.Counts.{IsPrefixLen};
-ghost use Rattle.io.specs.Digits.{last_digits};
 ghost use Rattle.page.specs.Floats as Floats;
 ghost use Rattle.page.specs.Floats.{is_exact, sign_text, about_text, thousandths_text, decimal_text};
 ghost use Rattle.page.specs.Floats.{product_text, float_text, capital, bits_text};
-ghost use Rattle.page.specs.Text.{Adds};
+ghost use Rattle.page.specs.Text.{Writes};
 
-use crate::least;
-use crate::text::{decimal, hex, put};
+use crate::padded::padded;
+use crate::pages::Page;
 
 // The sign's bit; an infinity's bits without it; the lowest bit of the exponent's.
 const SIGN: u64 = 0x8000_0000_0000_0000;
@@ -70,117 +68,86 @@ fn exact(q: u64, s: u64) -> bool
     q == 0
 }
 
-fn sign(out: &mut [u8], at: usize, bits: u64) -> usize
-    ensures prefix_len { IsPrefixLen result out.new }
-    ensures adds { Adds (sign_text bits) out.old out.new at result }
+fn sign(page: &mut Page, bits: u64)
+    ensures { Writes (sign_text bits) page.old page.new }
 {
-    if bits < SIGN {
-        return put(out, at, b"");
+    if SIGN <= bits {
+        page.put(b"-");
     }
-    put(out, at, b"-")
 }
 
-fn about(out: &mut [u8], at: usize, q: u64, s: u64) -> usize
+fn about(page: &mut Page, q: u64, s: u64)
     requires { q < 9007199254740992 }
-    ensures prefix_len { IsPrefixLen result out.new }
-    ensures adds { Adds (about_text q s) out.old out.new at result }
+    ensures { Writes (about_text q s) page.old page.new }
 {
-    if exact(q, s) {
-        return put(out, at, b"");
+    if !exact(q, s) {
+        page.put(b"~");
     }
-    put(out, at, b"~")
 }
 
-// The last three digits of a number.
-fn last_three(out: &mut [u8], at: usize, n: u64) -> usize
-    ensures prefix_len { IsPrefixLen result out.new }
-    ensures adds { Adds (last_digits 10 3 n) out.old out.new at result }
+fn with_point(page: &mut Page, n: u64)
+    ensures { Writes (thousandths_text n) page.old page.new }
 {
-    let tens = n / 10;
-    let hundreds = tens / 10;
-    let three = [
-        hex((hundreds % 10) as u8),
-        hex((tens % 10) as u8),
-        hex((n % 10) as u8),
-    ];
-    put(out, at, &three)
+    page.decimal(n / 1000);
+    page.put(b".");
+    padded::<3>(page, n);
 }
 
-fn with_point(out: &mut [u8], at: usize, n: u64) -> usize
-    ensures prefix_len { IsPrefixLen result out.new }
-    ensures adds { Adds (thousandths_text n) out.old out.new at result }
-{
-    let a = decimal(out, at, n / 1000);
-    let b = put(out, a, b".");
-    last_three(out, b, n)
-}
-
-fn in_thousandths(out: &mut [u8], at: usize, bits: u64) -> usize
+fn in_thousandths(page: &mut Page, bits: u64)
     requires { Floats.steps bits < low binary64 }
-    ensures prefix_len { IsPrefixLen result out.new }
-    ensures adds { Adds (decimal_text bits) out.old out.new at result }
+    ensures { Writes (decimal_text bits) page.old page.new }
 {
     let q = significand(bits);
     let s = LOW - steps(bits);
-    let a = about(out, at, q, s);
-    let b = sign(out, a, bits);
-    with_point(out, b, thousandths(q, s))
+    about(page, q, s);
+    sign(page, bits);
+    with_point(page, thousandths(q, s));
 }
 
-fn product(out: &mut [u8], at: usize, bits: u64) -> usize
+fn product(page: &mut Page, bits: u64)
     requires { low binary64 ≤ Floats.steps bits }
-    ensures prefix_len { IsPrefixLen result out.new }
-    ensures adds { Adds (product_text bits) out.old out.new at result }
+    ensures { Writes (product_text bits) page.old page.new }
 {
     let q = significand(bits);
     let k = steps(bits) - LOW;
-    let a = sign(out, at, bits);
-    let b = decimal(out, a, q);
-    let c = put(out, b, b"*2^");
-    decimal(out, c, k)
-}
-
-// Puts a float in decimal digits, `~` before it where three behind its point do not tell all; from 2 to the
-// power of 52 on as a product, and what is no finite number in words.
-pub fn float(out: &mut [u8], at: usize, bits: u64) -> usize
-    ensures prefix_len { IsPrefixLen result out.new }
-    ensures adds { Adds (float_text bits) out.old out.new at result }
-{
-    let unsigned = bits % SIGN;
-    if ENDLESS < unsigned {
-        return put(out, at, b"not a number");
-    }
-    if unsigned == ENDLESS {
-        let a = sign(out, at, bits);
-        return put(out, a, b"infinity");
-    }
-    if steps(bits) < LOW {
-        return in_thousandths(out, at, bits);
-    }
-    product(out, at, bits)
+    sign(page, bits);
+    page.decimal(q);
+    page.put(b"*2^");
+    page.decimal(k);
 }
 
 fn upper(d: u8) -> u8
     requires { d < 16 }
     ensures { result ≡ capital d }
 {
-    if d < 10 {
-        return b'0' + d;
-    }
-    b'A' - 10 + d
+    if d < 10 { b'0' + d } else { b'A' - 10 + d }
 }
 
-// Puts the bits in 16 digits of hexadecimal.
-pub fn bits(out: &mut [u8], at: usize, bits: u64) -> usize
-    ensures prefix_len { IsPrefixLen result out.new }
-    ensures adds { Adds (bits_text bits) out.old out.new at result }
-{
-    let mut end = least(at, out.len());
-    let mut left: u64 = 16;
-    while 0 < left {
-        left -= 1;
-        let digit = [upper(((bits >> (4 * left)) % 16) as u8)];
-        end = put(out, end, &digit);
+impl Page<'_> {
+    // Puts a float in decimal digits, `~` before it where three behind its point do not tell all; from 2 to the
+    // power of 52 on as a product, and what is no finite number in words.
+    pub fn float(&mut self, bits: u64)
+        ensures { Writes (float_text bits) self.old self.new }
+    {
+        let unsigned = bits % SIGN;
+        if ENDLESS < unsigned {
+            self.put(b"not a number");
+        } else if unsigned == ENDLESS {
+            sign(self, bits);
+            self.put(b"infinity");
+        } else if steps(bits) < LOW {
+            in_thousandths(self, bits);
+        } else {
+            product(self, bits);
+        }
     }
-    end
+
+    // Puts the bits in 16 digits of hexadecimal.
+    pub fn bits(&mut self, bits: u64)
+        ensures { Writes (bits_text bits) self.old self.new }
+    {
+        for left in (0..16u64).rev() {
+            self.put(&[upper(((bits >> (4 * left)) % 16) as u8)]);
+        }
+    }
 }

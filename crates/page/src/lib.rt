@@ -13,16 +13,16 @@ mod fields;
 mod floats;
 pub mod lines;
 mod money;
+mod padded;
+mod pages;
 mod text;
 
 use crate::lines::{Spot, columns, feeds_before, line_end, line_start};
 pub use amounts::{Amount, Number, up_to};
 pub use characters::readable;
 pub use fields::{amount, count};
-pub use floats::{bits, float};
 pub use lines::trimmed;
-pub use money::pounds;
-pub use text::{blanks, decimal, put, shown};
+pub use pages::Page;
 
 // The lesser of the two.
 pub fn least(a: usize, b: usize) -> usize

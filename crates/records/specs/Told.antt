@@ -1,5 +1,5 @@
 -- The report on a sheet for machines: a name and a value on each line.
-use Rattle.std.specs.Prelude.{eqb, cond, List, [], ◌++◌, ℕ}
+use Rattle.std.specs.Prelude.{eqb, cond, List, [], ◌++◌, Option, Some, None, ℕ}
 use Rattle.language.specs.Tokens.{spell}
 use Rattle.layout.specs.Values.{meant}
 use Rattle.wording.specs.Causes.{cause_number, cause_placed}
@@ -11,7 +11,6 @@ use Rattle.wording.specs.Words.{cause_words}
 use Rattle.wording.specs.declared.causes.Cause.{Cause}
 use Rattle.wording.specs.declared.ends.End.{End}
 use Rattle.wording.specs.declared.limits.Limits.{Limits}
-use Rattle.wording.specs.declared.limits.Most.{Most}
 use Rattle.wording.specs.declared.places.Places.{Places}
 
 unfoldable pub sheet_line : (file : List ℕ) → List ℕ
@@ -50,9 +49,9 @@ cause_lines sheet places why p = meaning_lines why ++ cond (cause_placed why) (p
 -- ---- the whole
 
 -- the count of a sheet's profile, where it is known
-unfoldable pub bound_lines : Most → List ℕ
-bound_lines Most.Unknown = []
-bound_lines (Most.Units n) = number_line (spell "count") n
+unfoldable pub bound_lines : Option ℕ → List ℕ
+bound_lines None = []
+bound_lines (Some n) = number_line (spell "count") n
 
 unfoldable pub ran_lines : (units : ℕ) → Limits → (printed : ℕ) → List ℕ
 ran_lines units limits printed =

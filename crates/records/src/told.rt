@@ -1,132 +1,113 @@
 // What machines are told of a sheet: a name and a value on each line.
-ghost use Rattle.io.specs.Counts.{IsPrefixLen};
-ghost use Rattle.page.specs.Text.{Adds};
+ghost use Rattle.page.specs.Text.{Writes};
 ghost use Rattle.records.specs.Told.{sheet_line, well_lines, meant_line, meaning_lines, place_lines, cause_lines};
 ghost use Rattle.records.specs.Told.{placed_lines, bound_lines, ran_lines, end_lines};
 
-use page::{put, spot};
+use page::{Page, spot};
 use wording::causes::Cause;
 use wording::ends::End;
 use wording::fields::field;
-use wording::limits::{Limits, Most};
+use wording::limits::Limits;
 use wording::places::Places;
 use wording::{causes, fields, words};
 
-pub fn sheet(out: &mut [u8], at: usize, file: &[u8]) -> usize
-    ensures prefix_len { IsPrefixLen result out.new }
-    ensures adds { Adds (sheet_line file.now) out.old out.new at result }
+pub fn sheet(page: &mut Page, file: &[u8])
+    ensures { Writes (sheet_line file.now) page.old page.new }
 {
-    let a = put(out, at, b"sheet ");
-    let b = fields::name(out, a, file);
-    put(out, b, b"\n")
+    page.put(b"sheet ");
+    fields::name(page, file);
+    page.put(b"\n");
 }
 
-pub fn well(out: &mut [u8], at: usize) -> usize
-    ensures prefix_len { IsPrefixLen result out.new }
-    ensures adds { Adds well_lines out.old out.new at result }
+#[tactic(auto, unfolding(crate::specs::Told::well_lines))]
+pub fn well(page: &mut Page)
+    ensures { Writes well_lines page.old page.new }
 {
-    put(out, at, b"number 0\nmeaning all is well\n")
+    page.put(b"number 0\nmeaning all is well\n");
 }
 
 // The number, where there is one, and what is meant.
-pub fn meaning(out: &mut [u8], at: usize, why: Cause) -> usize
-    ensures prefix_len { IsPrefixLen result out.new }
-    ensures adds { Adds (meaning_lines why) out.old out.new at result }
+pub fn meaning(page: &mut Page, why: Cause)
+    ensures { Writes (meaning_lines why) page.old page.new }
 {
     let number = causes::number(why);
-    if number == 0 {
-        return meant(out, at, why);
+    if number != 0 {
+        field(page, b"number", number as u64);
     }
-    let a = field(out, at, b"number", number as u64);
-    meant(out, a, why)
+    meant(page, why);
 }
 
-fn meant(out: &mut [u8], at: usize, why: Cause) -> usize
-    ensures prefix_len { IsPrefixLen result out.new }
-    ensures adds { Adds (meant_line why) out.old out.new at result }
+fn meant(page: &mut Page, why: Cause)
+    ensures { Writes (meant_line why) page.old page.new }
 {
-    let a = put(out, at, b"meaning ");
-    let b = words::words(out, a, why);
-    put(out, b, b"\n")
+    page.put(b"meaning ");
+    words::words(page, why);
+    page.put(b"\n");
 }
 
 // Where a place lies: its byte counted from 0, its line and column from 1.
-fn there(out: &mut [u8], at: usize, sheet: &[u8], place: usize) -> usize
-    ensures prefix_len { IsPrefixLen result out.new }
-    ensures adds { Adds (place_lines sheet.now place) out.old out.new at result }
+fn there(page: &mut Page, sheet: &[u8], place: usize)
+    ensures { Writes (place_lines sheet.now place) page.old page.new }
 {
     let spot = spot(sheet, place);
-    let a = field(out, at, b"place", place as u64);
-    let b = field(out, a, b"line", spot.line as u64);
-    field(out, b, b"column", spot.column as u64)
+    field(page, b"place", place as u64);
+    field(page, b"line", spot.line as u64);
+    field(page, b"column", spot.column as u64);
 }
 
 // A place of a stored sheet is a line, and nothing more.
-fn placed(out: &mut [u8], at: usize, sheet: &[u8], places: Places, place: usize) -> usize
-    ensures prefix_len { IsPrefixLen result out.new }
-    ensures adds { Adds (placed_lines sheet.now places place) out.old out.new at result }
+#[tactic(auto, unfolding(crate::specs::Told::placed_lines))]
+fn placed(page: &mut Page, sheet: &[u8], places: Places, place: usize)
+    ensures { Writes (placed_lines sheet.now places place) page.old page.new }
 {
     match places {
-        Places::Bytes => there(out, at, sheet, place),
-        Places::Lines => field(out, at, b"line", place as u64),
+        Places::Bytes => there(page, sheet, place),
+        Places::Lines => field(page, b"line", place as u64),
     }
 }
 
 // A cause, with its place if it has one.
-fn cause(out: &mut [u8], at: usize, sheet: &[u8], places: Places, why: Cause, place: usize) -> usize
-    ensures prefix_len { IsPrefixLen result out.new }
-    ensures adds { Adds (cause_lines sheet.now places why place) out.old out.new at result }
+fn cause(page: &mut Page, sheet: &[u8], places: Places, why: Cause, place: usize)
+    ensures { Writes (cause_lines sheet.now places why place) page.old page.new }
 {
-    let a = meaning(out, at, why);
+    meaning(page, why);
     if causes::is_placed(why) {
-        return placed(out, a, sheet, places, place);
+        placed(page, sheet, places, place);
     }
-    put(out, a, b"")
 }
 
 // The count of a sheet's profile, where it is known.
-fn bound(out: &mut [u8], at: usize, most: Most) -> usize
-    ensures prefix_len { IsPrefixLen result out.new }
-    ensures adds { Adds (bound_lines most) out.old out.new at result }
+#[tactic(auto, unfolding(crate::specs::Told::bound_lines))]
+fn bound(page: &mut Page, most: Option<u32>)
+    ensures { Writes (bound_lines most) page.old page.new }
 {
-    match most {
-        Most::Unknown => put(out, at, b""),
-        Most::Units(count) => field(out, at, b"count", count as u64),
+    if let Some(count) = most {
+        field(page, b"count", count as u64);
     }
 }
 
-fn ran(out: &mut [u8], at: usize, units: u32, limits: Limits, printed: usize) -> usize
-    ensures prefix_len { IsPrefixLen result out.new }
-    ensures adds { Adds (ran_lines units limits printed) out.old out.new at result }
+fn ran(page: &mut Page, units: u32, limits: Limits, printed: usize)
+    ensures { Writes (ran_lines units limits printed) page.old page.new }
 {
-    let most = limits.most;
-    let a = field(out, at, b"units", units as u64);
-    let b = field(out, a, b"allowance", limits.allowance);
-    let c = bound(out, b, most);
-    field(out, c, b"printed", printed as u64)
+    field(page, b"units", units as u64);
+    field(page, b"allowance", limits.allowance);
+    bound(page, limits.most);
+    field(page, b"printed", printed as u64);
 }
 
 // What came of the sheet.
-pub fn ended(
-    out: &mut [u8],
-    at: usize,
-    source: &[u8],
-    places: Places,
-    limits: Limits,
-    end: End,
-) -> usize
-    ensures prefix_len { IsPrefixLen result out.new }
-    ensures adds { Adds (end_lines source.now places limits end) out.old out.new at result }
+pub fn ended(page: &mut Page, source: &[u8], places: Places, limits: Limits, end: End)
+    ensures { Writes (end_lines source.now places limits end) page.old page.new }
 {
     match end {
         End::Passed(type_number) => {
-            let c = well(out, at);
-            fields::type_line(out, c, type_number)
+            well(page);
+            fields::type_line(page, type_number);
         }
         End::Counted(type_number, count) => {
-            let c = well(out, at);
-            let d = fields::type_line(out, c, type_number);
-            field(out, d, b"count", count as u64)
+            well(page);
+            fields::type_line(page, type_number);
+            field(page, b"count", count as u64);
         }
         End::Value {
             type_number,
@@ -134,12 +115,12 @@ pub fn ended(
             units,
             printed,
         } => {
-            let c = well(out, at);
-            let d = fields::type_line(out, c, type_number);
-            let e = fields::value_lines(out, d, value);
-            ran(out, e, units, limits, printed)
+            well(page);
+            fields::type_line(page, type_number);
+            fields::value_lines(page, value);
+            ran(page, units, limits, printed);
         }
-        End::Refused(why, place) => cause(out, at, source, places, why, place),
+        End::Refused(why, place) => cause(page, source, places, why, place),
         End::Stopped {
             why,
             place,
@@ -147,9 +128,9 @@ pub fn ended(
             units,
             printed,
         } => {
-            let c = cause(out, at, source, places, why, place);
-            let d = fields::type_line(out, c, type_number);
-            ran(out, d, units, limits, printed)
+            cause(page, source, places, why, place);
+            fields::type_line(page, type_number);
+            ran(page, units, limits, printed);
         }
     }
 }

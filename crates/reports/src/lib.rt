@@ -11,6 +11,7 @@ use desk::rooms::TEXT;
 use desk::statuses::kept;
 use desk::{Outside, arguments, input, output, rooms};
 use orders::asked::Asked;
+use page::Page;
 use records::machines;
 use std::fs;
 use std::io::Error;
@@ -69,8 +70,9 @@ fn tell(
     end: End,
 ) -> bool {
     let mut text = rooms::bytes::<TEXT>();
-    let n = people::report(&mut text, file, sheet, places, limits, end);
-    output::tell(rt, &text[..n])
+    let mut page = Page::on(&mut text);
+    people::report(&mut page, file, sheet, places, limits, end);
+    output::tell(rt, page.text())
 }
 
 fn record(
@@ -84,8 +86,9 @@ fn record(
     end: End,
 ) -> bool {
     let mut text = rooms::bytes::<TEXT>();
-    let n = machines::report(&mut text, status, file, sheet, places, limits, end);
-    keep(rt, asked, &text[..n])
+    let mut page = Page::on(&mut text);
+    machines::report(&mut page, status, file, sheet, places, limits, end);
+    keep(rt, asked, page.text())
 }
 
 // Tells what came of a sheet, and answers the status. Where the slip cannot be written there is nothing to tell.
@@ -150,8 +153,9 @@ fn record_shift(
     sums: Sums,
 ) -> bool {
     let mut text = rooms::bytes::<TEXT>();
-    let n = machines::shift(&mut text, status, file, allowance, over, sums);
-    keep(rt, asked, &text[..n])
+    let mut page = Page::on(&mut text);
+    machines::shift(&mut page, status, file, allowance, over, sums);
+    keep(rt, asked, page.text())
 }
 
 // What is to be said behind the report of a shift: nothing, or that its file has a line too many. True if that could
@@ -174,8 +178,9 @@ pub fn shift(rt: &impl Outside, asked: Asked, allowance: u64, over: bool, sums: 
     let mut room = io::buffer();
     let file = word(rt, asked.sheet, &mut room);
     let mut text = io::buffer();
-    let n = shifts::report(&mut text, sums);
-    if !output::say(rt, &text[..n]) {
+    let mut page = Page::on(&mut text);
+    shifts::report(&mut page, sums);
+    if !output::say(rt, page.text()) {
         return failed(rt, asked);
     }
     let status = kept(ends::shift_status(over), warn(rt, asked, over));
@@ -185,8 +190,9 @@ pub fn shift(rt: &impl Outside, asked: Asked, allowance: u64, over: bool, sums: 
 
 fn record_combined(rt: &impl Outside, asked: Asked, status: u32, over: bool, sums: Sums) -> bool {
     let mut text = io::buffer();
-    let n = machines::combined(&mut text, status, over, sums);
-    keep(rt, asked, &text[..n])
+    let mut page = Page::on(&mut text);
+    machines::combined(&mut page, status, over, sums);
+    keep(rt, asked, page.text())
 }
 
 // The report for people, or that there is none; true if it could be written.
@@ -198,8 +204,9 @@ fn say_combined(rt: &impl Outside, over: bool, sums: Sums) -> bool {
         );
     }
     let mut text = io::buffer();
-    let n = shifts::report(&mut text, sums);
-    output::say(rt, &text[..n])
+    let mut page = Page::on(&mut text);
+    shifts::report(&mut page, sums);
+    output::say(rt, page.text())
 }
 
 // Tells what the reports of parts come to, and answers the status.

@@ -10,6 +10,7 @@ use desk::arguments::word;
 use desk::rooms::SHEET;
 use desk::{Outside, input, output, rooms};
 use language::{TABLE, WORK};
+use page::Page;
 use pairs::Spot;
 use shift::{Admission, Ending, State, Why};
 use std::io::{Error, ErrorKind, Read};
@@ -33,8 +34,9 @@ enum Stop {
 fn progress(rt: &impl Outside, before: u32, after: u32) {
     if before / STRIDE < after / STRIDE {
         let mut text = io::buffer();
-        let n = clerk::shifts::progress(&mut text, after / STRIDE * STRIDE);
-        output::tell(rt, &text[..n]);
+        let mut page = Page::on(&mut text);
+        clerk::shifts::progress(&mut page, after / STRIDE * STRIDE);
+        output::tell(rt, page.text());
     }
 }
 

@@ -13,7 +13,7 @@ use desk::{Outside, input, output, rooms};
 use grumpy::answers::Checked;
 use language::{TABLE, WORK};
 use wording::ends;
-use wording::limits::{Limits, Most, unlimited};
+use wording::limits::{Limits, unlimited};
 
 // What check answers of a stored sheet.
 fn examine(edition: u32, stored: &[u8]) -> Checked<usize>
@@ -76,7 +76,7 @@ impl<R: Outside> Job<'_, R> {
             &mut out,
             allowance,
         );
-        let most = Most::Unknown;
+        let most = None;
         let limits = Limits { allowance, most };
         let end = whole::of_run(answer);
         let printed = input::within(ends::printed(end), &out);

@@ -27,8 +27,7 @@ pub fn number(why: Cause) -> u32
     ensures { result ≡ cause_number why }
 {
     match why {
-        Cause::Refused(refusal) => numbers::of_refusal(refusal),
-        Cause::Called(refusal) => numbers::of_refusal(refusal),
+        Cause::Refused(refusal) | Cause::Called(refusal) => numbers::of_refusal(refusal),
         Cause::Stopped(stop) => numbers::of_stop(stop),
         Cause::Complete => numbers::of_refusal(Refusal::NoReading),
         Cause::NoWage(_) => 0,
@@ -41,19 +40,19 @@ fn has_place(refusal: Refusal) -> bool
     ensures { result ≡ refusal_placed refusal }
 {
     match refusal {
-        Refusal::ShortMemory => false,
-        Refusal::LargeAllowance => false,
-        Refusal::NoEdition => false,
-        Refusal::LongSource => false,
-        Refusal::Text(_) => true,
-        Refusal::NoReading => true,
-        Refusal::Types(_) => true,
-        Refusal::LongText => false,
-        Refusal::NotHexadecimal => true,
-        Refusal::WrongCount => true,
-        Refusal::NotOneToken => true,
-        Refusal::EndlessNode => true,
-        Refusal::ManyUnits => false,
+        Refusal::Text(_)
+        | Refusal::NoReading
+        | Refusal::Types(_)
+        | Refusal::NotHexadecimal
+        | Refusal::WrongCount
+        | Refusal::NotOneToken
+        | Refusal::EndlessNode => true,
+        Refusal::ShortMemory
+        | Refusal::LargeAllowance
+        | Refusal::NoEdition
+        | Refusal::LongSource
+        | Refusal::LongText
+        | Refusal::ManyUnits => false,
     }
 }
 
@@ -63,11 +62,8 @@ pub fn is_placed(why: Cause) -> bool
 {
     match why {
         Cause::Refused(refusal) => has_place(refusal),
-        Cause::Called(_) => false,
         Cause::Stopped(_) => true,
-        Cause::Complete => false,
-        Cause::NoWage(_) => false,
-        Cause::NoBook => false,
-        Cause::ManyLines => false,
+        Cause::Called(_) | Cause::Complete | Cause::NoWage(_) | Cause::NoBook | Cause::ManyLines =>
+            { false }
     }
 }

@@ -44,22 +44,8 @@ pub fn status(end: End) -> u32
     ensures { result ≡ status_of end }
 {
     match end {
-        End::Passed(_) => 0,
-        End::Counted(_, _) => 0,
-        End::Value {
-            type_number: _,
-            value: _,
-            units: _,
-            printed: _,
-        } => 0,
-        End::Refused(_, _) => 1,
-        End::Stopped {
-            why: _,
-            place: _,
-            type_number: _,
-            units: _,
-            printed: _,
-        } => 1,
+        End::Passed(_) | End::Counted(_, _) | End::Value { .. } => 0,
+        End::Refused(_, _) | End::Stopped { .. } => 1,
     }
 }
 
@@ -67,7 +53,7 @@ pub fn status(end: End) -> u32
 pub fn shift_status(over: bool) -> u32
     ensures { result ≡ told_status over }
 {
-    if over { 1 } else { 0 }
+    u32::from(over)
 }
 
 // How many bytes the sheet printed.
@@ -75,21 +61,7 @@ pub fn printed(end: End) -> usize
     ensures { result ≡ printed_of end }
 {
     match end {
-        End::Passed(_) => 0,
-        End::Counted(_, _) => 0,
-        End::Value {
-            type_number: _,
-            value: _,
-            units: _,
-            printed,
-        } => printed,
-        End::Refused(_, _) => 0,
-        End::Stopped {
-            why: _,
-            place: _,
-            type_number: _,
-            units: _,
-            printed,
-        } => printed,
+        End::Value { printed, .. } | End::Stopped { printed, .. } => printed,
+        End::Passed(_) | End::Counted(_, _) | End::Refused(_, _) => 0,
     }
 }

@@ -1,6 +1,5 @@
 // What slip says of itself: how it is asked, in short and at length, and the sizes that it keeps to.
-ghost use Rattle.io.specs.Counts.{IsPrefixLen};
-ghost use Rattle.page.specs.Text.{Adds};
+ghost use Rattle.page.specs.Text.{Writes};
 ghost use Rattle.wording.specs.Help.{command_lines, option_lines, other_lines, help_text, usage_text};
 ghost use Rattle.wording.specs.Help.{sheet_sizes, run_sizes, version_text};
 
@@ -8,15 +7,12 @@ use crate::fields::field;
 use language::{
     ACTIVE, ALLOWANCE, CELLS, FUNCTIONS, PARAMETERS, REFS, SOURCE, TABLE, TOKENS, WORK,
 };
-use page::put;
+use page::Page;
 
-fn commands(out: &mut [u8], at: usize) -> usize
-    ensures prefix_len { IsPrefixLen result out.new }
-    ensures adds { Adds command_lines out.old out.new at result }
+fn commands(page: &mut Page)
+    ensures { Writes command_lines page.old page.new }
 {
-    put(
-        out,
-        at,
+    page.put(
         b"slip RATE-SHEET PICKS RATE         sets pay(PICKS,RATE) under the sheet and runs it
 slip check RATE-SHEET              checks a rate sheet, with a call under it, and runs nothing
 slip check --whole SHEET           checks a whole sheet as it stands
@@ -36,13 +32,10 @@ slip --version                     editions and sizes
     )
 }
 
-fn options(out: &mut [u8], at: usize) -> usize
-    ensures prefix_len { IsPrefixLen result out.new }
-    ensures adds { Adds option_lines out.old out.new at result }
+fn options(page: &mut Page)
+    ensures { Writes option_lines page.old page.new }
 {
-    put(
-        out,
-        at,
+    page.put(
         b"
 --edition NUMBER                   the edition of the language that the sheet is written in, 1 or 2; 1 without it
 --report FILE                      writes the report for machines too, a name and a value on each line
@@ -51,13 +44,10 @@ fn options(out: &mut [u8], at: usize) -> usize
     )
 }
 
-fn others(out: &mut [u8], at: usize) -> usize
-    ensures prefix_len { IsPrefixLen result out.new }
-    ensures adds { Adds other_lines out.old out.new at result }
+fn others(page: &mut Page)
+    ensures { Writes other_lines page.old page.new }
 {
-    put(
-        out,
-        at,
+    page.put(
         b"
 A sheet is a file; - is standard input. PICKS and RATE are 0 to 2147483647, ALLOWANCE is 0 to 1000000.
 A stored sheet may have 131071 bytes; its places are told as lines, counted from 1.
@@ -72,64 +62,57 @@ the words do not serve, or a file cannot be read or an output written.
 }
 
 // What `--help` is answered.
-pub fn help(out: &mut [u8], at: usize) -> usize
-    ensures prefix_len { IsPrefixLen result out.new }
-    ensures adds { Adds help_text out.old out.new at result }
+pub fn help(page: &mut Page)
+    ensures { Writes help_text page.old page.new }
 {
-    let a = commands(out, at);
-    let b = options(out, a);
-    others(out, b)
+    commands(page);
+    options(page);
+    others(page);
 }
 
 // What is said where the words do not serve.
-pub fn usage(out: &mut [u8], at: usize) -> usize
-    ensures prefix_len { IsPrefixLen result out.new }
-    ensures adds { Adds usage_text out.old out.new at result }
+pub fn usage(page: &mut Page)
+    ensures { Writes usage_text page.old page.new }
 {
-    put(
-        out,
-        at,
+    page.put(
         b"use: slip RATE-SHEET PICKS RATE, slip check [--whole] SHEET, slip profile [--whole] SHEET,
      slip run SHEET [ALLOWANCE], slip write SHEET, slip store SHEET, slip check-stored FILE,
      slip run-stored FILE [ALLOWANCE], slip shift BOOK LINES [ALLOWANCE], slip shift --combine REPORT ..
 ",
-    )
+    );
 }
 
 // How many bytes a sheet may print.
 const OUTPUT: u64 = 65536;
 
 // Sizes of a sheet.
-fn sheet_sizes(out: &mut [u8], at: usize) -> usize
-    ensures prefix_len { IsPrefixLen result out.new }
-    ensures adds { Adds sheet_sizes out.old out.new at result }
+fn sheet_sizes(page: &mut Page)
+    ensures { Writes sheet_sizes page.old page.new }
 {
-    let a = field(out, at, b"source", SOURCE as u64);
-    let b = field(out, a, b"tokens", TOKENS as u64);
-    let c = field(out, b, b"functions", FUNCTIONS as u64);
-    let d = field(out, c, b"parameters", PARAMETERS as u64);
-    field(out, d, b"refs", REFS as u64)
+    field(page, b"source", SOURCE as u64);
+    field(page, b"tokens", TOKENS as u64);
+    field(page, b"functions", FUNCTIONS as u64);
+    field(page, b"parameters", PARAMETERS as u64);
+    field(page, b"refs", REFS as u64);
 }
 
 // Sizes of a run.
-fn run_sizes(out: &mut [u8], at: usize) -> usize
-    ensures prefix_len { IsPrefixLen result out.new }
-    ensures adds { Adds run_sizes out.old out.new at result }
+fn run_sizes(page: &mut Page)
+    ensures { Writes run_sizes page.old page.new }
 {
-    let a = field(out, at, b"allowance", ALLOWANCE);
-    let b = field(out, a, b"active", ACTIVE as u64);
-    let c = field(out, b, b"cells", CELLS as u64);
-    let d = field(out, c, b"table", TABLE as u64);
-    let e = field(out, d, b"work", WORK as u64);
-    field(out, e, b"output", OUTPUT)
+    field(page, b"allowance", ALLOWANCE);
+    field(page, b"active", ACTIVE as u64);
+    field(page, b"cells", CELLS as u64);
+    field(page, b"table", TABLE as u64);
+    field(page, b"work", WORK as u64);
+    field(page, b"output", OUTPUT);
 }
 
 // What `--version` is answered.
-pub fn version(out: &mut [u8], at: usize) -> usize
-    ensures prefix_len { IsPrefixLen result out.new }
-    ensures adds { Adds version_text out.old out.new at result }
+pub fn version(page: &mut Page)
+    ensures { Writes version_text page.old page.new }
 {
-    let a = put(out, at, b"slip of Undovilaza\neditions 1 2\n");
-    let b = sheet_sizes(out, a);
-    run_sizes(out, b)
+    page.put(b"slip of Undovilaza\neditions 1 2\n");
+    sheet_sizes(page);
+    run_sizes(page);
 }

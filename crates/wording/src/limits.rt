@@ -2,18 +2,11 @@
 ghost use Rattle.std.specs.Prelude.{◌≡◌};
 ghost use Rattle.wording.specs.Limits.{no_limits};
 
-// It is not known of a sheet that does not pass the profile.
-#[derive(Clone, Copy)]
-pub enum Most {
-    Unknown,
-    Units(u32),
-}
-
-// What a run may use, and what it can use.
+// What a run may use, and what it can use: that is not known of a sheet that does not pass the profile.
 #[derive(Clone, Copy)]
 pub struct Limits {
     pub allowance: u64,
-    pub most: Most,
+    pub most: Option<u32>,
 }
 
 // Where nothing is run.
@@ -22,6 +15,6 @@ pub fn unlimited() -> Limits
 {
     Limits {
         allowance: 0,
-        most: Most::Unknown,
+        most: None,
     }
 }

@@ -1,122 +1,93 @@
 // Types in words, by their numbers, and values.
-ghost use Rattle.std.specs.Prelude.{◌/◌, min, length, take};
-ghost use Rattle.io.specs.Counts.{IsPrefixLen};
+ghost use Rattle.std.specs.Prelude.{◌≡◌, ◌/◌, min};
 ghost use Rattle.layout.specs.Values.{meant};
-ghost use Rattle.page.specs.Text.{Adds};
+ghost use Rattle.page.specs.Text.{Writes};
 ghost use Rattle.wording.specs.Types.{base_words, ref_words, type_words};
 ghost use Rattle.wording.specs.Values.{signed_words, truth_words, cell_words, value_words, bits_line, bits_words};
 
 use layout::floats;
 use layout::values::Value;
-use page::{decimal, least, magnitude, put};
-
-// The first bytes of a text.
-fn part(out: &mut [u8], at: usize, text: &[u8], bytes: usize) -> usize
-    ensures prefix_len { IsPrefixLen result out.new }
-    ensures adds { Adds (take (min bytes (length text.now)) text.now) out.old out.new
-        at result }
-{
-    let n = least(bytes, text.len());
-    put(out, at, &text[..n])
-}
+use page::Page;
 
 // As many `ref` as the type has, which are 15 at most.
-fn refs(out: &mut [u8], at: usize, type_number: u32) -> usize
-    ensures prefix_len { IsPrefixLen result out.new }
-    ensures adds { Adds (ref_words (min (type_number / 8) 15)) out.old out.new at result }
+fn refs(page: &mut Page, type_number: u32)
+    ensures { Writes (ref_words (min (type_number / 8) 15)) page.old page.new }
 {
-    part(
-        out,
-        at,
-        b" ref ref ref ref ref ref ref ref ref ref ref ref ref ref ref",
-        type_number as usize / 8 * 4,
-    )
+    let all = b" ref ref ref ref ref ref ref ref ref ref ref ref ref ref ref";
+    let n = (type_number as usize / 8 * 4).min(all.len());
+    page.put(&all[..n]);
 }
 
-fn base(out: &mut [u8], at: usize, number: u32) -> usize
-    ensures prefix_len { IsPrefixLen result out.new }
-    ensures adds { Adds (base_words number) out.old out.new at result }
+#[tactic(auto, unfolding(crate::specs::Types::base_words))]
+fn base(number: u32) -> &'static [u8]
+    ensures { result.now ≡ base_words number }
 {
     match number {
-        1 => put(out, at, b"int"),
-        2 => put(out, at, b"bool"),
-        4 => put(out, at, b"float"),
-        _ => put(out, at, b"unit"),
+        1 => b"int",
+        2 => b"bool",
+        4 => b"float",
+        _ => b"unit",
     }
 }
 
 // A type's name.
-pub fn name(out: &mut [u8], at: usize, type_number: u32) -> usize
-    ensures prefix_len { IsPrefixLen result out.new }
-    ensures adds { Adds (type_words type_number) out.old out.new at result }
+pub fn name(page: &mut Page, type_number: u32)
+    ensures { Writes (type_words type_number) page.old page.new }
 {
-    let a = base(out, at, type_number % 8);
-    refs(out, a, type_number)
+    page.put(base(type_number % 8));
+    refs(page, type_number);
 }
 
-pub fn signed(out: &mut [u8], at: usize, n: i64) -> usize
-    ensures prefix_len { IsPrefixLen result out.new }
-    ensures adds { Adds (signed_words n) out.old out.new at result }
+pub fn signed(page: &mut Page, n: i64)
+    ensures { Writes (signed_words n) page.old page.new }
 {
-    let far = magnitude(n);
     if n < 0 {
-        let a = put(out, at, b"-");
-        return decimal(out, a, far);
+        page.put(b"-");
     }
-    decimal(out, at, far)
+    page.decimal(n.unsigned_abs());
 }
 
-fn truth(out: &mut [u8], at: usize, b: bool) -> usize
-    ensures prefix_len { IsPrefixLen result out.new }
-    ensures adds { Adds (truth_words b) out.old out.new at result }
+#[tactic(auto, unfolding(crate::specs::Values::truth_words))]
+fn truth(b: bool) -> &'static [u8]
+    ensures { result.now ≡ truth_words b }
 {
-    if b {
-        return put(out, at, b"true");
-    }
-    put(out, at, b"false")
+    if b { b"true" } else { b"false" }
 }
 
-fn cell(out: &mut [u8], at: usize, birth: u32) -> usize
-    ensures prefix_len { IsPrefixLen result out.new }
-    ensures adds { Adds (cell_words birth) out.old out.new at result }
+fn cell(page: &mut Page, birth: u32)
+    ensures { Writes (cell_words birth) page.old page.new }
 {
-    let a = put(out, at, b"cell ");
-    decimal(out, a, birth as u64)
+    page.put(b"cell ");
+    page.decimal(birth as u64);
 }
 
 // A value.
-pub fn value(out: &mut [u8], at: usize, value: Value) -> usize
-    ensures prefix_len { IsPrefixLen result out.new }
-    ensures adds { Adds (value_words (meant value)) out.old out.new at result }
+#[tactic(auto, unfolding(crate::specs::Values::value_words))]
+pub fn value(page: &mut Page, value: Value)
+    ensures { Writes (value_words (meant value)) page.old page.new }
 {
     match value {
-        Value::Int(n) => signed(out, at, n as i64),
-        Value::Float(x) => page::float(out, at, floats::bits(x)),
-        Value::Flag(b) => truth(out, at, b),
-        Value::Nothing => put(out, at, b"tt"),
-        Value::Cell(birth) => cell(out, at, birth),
+        Value::Int(n) => signed(page, n as i64),
+        Value::Float(x) => page.float(floats::bits(x)),
+        Value::Flag(b) => page.put(truth(b)),
+        Value::Nothing => page.put(b"tt"),
+        Value::Cell(birth) => cell(page, birth),
     }
 }
 
-fn bits_line(out: &mut [u8], at: usize, bits: u64) -> usize
-    ensures prefix_len { IsPrefixLen result out.new }
-    ensures adds { Adds (bits_line bits) out.old out.new at result }
+fn bits_line(page: &mut Page, bits: u64)
+    ensures { Writes (bits_line bits) page.old page.new }
 {
-    let a = put(out, at, b"bits ");
-    let b = page::bits(out, a, bits);
-    put(out, b, b"\n")
+    page.put(b"bits ");
+    page.bits(bits);
+    page.put(b"\n");
 }
 
 // Of a float its bits, too.
-pub fn bits(out: &mut [u8], at: usize, value: Value) -> usize
-    ensures prefix_len { IsPrefixLen result out.new }
-    ensures adds { Adds (bits_words (meant value)) out.old out.new at result }
+pub fn bits(page: &mut Page, value: Value)
+    ensures { Writes (bits_words (meant value)) page.old page.new }
 {
-    match value {
-        Value::Float(x) => bits_line(out, at, floats::bits(x)),
-        Value::Int(_) => put(out, at, b""),
-        Value::Flag(_) => put(out, at, b""),
-        Value::Nothing => put(out, at, b""),
-        Value::Cell(_) => put(out, at, b""),
+    if let Value::Float(x) = value {
+        bits_line(page, floats::bits(x));
     }
 }

@@ -1,9 +1,8 @@
 -- `counted` puts the parts one behind the other.
+use Rattle.page.proofs.Adding.{◌▸◌}
 use Rattle.clerk.specs.Reports.{counted_line}
-use Rattle.page.proofs.Adding.{both}
 use Rattle.clerk.proofs.people.counted.Goals as goal
 
-pub returns-clause-adds : goal.returns-clause-adds
+pub returns : goal.returns
 unfolding counted_line
-returns-clause-adds c =
-    both (both c.put-a.ensures.adds c.decimal-b.ensures.adds) c.put.ensures.adds
+returns c = c.put.ensures ▸ c.decimal.ensures ▸ c.put-2.ensures

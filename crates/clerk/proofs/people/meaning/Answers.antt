@@ -1,15 +1,16 @@
 -- `meaning` goes by whether there is a number.
 use Rattle.clerk.proofs.Saying.{unnumbered, numbered}
-use Rattle.page.proofs.Adding.{being, both}
+use Rattle.page.proofs.Adding.{being, onto, ◌▸◌}
+use Rattle.clerk.proofs.people.meaning.Goals.{then-number-ne0, else-number-ne0}
 use Rattle.clerk.proofs.people.meaning.Goals as goal
 
-pub returns-then-number-eq0-clause-adds : goal.returns-then-number-eq0-clause-adds
-returns-then-number-eq0-clause-adds c =
-    being (unnumbered _ c.number-number.ensures c.if-number-eq0.true) (both c.words-a.ensures.adds c.put.ensures.adds)
-
-pub returns-clause-adds : goal.returns-clause-adds
-returns-clause-adds c =
-    let to2 = both c.put-a.ensures.adds c.decimal-b.ensures.adds in
-    let to3 = both to2 c.put-c.ensures.adds in
-    let to4 = both to3 c.words-d.ensures.adds in
-    being (numbered _ c.number-number.ensures c.if-number-eq0.false) (both to4 c.put-2.ensures.adds)
+pub returns : goal.returns
+returns c =
+    let number = c.number-number.ensures in
+    elim c.if-number-ne0.branch [
+      | then-number-ne0 w ↦
+          being (numbered _ number w.if-number-ne0.true)
+          (w.put.ensures ▸ w.decimal.ensures ▸ w.put-then-number-ne0.ensures ▸ onto w.page-is c.words.ensures ▸ c.put-2.ensures)
+      | else-number-ne0 w ↦
+          being (unnumbered _ number w.if-number-ne0.false) (onto w.page-is c.words.ensures ▸ c.put-2.ensures)
+    ]

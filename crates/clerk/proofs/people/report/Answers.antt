@@ -1,40 +1,27 @@
 -- `report` goes by the end.
 use Rattle.clerk.specs.Reports.{report_text}
-use Rattle.page.proofs.Adding.{being, both}
-use mathlib.Core.Path.{sym, ap}
+use Rattle.page.proofs.Adding.{◌▸◌}
 use Rattle.clerk.proofs.people.report.Goals as goal
 
-pub returns-in-Passed-clause-adds : goal.returns-in-Passed-clause-adds
+pub returns-in-Passed : goal.returns-in-Passed
 unfolding report_text
-returns-in-Passed-clause-adds c =
-    let a = c.args in
-    being (ap (report_text a.file.now a.sheet.now a.places a.limits) (sym c.in-Passed.is))
-    (both c.well-a.ensures.adds c.type_line.ensures.adds)
+returns-in-Passed c = rw c.in-Passed.is (c.well.ensures ▸ c.type_line.ensures)
 
-pub returns-in-Counted-clause-adds : goal.returns-in-Counted-clause-adds
+pub returns-in-Counted : goal.returns-in-Counted
 unfolding report_text
-returns-in-Counted-clause-adds c =
-    let a = c.args in
-    being (ap (report_text a.file.now a.sheet.now a.places a.limits) (sym c.in-Counted.is))
-    (both (both c.well-a-in-Counted.ensures.adds c.type_line-b.ensures.adds) c.counted.ensures.adds)
+returns-in-Counted c = rw c.in-Counted.is (c.well-in-Counted.ensures ▸ c.type_line-in-Counted.ensures ▸ c.counted.ensures)
 
-pub returns-in-Value-clause-adds : goal.returns-in-Value-clause-adds
+pub returns-in-Value : goal.returns-in-Value
 unfolding report_text
-returns-in-Value-clause-adds c =
-    let a = c.args in
-    being (ap (report_text a.file.now a.sheet.now a.places a.limits) (sym c.in-Value.is))
-    (both (both (both c.well-a-in-Value.ensures.adds c.type_line-b-in-Value.ensures.adds) c.value_lines-c.ensures.adds) c.units.ensures.adds)
+returns-in-Value c =
+    rw c.in-Value.is
+    (c.well-in-Value.ensures ▸ c.type_line-in-Value.ensures ▸ c.value_lines.ensures ▸ c.units.ensures)
 
-pub returns-in-Refused-clause-adds : goal.returns-in-Refused-clause-adds
+pub returns-in-Refused : goal.returns-in-Refused
 unfolding report_text
-returns-in-Refused-clause-adds c =
-    let a = c.args in
-    being (ap (report_text a.file.now a.sheet.now a.places a.limits) (sym c.in-Refused.is))
-    c.cause.ensures.adds
+returns-in-Refused c = rw c.in-Refused.is c.cause.ensures
 
-pub returns-in-Stopped-clause-adds : goal.returns-in-Stopped-clause-adds
+pub returns-in-Stopped : goal.returns-in-Stopped
 unfolding report_text
-returns-in-Stopped-clause-adds c =
-    let a = c.args in
-    being (ap (report_text a.file.now a.sheet.now a.places a.limits) (sym c.in-Stopped.is))
-    (both (both c.cause-a.ensures.adds c.type_line-b-in-Stopped.ensures.adds) c.units-in-Stopped.ensures.adds)
+returns-in-Stopped c =
+    rw c.in-Stopped.is (c.cause-in-Stopped.ensures ▸ c.type_line-in-Stopped.ensures ▸ c.units-in-Stopped.ensures)

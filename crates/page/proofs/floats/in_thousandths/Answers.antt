@@ -2,7 +2,7 @@
 use mathlib.Core.List.{◌++◌}
 use mathlib.Core.Path.{◌≡◌}
 use Prim.Native.Nat.{ℕ, ◌-◌}
-use Rattle.page.proofs.Adding.{being, both}
+use Rattle.page.proofs.Adding.{being, ◌▸◌}
 use Rattle.page.specs.Floats as Floats
 use Rattle.page.specs.Floats.{about_text, sign_text, thousandths_text, decimal_text}
 use Rattle.page.proofs.floats.in_thousandths.Goals as goal
@@ -12,7 +12,7 @@ told : (b : ℕ) {q k n : ℕ} → q ≡ Floats.significand b → k ≡ Floats.s
 unfolding decimal_text
 told b a d e = rw (e, a, d)
 
-pub returns-clause-adds : goal.returns-clause-adds
-returns-clause-adds c =
+pub returns : goal.returns
+returns c =
     being (told c.args.bits c.significand-q.ensures.0 c.steps-s.ensures c.thousandths.ensures)
-    (both (both c.about-a.ensures.adds c.sign-b.ensures.adds) c.with_point.ensures.adds)
+    (c.about.ensures ▸ c.sign.ensures ▸ c.with_point.ensures)

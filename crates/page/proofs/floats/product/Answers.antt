@@ -3,7 +3,7 @@ use mathlib.Core.List.{◌++◌}
 use mathlib.Core.Path.{◌≡◌}
 use Prim.Native.Nat.{ℕ, ◌-◌}
 use Rattle.language.specs.Tokens.{spell}
-use Rattle.page.proofs.Adding.{being, both}
+use Rattle.page.proofs.Adding.{being, ◌▸◌}
 use Rattle.page.specs.Floats as Floats
 use Rattle.page.specs.Floats.{sign_text, product_text}
 use Rattle.page.specs.Text.{decimal_of}
@@ -14,7 +14,7 @@ told : (b : ℕ) {q k : ℕ} → q ≡ Floats.significand b → k ≡ Floats.ste
 unfolding product_text
 told b a d = rw (a, d)
 
-pub returns-clause-adds : goal.returns-clause-adds
-returns-clause-adds c =
+pub returns : goal.returns
+returns c =
     being (told c.args.bits c.significand-q.ensures.0 c.steps-k.ensures)
-    (both (both (both c.sign-a.ensures.adds c.decimal-b.ensures.adds) c.put-c.ensures.adds) c.decimal.ensures.adds)
+    (c.sign.ensures ▸ c.decimal.ensures ▸ c.put.ensures ▸ c.decimal-2.ensures)

@@ -1,9 +1,8 @@
--- `with_point` puts whole ones, a point and thousandths.
-use Rattle.page.proofs.Adding.{both}
+-- `with_point` puts whole ones, a point and digits.
+use Rattle.page.proofs.Adding.{◌▸◌}
 use Rattle.page.specs.Floats.{thousandths_text}
 use Rattle.page.proofs.floats.with_point.Goals as goal
 
-pub returns-clause-adds : goal.returns-clause-adds
+pub returns : goal.returns
 unfolding thousandths_text
-returns-clause-adds c =
-    both (both c.decimal-a.ensures.adds c.put-b.ensures.adds) c.last_three.ensures.adds
+returns c = c.decimal.ensures ▸ c.put.ensures ▸ c.padded.ensures

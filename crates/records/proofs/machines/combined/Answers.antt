@@ -1,9 +1,8 @@
 -- `combined` puts the parts one behind the other.
+use Rattle.page.proofs.Adding.{◌▸◌}
 use Rattle.records.specs.Machines.{combined_lines}
-use Rattle.page.proofs.Adding.{both}
 use Rattle.records.proofs.machines.combined.Goals as goal
 
-pub returns-clause-adds : goal.returns-clause-adds
+pub returns : goal.returns
 unfolding combined_lines
-returns-clause-adds c =
-    both (both (both c.field-a.ensures.adds c.together-b.ensures.adds) c.counts-c.ensures.adds) c.amounts.ensures.adds
+returns c = c.field.ensures ▸ c.together.ensures ▸ c.counts.ensures ▸ c.amounts.ensures

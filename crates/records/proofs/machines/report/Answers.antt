@@ -1,9 +1,8 @@
 -- `report` puts the parts one behind the other.
-use Rattle.page.proofs.Adding.{both}
+use Rattle.page.proofs.Adding.{◌▸◌}
 use Rattle.records.specs.Told.{report_lines}
 use Rattle.records.proofs.machines.report.Goals as goal
 
-pub returns-clause-adds : goal.returns-clause-adds
+pub returns : goal.returns
 unfolding report_lines
-returns-clause-adds c =
-    both (both c.field-a.ensures.adds c.sheet-b.ensures.adds) c.ended.ensures.adds
+returns c = c.field.ensures ▸ c.sheet.ensures ▸ c.ended.ensures

@@ -1,17 +1,17 @@
 -- `cause` goes by whether there is a place.
-use Rattle.page.proofs.Adding.{being, both}
+use Rattle.page.proofs.Adding.{being, nothing, ◌▸◌}
 use Rattle.records.proofs.Saying.{placed_is, unplaced_is}
 use mathlib.Core.Path.{sym, ◌∙◌}
 use Rattle.records.proofs.told.cause.Goals as goal
 
-pub returns-then-is_placed-clause-adds : goal.returns-then-is_placed-clause-adds
-returns-then-is_placed-clause-adds c =
+pub returns-then-is_placed : goal.returns-then-is_placed
+returns-then-is_placed c =
     let a = c.args in
     being (placed_is _ a.places a.why a.place (sym c.is_placed.ensures ∙ c.if-is_placed.true))
-    (both c.meaning-a.ensures.adds c.placed.ensures.adds)
+    (c.meaning.ensures ▸ c.placed.ensures)
 
-pub returns-clause-adds : goal.returns-clause-adds
-returns-clause-adds c =
+pub returns-else-is_placed : goal.returns-else-is_placed
+returns-else-is_placed c =
     let a = c.args in
     being (unplaced_is _ a.places a.why a.place (sym c.is_placed.ensures ∙ c.if-is_placed.false))
-    (both c.meaning-a.ensures.adds c.put.ensures.adds)
+    (c.meaning.ensures ▸ nothing)

@@ -1,40 +1,27 @@
 -- `ended` goes by the end.
-use Rattle.page.proofs.Adding.{being, both}
+use Rattle.page.proofs.Adding.{◌▸◌}
 use Rattle.records.specs.Told.{end_lines}
-use mathlib.Core.Path.{sym, ap}
 use Rattle.records.proofs.told.ended.Goals as goal
 
-pub returns-in-Passed-clause-adds : goal.returns-in-Passed-clause-adds
+pub returns-in-Passed : goal.returns-in-Passed
 unfolding end_lines
-returns-in-Passed-clause-adds c =
-    let a = c.args in
-    being (ap (end_lines a.source.now a.places a.limits) (sym c.in-Passed.is))
-    (both c.well-c.ensures.adds c.type_line.ensures.adds)
+returns-in-Passed c = rw c.in-Passed.is (c.well.ensures ▸ c.type_line.ensures)
 
-pub returns-in-Counted-clause-adds : goal.returns-in-Counted-clause-adds
+pub returns-in-Counted : goal.returns-in-Counted
 unfolding end_lines
-returns-in-Counted-clause-adds c =
-    let a = c.args in
-    being (ap (end_lines a.source.now a.places a.limits) (sym c.in-Counted.is))
-    (both (both c.well-c-in-Counted.ensures.adds c.type_line-d.ensures.adds) c.field.ensures.adds)
+returns-in-Counted c = rw c.in-Counted.is (c.well-in-Counted.ensures ▸ c.type_line-in-Counted.ensures ▸ c.field.ensures)
 
-pub returns-in-Value-clause-adds : goal.returns-in-Value-clause-adds
+pub returns-in-Value : goal.returns-in-Value
 unfolding end_lines
-returns-in-Value-clause-adds c =
-    let a = c.args in
-    being (ap (end_lines a.source.now a.places a.limits) (sym c.in-Value.is))
-    (both (both (both c.well-c-in-Value.ensures.adds c.type_line-d-in-Value.ensures.adds) c.value_lines-e.ensures.adds) c.ran.ensures.adds)
+returns-in-Value c =
+    rw c.in-Value.is
+    (c.well-in-Value.ensures ▸ c.type_line-in-Value.ensures ▸ c.value_lines.ensures ▸ c.ran.ensures)
 
-pub returns-in-Refused-clause-adds : goal.returns-in-Refused-clause-adds
+pub returns-in-Refused : goal.returns-in-Refused
 unfolding end_lines
-returns-in-Refused-clause-adds c =
-    let a = c.args in
-    being (ap (end_lines a.source.now a.places a.limits) (sym c.in-Refused.is))
-    c.cause.ensures.adds
+returns-in-Refused c = rw c.in-Refused.is c.cause.ensures
 
-pub returns-in-Stopped-clause-adds : goal.returns-in-Stopped-clause-adds
+pub returns-in-Stopped : goal.returns-in-Stopped
 unfolding end_lines
-returns-in-Stopped-clause-adds c =
-    let a = c.args in
-    being (ap (end_lines a.source.now a.places a.limits) (sym c.in-Stopped.is))
-    (both (both c.cause-c.ensures.adds c.type_line-d-in-Stopped.ensures.adds) c.ran-in-Stopped.ensures.adds)
+returns-in-Stopped c =
+    rw c.in-Stopped.is (c.cause-in-Stopped.ensures ▸ c.type_line-in-Stopped.ensures ▸ c.ran-in-Stopped.ensures)

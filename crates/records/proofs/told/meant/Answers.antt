@@ -1,9 +1,8 @@
 -- `meant` puts the parts one behind the other.
-use Rattle.page.proofs.Adding.{both}
+use Rattle.page.proofs.Adding.{◌▸◌}
 use Rattle.records.specs.Told.{meant_line}
 use Rattle.records.proofs.told.meant.Goals as goal
 
-pub returns-clause-adds : goal.returns-clause-adds
+pub returns : goal.returns
 unfolding meant_line
-returns-clause-adds c =
-    both (both c.put-a.ensures.adds c.words-b.ensures.adds) c.put.ensures.adds
+returns c = c.put.ensures ▸ c.words.ensures ▸ c.put-2.ensures

@@ -1,9 +1,8 @@
 -- `sheet` puts the parts one behind the other.
+use Rattle.page.proofs.Adding.{◌▸◌}
 use Rattle.records.specs.Told.{sheet_line}
-use Rattle.page.proofs.Adding.{both}
 use Rattle.records.proofs.told.sheet.Goals as goal
 
-pub returns-clause-adds : goal.returns-clause-adds
+pub returns : goal.returns
 unfolding sheet_line
-returns-clause-adds c =
-    both (both c.put-a.ensures.adds c.name-b.ensures.adds) c.put.ensures.adds
+returns c = c.put.ensures ▸ c.name.ensures ▸ c.put-2.ensures

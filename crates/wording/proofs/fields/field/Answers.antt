@@ -1,9 +1,8 @@
 -- `field` puts the parts one behind the other.
+use Rattle.page.proofs.Adding.{◌▸◌}
 use Rattle.wording.specs.Fields.{number_line}
-use Rattle.page.proofs.Adding.{both}
 use Rattle.wording.proofs.fields.field.Goals as goal
 
-pub returns-clause-adds : goal.returns-clause-adds
+pub returns : goal.returns
 unfolding number_line
-returns-clause-adds c =
-    both (both (both c.put-a.ensures.adds c.put-b.ensures.adds) c.decimal-c.ensures.adds) c.put.ensures.adds
+returns c = c.put.ensures ▸ c.put-2.ensures ▸ c.decimal.ensures ▸ c.put-3.ensures

@@ -3,7 +3,7 @@ use mathlib.Core.Path.{sym}
 use Rattle.wording.specs.Fields.{name_words}
 use Rattle.wording.proofs.fields.name.Goals as goal
 
-pub returns-clause-adds : goal.returns-clause-adds
+pub returns : goal.returns
 unfolding name_words
-returns-clause-adds c =
-    rw (sym c.readable-plain.ensures) c.shown.ensures.adds
+returns c =
+    rw (sym c.readable-plain.ensures) c.shown.ensures

@@ -1,9 +1,8 @@
 -- `help` puts the parts one behind the other.
-use Rattle.page.proofs.Adding.{both}
+use Rattle.page.proofs.Adding.{◌▸◌}
 use Rattle.wording.specs.Help.{help_text}
 use Rattle.wording.proofs.help.help.Goals as goal
 
-pub returns-clause-adds : goal.returns-clause-adds
+pub returns : goal.returns
 unfolding help_text
-returns-clause-adds c =
-    both (both c.commands-a.ensures.adds c.options-b.ensures.adds) c.others.ensures.adds
+returns c = c.commands.ensures ▸ c.options.ensures ▸ c.others.ensures

@@ -2,7 +2,7 @@
 use Rattle.wording.specs.Help.{option_lines, all_lines}
 use Rattle.wording.proofs.help.options.Goals as goal
 
-pub returns-clause-adds : goal.returns-clause-adds
+pub returns : goal.returns
 unfolding option_lines all_lines
-returns-clause-adds c =
-    c.put.ensures.adds
+returns c =
+    c.put.ensures

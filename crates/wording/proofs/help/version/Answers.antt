@@ -1,9 +1,8 @@
 -- `version` puts the parts one behind the other.
-use Rattle.page.proofs.Adding.{both}
+use Rattle.page.proofs.Adding.{◌▸◌}
 use Rattle.wording.specs.Help.{version_text}
 use Rattle.wording.proofs.help.version.Goals as goal
 
-pub returns-clause-adds : goal.returns-clause-adds
+pub returns : goal.returns
 unfolding version_text
-returns-clause-adds c =
-    both (both c.put-a.ensures.adds c.sheet_sizes-b.ensures.adds) c.run_sizes.ensures.adds
+returns c = c.put.ensures ▸ c.sheet_sizes.ensures ▸ c.run_sizes.ensures

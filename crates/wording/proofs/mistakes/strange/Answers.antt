@@ -1,9 +1,8 @@
 -- `strange` puts the parts one behind the other.
-use Rattle.page.proofs.Adding.{both}
+use Rattle.page.proofs.Adding.{◌▸◌}
 use Rattle.wording.specs.Mistakes.{strange_text}
 use Rattle.wording.proofs.mistakes.strange.Goals as goal
 
-pub returns-clause-adds : goal.returns-clause-adds
+pub returns : goal.returns
 unfolding strange_text
-returns-clause-adds c =
-    both (both c.put-a.ensures.adds c.name-b.ensures.adds) c.put.ensures.adds
+returns c = c.put.ensures ▸ c.name.ensures ▸ c.put-2.ensures

@@ -1,9 +1,8 @@
--- `name` puts the parts one behind the other.
-use Rattle.page.proofs.Adding.{both}
+-- `name` puts what the type is of, and its `ref`s.
+use Rattle.page.proofs.Adding.{being, ◌▸◌}
 use Rattle.wording.specs.Types.{type_words}
 use Rattle.wording.proofs.types.name.Goals as goal
 
-pub returns-clause-adds : goal.returns-clause-adds
+pub returns : goal.returns
 unfolding type_words
-returns-clause-adds c =
-    both c.base-a.ensures.adds c.refs.ensures.adds
+returns c = being c.base.ensures c.put.ensures ▸ c.refs.ensures

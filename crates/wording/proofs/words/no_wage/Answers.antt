@@ -1,9 +1,8 @@
 -- `no_wage` puts the parts one behind the other.
-use Rattle.page.proofs.Adding.{both}
+use Rattle.page.proofs.Adding.{◌▸◌}
 use Rattle.wording.specs.Words.{wage_words}
 use Rattle.wording.proofs.words.no_wage.Goals as goal
 
-pub returns-clause-adds : goal.returns-clause-adds
+pub returns : goal.returns
 unfolding wage_words
-returns-clause-adds c =
-    both (both c.put-a.ensures.adds c.name-b.ensures.adds) c.put.ensures.adds
+returns c = c.put.ensures ▸ c.name.ensures ▸ c.put-2.ensures

@@ -1,8 +1,0 @@
--- `decimal` puts the digits that `io` finds.
-use Rattle.page.proofs.Adding.{being}
-use Rattle.page.proofs.Decimals.{decimals}
-use Rattle.page.proofs.text.decimal.Goals as goal
-
-pub returns-clause-adds : goal.returns-clause-adds
-returns-clause-adds c =
-    being (decimals c.decimal-k.ensures.len c.decimal-k.ensures.digits) c.put.ensures.adds

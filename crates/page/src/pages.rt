@@ -1,0 +1,38 @@
+// Lent bytes that text is put into, part behind part. Where they have no more room the text is cut.
+ghost use Rattle.std.specs.Prelude.{◌≡◌, ◌≤◌, length, take};
+
+// The bytes, and how many of them are text.
+#[derive(Drop)]
+pub struct Page<'a> {
+    out: &'a mut [u8],
+    at: usize,
+    ghost within: { at ≤ length out.now },
+}
+
+impl<'a> Page<'a> {
+    ghost use Rattle.page.specs.Text.{Begins, Writes};
+
+    // A page with nothing on it.
+    pub fn on(out: &'a mut [u8]) -> Page<'a>
+        ensures { Begins out.entry result }
+    {
+        Page { out, at: 0 }
+    }
+
+    // Puts a part behind what is there.
+    pub fn put(&mut self, part: &[u8])
+        ensures { Writes part.now self.old self.new }
+    {
+        let n = part.len().min(self.out.len() - self.at);
+        let end = self.at + n;
+        self.out[self.at..end].copy_from_slice(&part[..n]);
+        self.at = end;
+    }
+
+    // What was put so far.
+    pub fn text(&self) -> &[u8]
+        ensures { result.now ≡ take self.now.at self.now.out.now }
+    {
+        &self.out[..self.at]
+    }
+}

@@ -1,9 +1,0 @@
--- `second_stops` puts the parts one behind the other.
-use Rattle.records.specs.Machines.{second_lines}
-use Rattle.page.proofs.Adding.{both}
-use Rattle.records.proofs.machines.second_stops.Goals as goal
-
-pub returns-clause-adds : goal.returns-clause-adds
-unfolding second_lines
-returns-clause-adds c =
-    both (both c.stop-a.ensures.adds c.stop-b.ensures.adds) c.stop.ensures.adds
