@@ -5,7 +5,6 @@ pub mod Feeds
 pub mod FloatsTold
 pub mod FloatTexts
 pub mod Letters
-pub mod Negative
 pub mod Returns
 pub mod Seen
 pub mod Spelling

@@ -1,9 +1,8 @@
 // What the program around the box does with bytes: it reads a number among its arguments, finds the line and the
-// column of a place, puts text behind text so that it can be seen, writes a float or pence for who reads it, takes a
-// number's sign off, and reads a value that has a name on its line.
+// column of a place, puts text behind text so that it can be seen, writes a float or pence for who reads it, and reads a value that has a name on its line.
 #![tactic(auto)]
 
-ghost use Rattle.std.specs.Prelude.{◌≡◌, min, nat_abs, length};
+ghost use Rattle.std.specs.Prelude.{min, length};
 ghost use Rattle.page.specs.Lines.{Spotted};
 
 mod amounts;
@@ -24,18 +23,11 @@ pub use fields::{amount, count};
 pub use lines::trimmed;
 pub use pages::Page;
 
-// The lesser of the two.
-pub fn least(a: usize, b: usize) -> usize
-    ensures { result ≡ min a b }
-{
-    if a < b { a } else { b }
-}
-
 // Where a place lies. One past the end counts as the end.
 pub fn spot(source: &[u8], place: usize) -> Spot
     ensures { Spotted source.now (min place (length source.now)) result }
 {
-    let here = least(place, source.len());
+    let here = place.min(source.len());
     let before = feeds_before(source, here);
     let from = line_start(source, here);
     let to = line_end(source, here);
@@ -48,16 +40,5 @@ pub fn spot(source: &[u8], place: usize) -> Spot
         here,
         to,
         plain,
-    }
-}
-
-// How far a number is from 0.
-pub fn magnitude(value: i64) -> u64
-    ensures { result ≡ nat_abs value }
-{
-    if value < 0 {
-        (-(value + 1)) as u64 + 1
-    } else {
-        value as u64
     }
 }
