@@ -3,13 +3,13 @@ ghost use Rattle.std.specs.Prelude.{false, ◌≡◌, ◌≤◌, ◌↔◌, leng
 ghost use Rattle.std.specs.Str.{IsUtf8};
 ghost use Rattle.std.specs.Io.{ReadsAtMost};
 ghost use Rattle.language.specs.Sizes.{ALLOWANCE, LARGEST};
-ghost use Rattle.desk.specs.Numbers.{UpTo, number_in};
+ghost use Rattle.desk.specs.Numbers.{UpTo};
 
 use crate::arguments::{fits, word};
 use crate::output;
 use orders::asked::Asked;
 use orders::tasks;
-use page::{Number, Page};
+use page::Page;
 use std::fs;
 use std::io::{Eprint, Error, ErrorKind, Input, Read};
 use std::rt::{Env, Files};
@@ -105,19 +105,22 @@ pub fn load<'a, R: Env + Files + Input + Eprint>(
 }
 
 // What was read of a word that has to be a number up to a limit; where it is none, that is told.
-fn numbered(rt: &impl Eprint, found: Number, what: &[u8], word: &[u8], most: u32) -> Option<u32>
-    ensures { result ≡ number_in found }
+fn numbered(
+    rt: &impl Eprint,
+    found: Option<u32>,
+    what: &[u8],
+    word: &[u8],
+    most: u32,
+) -> Option<u32>
+    ensures { result ≡ found }
 {
-    match found {
-        Number::Of(n) => Some(n),
-        Number::None => {
-            let mut text = [0u8; 20000];
-            let mut page = Page::on(&mut text);
-            wording::mistakes::no_number(&mut page, what, word, most);
-            output::tell(rt, page.text());
-            None
-        }
+    if found.is_none() {
+        let mut text = [0u8; 20000];
+        let mut page = Page::on(&mut text);
+        wording::mistakes::no_number(&mut page, what, word, most);
+        output::tell(rt, page.text());
     }
+    found
 }
 
 // Reads a word that has to be a number up to a limit; where it is none, that was told.

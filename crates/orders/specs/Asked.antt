@@ -3,8 +3,6 @@ use Rattle.std.specs.Prelude.{Bool, true, false, cond, List, eqb, ltb, ◌||◌,
 use Rattle.std.specs.Prelude.{Option, Some, None, Result, Ok, Err}
 use Rattle.language.specs.Sizes.{LARGEST}
 use Rattle.page.specs.Amounts.{number_up_to}
-use Rattle.page.specs.declared.amounts.Number.{Number}
-use Rattle.page.specs.declared.amounts.Number.TheVariants.{Of}
 use Rattle.orders.specs.declared.asked.Asked.{Asked}
 use Rattle.orders.specs.declared.asked.Task.{Task}
 use Rattle.orders.specs.declared.asked.Turn.{Turn}
@@ -141,6 +139,6 @@ wanted_of Turn.Edition a = Err Unclear.NoEdition
 wanted_of Turn.Plain a = wanted_if (fitting a.task a.plain) a.task
 
 -- the edition by the word that is kept for it: 1 where there is none, and no edition where it is no number
-abbrev pub edition_of : (kept : Option ℕ) → List ℕ → Number
+abbrev pub edition_of : (kept : Option ℕ) → List ℕ → Option ℕ
 edition_of (Some i) t = number_up_to LARGEST t
-edition_of None t = Of 1
+edition_of None t = Some 1

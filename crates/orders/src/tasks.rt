@@ -3,7 +3,7 @@ ghost use Rattle.std.specs.Prelude.{◌≡◌};
 ghost use Rattle.orders.specs.Asked.{fitting, begun_with, plain_in, wanted_of, edition_of};
 
 use crate::asked::{Asked, Task, Turn, Unclear, Word};
-use page::{Number, up_to};
+use page::up_to;
 
 // The edition where no word says one.
 const FIRST: u32 = 1;
@@ -46,12 +46,12 @@ impl Asked {
     }
 
     // The edition that the word kept for it says.
-    pub fn edition(self, word: &[u8]) -> Number
+    pub fn edition(self, word: &[u8]) -> Option<u32>
         ensures { result ≡ edition_of self.edition word.now }
     {
         match self.edition {
             Some(_) => up_to(word, LARGEST),
-            None => Number::Of(FIRST),
+            None => Some(FIRST),
         }
     }
 

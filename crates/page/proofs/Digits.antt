@@ -1,19 +1,15 @@
 -- A word gone over digit by digit: what is left of it decides whether it is a number.
-use lib.ListN.{length, get_or, drop}
-use lib.Seq.{drop-cons, drop-length}
-use mathlib.Core.Bool.{true, false, ◌&&◌}
+use lib.ListN.{length, get_or}
+use mathlib.Core.Bool.{Bool, true, false, ◌&&◌}
 use mathlib.Core.List.{List, [], ◌∷◌}
 use mathlib.Core.Path.{◌≡◌, refl, sym, ◌∙◌}
-use native.Mathlib.Numerals.{add-one}
 use native.Mathlib.Omega.{arith}
-use Prim.Native.Nat.{ℕ, suc, ◌+◌, ◌≤◌, ◌<◌}
-use Rattle.language.specs.Text.{is_digit}
+use Prim.Native.Nat.{ℕ, zero, suc, ◌<◌}
+use Rattle.language.specs.Text.{is_digit, between}
+use Rattle.std.specs.Bool.{MatchBool}
+use Rattle.std.specs.Char.{is_ascii_digit}
+use Rattle.std.specs.List.{AllWithin, HoldsAt}
 use Rattle.page.specs.Amounts.{all_digits, is_number}
-
--- the first i bytes are digits, and the rest decides
-pub record Passed (w : List ℕ) (i : ℕ) : Type 0 where
-  pub within : i ≤ length w
-  pub left : is_number w ≡ all_digits (drop i w)
 
 -- no byte, no number
 pub empty_word : (w : List ℕ) → length w ≡ 0 → false ≡ is_number w
@@ -21,26 +17,35 @@ unfolding is_number
 empty_word [] h = refl
 empty_word (b ∷ t) h = absurd (omega arith)
 
--- at first no byte is passed
-pub passed_none : (w : List ℕ) → (length w ≡ 0 → ⊥) → Passed w 0
+-- a digit as the library tells it
+digit_is : (b : ℕ) → is_ascii_digit b ≡ is_digit b
+unfolding is_digit between
+digit_is b = refl
+
+each_digit : (w : List ℕ) → ((k : ℕ) → k < length w → is_ascii_digit (get_or w k 0) ≡ true) → all_digits w ≡ true
+unfolding all_digits
+each_digit [] h = refl
+each_digit (b ∷ w) h = rw (← digit_is b, h 0 (omega arith)) (each_digit w (λ k l. h (suc k) (omega arith)))
+
+no_digit : (w : List ℕ) (k : ℕ) → k < length w → is_ascii_digit (get_or w k 0) ≡ false → all_digits w ≡ false
+unfolding all_digits
+no_digit [] k h e = absurd (omega arith)
+no_digit (b ∷ w) zero h e = rw (← digit_is b, e)
+no_digit (b ∷ w) (suc k) h e = rw (no_digit w k (omega arith) e) (second (is_digit b))
+  where
+    second : (x : Bool) → (x && false) ≡ false
+    second true = refl
+    second false = refl
+
+numbered : (w : List ℕ) → (length w ≡ 0 → ⊥) → all_digits w ≡ is_number w
 unfolding is_number
-passed_none [] h = absurd (h refl)
-passed_none (b ∷ t) h = record { within = omega arith; left = refl }
+numbered [] h = absurd (h refl)
+numbered (b ∷ w) h = refl
 
-module _ {w : List ℕ} {i : ℕ} (g : Passed w i) where
-  head : i < length w → is_number w ≡ (is_digit (get_or w i 0) && all_digits (drop (suc i) w))
-  unfolding all_digits
-  head h = g.left ∙ rw (drop-cons w i 0 h)
-
-  -- byte i is a digit too
-  pub passed_more : i < length w → is_digit (get_or w i 0) ≡ true → Passed w (i + 1)
-  passed_more h d = record { within = omega arith; left = head h ∙ rw (d, add-one i) }
-
-  -- byte i is no digit
-  pub passed_less : i < length w → is_digit (get_or w i 0) ≡ false → false ≡ is_number w
-  passed_less h d = sym (head h ∙ rw d)
-
-  -- no byte is left
-  pub passed_all : length w ≤ i → true ≡ is_number w
-  unfolding all_digits
-  passed_all h = let y : i ≡ length w = omega (arith, g.within) in sym (g.left ∙ rw (y, drop-length w))
+-- what `all` tells of its digits
+pub told : (w : List ℕ) (r : Bool) → (length w ≡ 0 → ⊥)
+    → MatchBool r (AllWithin (λ b. is_ascii_digit b ≡ true) w 0 (length w))
+    ((k : ℕ) × (k < length w) × HoldsAt (λ b. is_ascii_digit b ≡ false) w k)
+    → r ≡ is_number w
+told w true h g = sym (each_digit w (λ k l. g k 0 (omega arith) l)) ∙ numbered w h
+told w false h g = sym (no_digit w g.0 g.1 (g.2 0)) ∙ numbered w h

@@ -4,7 +4,7 @@ use lib.Dec.{eqb}
 use lib.Ieee.{binary64, low, top}
 use lib.Pow.{pow_mono, shl_exact, shr-shr}
 use mathlib.Core.Bool.{true, false}
-use mathlib.Core.List.{List, [], ◌∷◌, ◌++◌}
+use mathlib.Core.List.{[], ◌∷◌, ◌++◌}
 use mathlib.Core.Path.{◌≡◌, refl, sym, ◌∙◌, ap}
 use native.Mathlib.Nat.{one-mul, div-eq_of_lt, mod-eq_of_lt, div-one}
 use native.Mathlib.Omega.{arith}

@@ -1,56 +1,39 @@
 -- A name and a value on a line, sought byte by byte.
 use lib.Dec.{eqb}
 use lib.ListN.{length, get_or, take, drop, length-drop, drop_of_length-le}
-use lib.Seq.{drop-cons, drop-drop}
+use lib.Seq.{drop-cons, drop-drop, take_all}
 use mathlib.Core.Bool.{Bool, true, false, ◌&&◌}
 use mathlib.Core.List.{List, [], ◌∷◌}
 use mathlib.Core.Path.{◌≡◌, refl, sym, ap, ◌∙◌}
-use borrow.Author.Tests.{eq-eqb, ne_eqb}
-use native.Mathlib.Nat.{add-zero}
+use borrow.Author.Tests.{eqb-true, eqb-false, eq-eqb, ne_eqb}
 use native.Mathlib.Numerals.{add-one}
 use native.Mathlib.Omega.{arith}
 use Prim.Native.Nat.{ℕ, suc, ◌+◌, ◌-◌, ◌≤◌, ◌<◌}
 use Rattle.language.proofs.Text.Choices.{and_both, clash}
-use Rattle.page.specs.Amounts.{number_up_to, amount_in}
-use Rattle.page.specs.Fields.{starts_with, value_from, value_named, Finds, count_in, amount_named}
+use Rattle.page.specs.Fields.{starts_with, value_from, value_named}
+use lib.Pointwise.{pointwise}
+use Rattle.std.specs.Prelude.{nat_eq}
+use Rattle.std.proofs.Math.Option.{none, some}
 use Rattle.page.specs.Lines.{ahead}
-use Rattle.page.specs.declared.amounts.Amount.{Amount}
-use Rattle.page.specs.declared.amounts.Number.{Number}
-use Rattle.page.specs.declared.fields.Field.{Field}
-use Rattle.page.proofs.Feeds.{ahead_few}
 
 -- ---- a name
 
--- what is left of both once i bytes are the same
-pub record Same (name t : List ℕ) (at i : ℕ) : Type 0 where
-  pub within : i ≤ length name
-  pub left : starts_with name (drop at t) ≡ starts_with (drop i name) (drop (at + i) t)
+-- as the library finds it
+pub begins_is : (n t : List ℕ) → pointwise nat_eq n (take (length n) t) ≡ starts_with n t
+unfolding starts_with
+begins_is [] t = refl
+begins_is (b ∷ n) [] = refl
+begins_is (b ∷ n) (c ∷ t) = rw (turned (eqb c b) refl, begins_is n t)
+  where
+    turned : (q : Bool) → eqb c b ≡ q → eqb b c ≡ eqb c b
+    turned true e = eq-eqb b c (sym (eqb-true c b e)) ∙ sym e
+    turned false e = ne_eqb b c (λ z. eqb-false c b e (sym z)) ∙ sym e
 
-pub same_none : (name t : List ℕ) (at : ℕ) → Same name t at 0
-same_none name t at = record { within = omega arith; left = rw (add-zero at) refl }
-
-module _ {name t : List ℕ} {at i : ℕ} (s : Same name t at i) where
-  pub same_short : i < length name → length t ≤ at + i → false ≡ starts_with name (drop at t)
-  unfolding starts_with
-  same_short h k = sym (s.left ∙ rw (drop-cons name i 0 h, drop_of_length-le t {i = at + i} k) refl)
-
-  module _ (h : i < length name) (k : at + i < length t) where
-    pub same_other : (get_or t (at + i) 0 ≡ get_or name i 0 → ⊥) → false ≡ starts_with name (drop at t)
-    unfolding starts_with
-    same_other n = sym (s.left ∙ rw (drop-cons name i 0 h, drop-cons t (at + i) 0 k, ne_eqb _ _ n) refl)
-
-    pub same_more : get_or t (at + i) 0 ≡ get_or name i 0 → Same name t at (i + 1)
-    unfolding starts_with
-    same_more e =
-        let n : at + suc i ≡ suc (at + i) = omega arith in
-        record {
-          within = omega arith;
-          left = s.left ∙ rw (drop-cons name i 0 h, drop-cons t (at + i) 0 k, eq-eqb _ _ e, add-one i, n) refl;
-        }
-
-  pub same_all : length name ≤ i → true ≡ starts_with name (drop at t)
-  unfolding starts_with
-  same_all h = sym (s.left ∙ rw (drop_of_length-le name {i = i} h) refl)
+pub begins_from : (n t : List ℕ) (at : ℕ)
+    → pointwise nat_eq n (take (length n) (take (length t - at) (drop at t))) ≡ starts_with n (drop at t)
+begins_from n t at =
+    let all : take (length t - at) (drop at t) ≡ drop at t = take_all _ (drop at t) (omega (arith, length-drop at t)) in
+    rw all (begins_is n (drop at t))
 
 starts_long : (n t : List ℕ) → starts_with n t ≡ true → length n ≤ length t
 unfolding starts_with
@@ -75,17 +58,13 @@ module _ {name t : List ℕ} {fresh : Bool} {i : ℕ} (s : Seeks name t fresh i)
         omega (arith, starts_long name (drop i t) z, length-drop i t)
 
     pub seek_found : b ≡ true → (from to : ℕ) → from ≡ i + length name → to ≡ from + ahead (drop from t)
-        → Finds name t record { found = true; from = from; to = to }
+        → value_named name t ≡ some (take (to - from) (drop from t))
     unfolding value_from
     seek_found k from to ef et =
         let z : (fresh && starts_with name (get_or t i 0 ∷ drop (suc i) t)) ≡ true = rw (← drop-cons t i 0 h) (sym e ∙ k) in
         let n : to - from ≡ ahead (drop from t) = omega (arith, et) in
         let d : drop (length name) (drop i t) ≡ drop from t = drop-drop (length name) i t ∙ ap (λ (k : ℕ). drop k t) (sym ef) in
-        record {
-          ordered = omega (arith, et);
-          within = omega (arith, et, ahead_few t from, room k, ef);
-          value = s.left ∙ rw (n, ← d, drop-cons t i 0 h, z) refl;
-        }
+        s.left ∙ rw (n, ← d, drop-cons t i 0 h, z) refl
 
     pub seek_more : b ≡ false → {f : Bool} → f ≡ eqb (get_or t i 0) 10 → Seeks name t f (i + 1)
     unfolding value_from
@@ -93,21 +72,6 @@ module _ {name t : List ℕ} {fresh : Bool} {i : ℕ} (s : Seeks name t fresh i)
         let z : (fresh && starts_with name (get_or t i 0 ∷ drop (suc i) t)) ≡ false = rw (← drop-cons t i 0 h) (sym e ∙ k) in
         record { within = omega arith; left = s.left ∙ rw (drop-cons t i 0 h, z, add-one i, ef) refl }
 
-  pub seek_none : length t ≤ i → Finds name t record { found = false; from = 0; to = 0 }
+  pub seek_none : length t ≤ i → value_named name t ≡ none
   unfolding value_from
-  seek_none h = record { ordered = omega arith; within = omega arith; value = s.left ∙ rw (drop_of_length-le t {i = i} h) refl }
-
--- ---- its value
-
-module _ {name t : List ℕ} {r : Field} (f : Finds name t r) where
-  pub count_found : (most : ℕ) {n : Number} → r.found ≡ true → n ≡ number_up_to most (take (r.to - r.from) (drop r.from t)) → n ≡ count_in most name t
-  count_found most h e = e ∙ rw (f.value, h) refl
-
-  pub count_none : (most : ℕ) → r.found ≡ false → Number.None ≡ count_in most name t
-  count_none most h = rw (f.value, h) refl
-
-  pub amount_found : {n : Amount} → r.found ≡ true → n ≡ amount_in (take (r.to - r.from) (drop r.from t)) → n ≡ amount_named name t
-  amount_found h e = e ∙ rw (f.value, h) refl
-
-  pub amount_none : r.found ≡ false → Amount.None ≡ amount_named name t
-  amount_none h = rw (f.value, h) refl
+  seek_none h = s.left ∙ rw (drop_of_length-le t {i = i} h) refl

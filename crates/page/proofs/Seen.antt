@@ -1,13 +1,12 @@
 -- What bytes come to when they are shown: a byte, and all of them one behind the other.
 use borrow.Author.Tests.{eq-eqb, ne_eqb}
 use lib.ListN.{length, get_or, take}
-use lib.Seq.{take-suc, take-length}
+use lib.Seq.{take-suc}
 use mathlib.Core.Bool.{Bool, true, false}
 use mathlib.Core.List.{List, [], ◌∷◌, ◌++◌, append_assoc, append-nil}
-use mathlib.Core.Path.{◌≡◌, sym, ◌∙◌, ap}
+use mathlib.Core.Path.{◌≡◌, sym}
 use native.Mathlib.Numerals.{add-one}
-use native.Mathlib.Omega.{arith}
-use Prim.Native.Nat.{ℕ, ◌+◌, ◌/◌, ◌%◌, ◌≤◌, ◌<◌}
+use Prim.Native.Nat.{ℕ, ◌+◌, ◌/◌, ◌%◌, ◌<◌}
 use Rattle.io.specs.Digits.{hex_digit_ascii}
 use Rattle.language.specs.Tokens.{spell}
 use Rattle.page.proofs.Adding.{◌▸◌, being}

@@ -1,59 +1,47 @@
 -- A number with or without a sign: what the proofs of `signed` and its helpers cite.
 use lib.IntN.{ℤ, pos, negsuc, neg_ℤ, ◌-ℤ◌}
+use lib.Dec.{leb}
 use lib.ListN.{length, get_or, take, drop}
 use lib.Seq.{take_all}
-use mathlib.Core.Bool.{true, false}
+use mathlib.Core.Bool.{Bool, true, false, cond, ◌&&◌}
 use mathlib.Core.List.{List, [], ◌∷◌}
-use mathlib.Core.Logic.{⊎_elim}
-use mathlib.Core.Path.{◌≡◌, refl, ap, ◌∙◌}
-use borrow.Author.Tests.{le-leb, lt-leb, lt-ltb, eq-eqb, ne_eqb}
+use mathlib.Core.Path.{◌≡◌, refl, sym, ap, ◌∙◌}
+use borrow.Author.Tests.{lt-ltb, eq-eqb, ne_eqb}
 use mir.Syntax.{w64}
 use mir.Facts.{to_z-of_z, to_z_pos}
 use mir.Val.{SFits, to_z, of_z}
 use native.Mathlib.Omega.{arith}
-use Prim.Native.Nat.{ℕ, zero, suc, ◌+◌, ◌-◌, ◌≤◌, ◌<◌}
+use Prim.Native.Nat.{ℕ, zero, suc, ◌-◌, ◌≤◌}
 use Rattle.language.specs.Text.{number_from}
-use Rattle.language.proofs.Text.Choices.{outcome, clash}
-use Rattle.page.proofs.Adding.{le_or_lt}
-use Rattle.page.specs.Amounts.{is_number, Spells, AMOUNT, Unsigned, amount_by, amount_in}
-use Rattle.page.specs.declared.amounts.Amount.{Amount}
+use Rattle.page.specs.Amounts.{is_number, AMOUNT, number_up_to, amount_by, amount_in}
+use Rattle.std.specs.Prelude.{Some, None, option_map}
 
-module _ (w : List ℕ) where
-  pub no_number : is_number w ≡ false → Unsigned w (AMOUNT + 1)
-  no_number h = ((λ e. absurd (clash e h)), λ e. omega arith)
+-- ---- by the digits
 
-  pub a_number : is_number w ≡ true → {r : ℕ} → Spells AMOUNT (number_from 10 0 w) r → Unsigned w r
-  a_number h s = ((λ e. s), λ e. absurd (clash h e))
-
-module _ (f : ℕ → ℤ) (w : List ℕ) {r : ℕ} (u : Unsigned w r) where
-  pub too_large : AMOUNT < r → Amount.None ≡ amount_by f w
-  unfolding amount_by
-  too_large l = ⊎_elim by_number (λ h. rw h) (outcome (is_number w))
+module _ (f : ℕ → ℤ) (w : List ℕ) where
+  mapped : amount_by f w ≡ option_map f (number_up_to AMOUNT w)
+  unfolding amount_by number_up_to
+  mapped = either (is_number w && leb (number_from 10 0 w) AMOUNT)
     where
-      by_number : is_number w ≡ true → Amount.None ≡ amount_by f w
-      by_number h =
-          let n = number_from 10 0 w in
-          let k : AMOUNT < n = ⊎_elim (λ a. absurd (omega (arith, (u.0 h).0 a))) (λ b. b) (le_or_lt n AMOUNT) in
-          rw (h, lt-leb n AMOUNT k)
+      either : (q : Bool) → cond q (Some (f (number_from 10 0 w))) None ≡ option_map f (cond q (Some (number_from 10 0 w)) None)
+      either true = refl
+      either false = refl
 
-  pub small_enough : r ≤ AMOUNT → Amount.Of (f r) ≡ amount_by f w
-  unfolding amount_by
-  small_enough l = ⊎_elim by_number (λ h. absurd (omega (arith, u.1 h))) (outcome (is_number w))
-    where
-      by_number : is_number w ≡ true → Amount.Of (f r) ≡ amount_by f w
-      by_number h =
-          let n = number_from 10 0 w in
-          let k : n ≤ AMOUNT = ⊎_elim (λ a. a) (λ b. absurd (omega (arith, (u.0 h).1 b))) (le_or_lt n AMOUNT) in
-          rw (h, le-leb n AMOUNT k) (ap (λ (n : ℕ). Amount.Of (f n)) ((u.0 h).0 k))
+  pub by_number : {n : ℕ} → number_up_to AMOUNT w ≡ Some n → Some (f n) ≡ amount_by f w
+  by_number e = sym (mapped ∙ ap (option_map f) e)
+
+  pub by_none : number_up_to AMOUNT w ≡ None → None ≡ amount_by f w
+  by_none e = sym (mapped ∙ ap (option_map f) e)
 
 -- ---- by the first byte
 
-pub no_bytes : (w : List ℕ) → length w ≡ 0 → Amount.None ≡ amount_in w
+pub no_bytes : (w : List ℕ) → length w ≡ 0 → None ≡ amount_in w
 unfolding amount_in
 no_bytes [] h = refl
 no_bytes (b ∷ w) h = absurd (omega arith)
 
-pub with_sign : (w : List ℕ) → (length w ≡ 0 → ⊥) → get_or w 0 0 ≡ 45 → amount_by (λ n. neg_ℤ (pos n)) (take (length w - 1) (drop 1 w)) ≡ amount_in w
+pub with_sign : (w : List ℕ) → (length w ≡ 0 → ⊥) → get_or w 0 0 ≡ 45
+    → amount_by (λ n. neg_ℤ (pos n)) (take (length w - 1) (drop 1 w)) ≡ amount_in w
 unfolding amount_in
 with_sign [] h e = absurd (h refl)
 with_sign (b ∷ w) h e =

@@ -1,8 +1,9 @@
 -- Digits read one by one: what is left of them goes on from the number so far.
 use borrow.Author.Tests.{le-leb, lt-leb}
+use lib.Dec.{leb}
 use lib.ListN.{length, get_or, drop}
 use lib.Seq.{drop-cons, drop-length}
-use mathlib.Core.Bool.{true, false}
+use mathlib.Core.Bool.{true, false, ◌&&◌}
 use mathlib.Core.List.{List}
 use mathlib.Core.Logic.{⊎_elim}
 use mathlib.Core.Path.{◌≡◌, refl, ◌∙◌, ap}
@@ -10,10 +11,12 @@ use native.Mathlib.Numerals.{add-one}
 use native.Mathlib.Omega.{arith}
 use Prim.Native.Nat.{ℕ, suc, ◌+◌, ◌*◌, ◌≤◌, ◌<◌}
 use Rattle.language.specs.Text.{worth, number_from}
+use Rattle.language.proofs.Text.Choices.{outcome, and_both}
+use Rattle.std.proofs.lemmas.Bool.{leb-true}
 use Rattle.language.proofs.Text.Digits.{number_least}
 use Rattle.page.proofs.Adding.{le_or_lt}
 use Rattle.page.specs.Amounts.{is_number, Spells, number_up_to}
-use Rattle.page.specs.declared.amounts.Number.TheVariants.{Of, None}
+use Rattle.std.specs.Prelude.{Some, None}
 
 -- the first i digits are v, which is at most m
 pub record Counted (m : ℕ) (w : List ℕ) (i v : ℕ) : Type 0 where
@@ -55,12 +58,12 @@ module _ (most : ℕ) (w : List ℕ) where
   no_digits h = rw h
 
   module _ (h : is_number w ≡ true) {r : ℕ} (s : Spells most (number_from 10 0 w) r) where
-    pub small_enough : r ≤ most → Of r ≡ number_up_to most w
+    pub small_enough : r ≤ most → Some r ≡ number_up_to most w
     unfolding number_up_to
     small_enough l =
         let n = number_from 10 0 w in
         let k : n ≤ most = ⊎_elim (λ a. a) (λ b. absurd (omega (arith, s.1 b))) (le_or_lt n most) in
-        rw (h, le-leb n most k) (ap Of (s.0 k))
+        rw (h, le-leb n most k) (ap Some (s.0 k))
 
     pub too_large : most < r → None ≡ number_up_to most w
     unfolding number_up_to
@@ -68,3 +71,17 @@ module _ (most : ℕ) (w : List ℕ) where
         let n = number_from 10 0 w in
         let k : most < n = ⊎_elim (λ a. absurd (omega (arith, s.0 a))) (λ b. b) (le_or_lt n most) in
         rw (h, lt-leb n most k)
+
+-- a number up to a limit is within it
+pub up_to_small : (most : ℕ) (w : List ℕ) {n : ℕ} → number_up_to most w ≡ Some n → n ≤ most
+unfolding number_up_to
+up_to_small most w {n} e = ⊎_elim found (λ h. absurd (missing h)) (outcome (is_number w && leb (number_from 10 0 w) most))
+  where
+    missing : (is_number w && leb (number_from 10 0 w) most) ≡ false → ⊥
+    missing h = let z : None ≡ Some n = rw h at e in cc
+
+    found : (is_number w && leb (number_from 10 0 w) most) ≡ true → n ≤ most
+    found h =
+        let z : Some (number_from 10 0 w) ≡ Some n = rw h at e in
+        let y : number_from 10 0 w ≡ n = cc in
+        omega (arith, leb-true (number_from 10 0 w) most (and_both (is_number w) _ h).1)

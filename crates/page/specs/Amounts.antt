@@ -1,11 +1,8 @@
 -- What a number is among a program's words: at least one byte, and each byte a digit; and which one it is, up to a
 -- limit.
-use Rattle.std.specs.Prelude.{Bool, true, false, cond, ◌&&◌, List, [], ◌∷◌, ◌≡◌, eqb, leb, ℤ, pos, neg_ℤ, ℕ, ◌≤◌, ◌<◌}
+use Rattle.std.specs.Prelude.{Bool, true, false, cond, ◌&&◌, List, [], ◌∷◌, ◌≡◌, eqb, leb, ℤ, pos, neg_ℤ, ℕ, ◌≤◌, ◌<◌, Option, Some, None}
 use Prim.Native.Char.{code}
 use Rattle.language.specs.Text.{is_digit, number_from}
-use Rattle.page.specs.declared.amounts.Amount.{Amount}
-use Rattle.page.specs.declared.amounts.Number.{Number}
-use Rattle.page.specs.declared.amounts.Number.TheVariants.{Of, None}
 
 unfoldable pub all_digits : List ℕ → Bool
 all_digits [] = true
@@ -19,8 +16,8 @@ is_number (b ∷ t) = all_digits (b ∷ t)
 abbrev pub Spells : (most n r : ℕ) → Type 0
 Spells most n r = (n ≤ most → r ≡ n) × (most < n → most < r)
 
-unfoldable pub number_up_to : (most : ℕ) → List ℕ → Number
-number_up_to most w = cond (is_number w && leb (number_from 10 0 w) most) (Of (number_from 10 0 w)) None
+unfoldable pub number_up_to : (most : ℕ) → List ℕ → Option ℕ
+number_up_to most w = cond (is_number w && leb (number_from 10 0 w) most) (Some (number_from 10 0 w)) None
 
 -- ---- with or without a sign
 
@@ -28,15 +25,9 @@ number_up_to most w = cond (is_number w && leb (number_from 10 0 w) most) (Of (n
 abbrev pub AMOUNT : ℕ
 AMOUNT = 140737488355328
 
--- r is the number that w spells, or too large where it spells none or one that is too large
-abbrev pub Unsigned : List ℕ → ℕ → Type 0
-Unsigned w r =
-    (is_number w ≡ true → Spells AMOUNT (number_from 10 0 w) r)
-    × (is_number w ≡ false → AMOUNT < r)
+unfoldable pub amount_by : (ℕ → ℤ) → List ℕ → Option ℤ
+amount_by f w = cond (is_number w && leb (number_from 10 0 w) AMOUNT) (Some (f (number_from 10 0 w))) None
 
-unfoldable pub amount_by : (ℕ → ℤ) → List ℕ → Amount
-amount_by f w = cond (is_number w && leb (number_from 10 0 w) AMOUNT) (Amount.Of (f (number_from 10 0 w))) Amount.None
-
-unfoldable pub amount_in : List ℕ → Amount
-amount_in [] = Amount.None
+unfoldable pub amount_in : List ℕ → Option ℤ
+amount_in [] = None
 amount_in (b ∷ w) = cond (eqb b (code "-")) (amount_by (λ n. neg_ℤ (pos n)) w) (amount_by pos (b ∷ w))

@@ -1,12 +1,10 @@
 -- A name and a value on each line: the value of the first line that begins with a name, up to the line's end.
-use Rattle.std.specs.Prelude.{eqb, length, take, drop, Bool, true, false, cond, ◌&&◌, List, [], ◌∷◌, ◌≡◌, ℕ, ◌-◌, ◌≤◌}
-use Rattle.std.proofs.Math.Option.{Option, none, some}
+use Rattle.std.specs.Prelude.{eqb, length, take, drop, Bool, true, false, cond, ◌&&◌, List, [], ◌∷◌, ℕ, ℤ, Option, None}
+use Rattle.std.proofs.Math.Option as Math
+use Rattle.std.proofs.Math.Option.{none, some}
 use Prim.Native.Char.{code}
 use Rattle.page.specs.Amounts.{number_up_to, amount_in}
 use Rattle.page.specs.Lines.{ahead}
-use Rattle.page.specs.declared.amounts.Amount.{Amount}
-use Rattle.page.specs.declared.amounts.Number.{Number}
-use Rattle.page.specs.declared.fields.Field.{Field}
 
 unfoldable pub starts_with : List ℕ → List ℕ → Bool
 starts_with [] t = true
@@ -18,33 +16,27 @@ abbrev pub to_end : List ℕ → List ℕ
 to_end t = take (ahead t) t
 
 -- of a text that begins a line, or goes on in one
-unfoldable pub value_from : (name : List ℕ) (fresh : Bool) → List ℕ → Option (List ℕ)
+unfoldable pub value_from : (name : List ℕ) (fresh : Bool) → List ℕ → Math.Option (List ℕ)
 value_from name fresh [] = none
 value_from name fresh (b ∷ t) =
     cond (fresh && starts_with name (b ∷ t)) (some (to_end (drop (length name) (b ∷ t))))
     (value_from name (eqb b (code "\n")) t)
 
-abbrev pub value_named : List ℕ → List ℕ → Option (List ℕ)
+abbrev pub value_named : List ℕ → List ℕ → Math.Option (List ℕ)
 value_named name t = value_from name true t
-
--- where it is found, if it is
-pub record Finds (name t : List ℕ) (r : Field) : Type 0 where
-  pub ordered : r.from ≤ r.to
-  pub within : r.to ≤ length t
-  pub value : value_named name t ≡ cond r.found (some (take (r.to - r.from) (drop r.from t))) none
 
 -- ---- as a number
 
-abbrev pub count_of : ℕ → Option (List ℕ) → Number
-count_of most none = Number.None
+abbrev pub count_of : ℕ → Math.Option (List ℕ) → Option ℕ
+count_of most none = None
 count_of most (some w) = number_up_to most w
 
-abbrev pub count_in : ℕ → List ℕ → List ℕ → Number
+abbrev pub count_in : ℕ → List ℕ → List ℕ → Option ℕ
 count_in most name t = count_of most (value_named name t)
 
-abbrev pub amount_of : Option (List ℕ) → Amount
-amount_of none = Amount.None
+abbrev pub amount_of : Math.Option (List ℕ) → Option ℤ
+amount_of none = None
 amount_of (some w) = amount_in w
 
-abbrev pub amount_named : List ℕ → List ℕ → Amount
+abbrev pub amount_named : List ℕ → List ℕ → Option ℤ
 amount_named name t = amount_of (value_named name t)

@@ -4,132 +4,114 @@ ghost use Rattle.page.specs.Characters.{begins, more_of, low_of, high_of, fits_n
 ghost use Rattle.page.specs.Characters.{low_next, high_next, is_readable, inner, heads};
 
 // Does a character begin with this byte?
-fn first(b: u8) -> bool
+#[tactic(auto, unfolding(crate::specs::Characters::begins, crate::specs::Characters::in_range))]
+fn is_first(b: u8) -> bool
     ensures { result ≡ begins b }
 {
-    if b < 128 {
-        return true;
-    }
-    if b < 194 {
-        return false;
-    }
-    b <= 244
+    matches!(b, 0..=127 | 194..=244)
 }
 
 // How many bytes of a character follow this first one.
+#[tactic(auto, unfolding(crate::specs::Characters::more_of))]
 fn more(b: u8) -> u8
     ensures { result ≡ more_of b }
 {
-    if b < 128 {
-        return 0;
+    match b {
+        0..=127 => 0,
+        128..=223 => 1,
+        224..=239 => 2,
+        _ => 3,
     }
-    if b < 224 {
-        return 1;
-    }
-    if b < 240 {
-        return 2;
-    }
-    3
 }
 
 // The least second byte of a character that begins with this one, and the largest.
+#[tactic(auto, unfolding(crate::specs::Characters::low_of))]
 fn low(b: u8) -> u8
     ensures { result ≡ low_of b }
 {
-    if b == 194 {
-        return 160;
+    match b {
+        194 | 224 => 160,
+        240 => 144,
+        _ => 128,
     }
-    if b == 224 {
-        return 160;
-    }
-    if b == 240 {
-        return 144;
-    }
-    128
 }
 
+#[tactic(auto, unfolding(crate::specs::Characters::high_of))]
 fn high(b: u8) -> u8
     ensures { result ≡ high_of b }
 {
-    if b == 237 {
-        return 159;
+    match b {
+        237 => 159,
+        244 => 143,
+        _ => 191,
     }
-    if b == 244 {
-        return 143;
-    }
-    191
 }
 
-// May this byte come next, where so many bytes of a character are still due, the next of them in this range?
-fn may_follow(due: u8, least: u8, most: u8, b: u8) -> bool
-    ensures { result ≡ fits_next due least most b }
-{
-    if due == 0 {
-        return first(b);
-    }
-    if b < least {
-        return false;
-    }
-    b <= most
+// How many bytes of a character are still due, and in which range the next of them is.
+#[derive(Clone, Copy)]
+struct Due {
+    bytes: u8,
+    least: u8,
+    most: u8,
 }
 
-// What is due behind this byte, and in which range the next one is.
-fn due_after(due: u8, b: u8) -> u8
-    ensures { result ≡ more_next due b }
-{
-    if due == 0 {
-        return more(b);
+impl Due {
+    // May this byte come next?
+    #[tactic(auto, unfolding(crate::specs::Characters::fits_next, crate::specs::Characters::in_range))]
+    fn takes(self, b: u8) -> bool
+        ensures { result ≡ fits_next self.bytes self.least self.most b }
+    {
+        if self.bytes == 0 {
+            return is_first(b);
+        }
+        self.least <= b && b <= self.most
     }
-    due - 1
-}
 
-fn low_after(due: u8, b: u8) -> u8
-    ensures { result ≡ low_next due b }
-{
-    if due == 0 {
-        return low(b);
+    // What is due behind it.
+    fn after(self, b: u8) -> Due
+        ensures bytes { result.bytes ≡ more_next self.bytes b }
+        ensures least { result.least ≡ low_next self.bytes b }
+        ensures most { result.most ≡ high_next self.bytes b }
+    {
+        if self.bytes == 0 {
+            return Due {
+                bytes: more(b),
+                least: low(b),
+                most: high(b),
+            };
+        }
+        Due {
+            bytes: self.bytes - 1,
+            least: 128,
+            most: 191,
+        }
     }
-    128
-}
-
-fn high_after(due: u8, b: u8) -> u8
-    ensures { result ≡ high_next due b }
-{
-    if due == 0 {
-        return high(b);
-    }
-    191
 }
 
 // Is this UTF-8, without control characters beyond ASCII?
 pub fn readable(bytes: &[u8]) -> bool
     ensures { result ≡ is_readable bytes.now }
 {
-    let mut due: u8 = 0;
-    let mut least: u8 = 0;
-    let mut most: u8 = 0;
-    let mut i = 0;
-    while i < bytes.len() {
-        let b = bytes[i];
-        if !may_follow(due, least, most, b) {
+    let mut due = Due {
+        bytes: 0,
+        least: 0,
+        most: 0,
+    };
+    for b in bytes {
+        if !due.takes(*b) {
             return false;
         }
-        least = low_after(due, b);
-        most = high_after(due, b);
-        due = due_after(due, b);
-        i += 1;
+        due = due.after(*b);
     }
-    due == 0
+    due.bytes == 0
 }
 
 // Does this byte stand inside a character?
+#[tactic(auto, unfolding(crate::specs::Characters::inner, crate::specs::Characters::in_range))]
 pub fn is_inner(b: u8) -> bool
     ensures { result ≡ inner b }
 {
-    if b < 128 {
-        return false;
-    }
-    b <= 191
+    matches!(b, 128..=191)
 }
 
 // How many characters these bytes are, where they are UTF-8.
@@ -137,12 +119,10 @@ pub fn characters(bytes: &[u8]) -> usize
     ensures { result ≡ heads bytes.now }
 {
     let mut count = 0;
-    let mut i = 0;
-    while i < bytes.len() {
-        if !is_inner(bytes[i]) {
+    for b in bytes {
+        if !is_inner(*b) {
             count += 1;
         }
-        i += 1;
     }
     count
 }

@@ -1,94 +1,44 @@
 // A name and a value on each line, as the report for machines has them.
-ghost use Rattle.std.specs.Prelude.{◌&&◌, ◌≡◌, ◌≤◌, length, drop};
-ghost use Rattle.page.specs.Fields.{starts_with, Finds, count_in, amount_named};
+ghost use Rattle.std.specs.Prelude.{◌≡◌, ◌≤◌, ◌&&◌, MatchOption, length, drop};
+ghost use Rattle.std.proofs.Math.Option.{none, some};
+ghost use Rattle.page.specs.Fields.{starts_with, value_named, count_in, amount_named};
 
-use crate::amounts::{Amount, Number, signed, up_to};
+use crate::amounts::{signed, up_to};
 use crate::lines::line_end;
-
-// Where a value is, from one byte up to another, if it is there.
-#[derive(Clone, Copy)]
-struct Field {
-    found: bool,
-    from: usize,
-    to: usize,
-}
-
-fn begins(text: &[u8], at: usize, name: &[u8]) -> bool
-    requires { at ≤ length text.now }
-    ensures { result ≡ starts_with name.now (drop at text.now) }
-{
-    let mut i = 0;
-    while i < name.len() {
-        if text.len() - at <= i {
-            return false;
-        }
-        if text[at + i] != name[i] {
-            return false;
-        }
-        i += 1;
-    }
-    true
-}
 
 // A name stands there, and a line begins.
 fn is_here(text: &[u8], at: usize, name: &[u8], fresh: bool) -> bool
     requires { at ≤ length text.now }
     ensures { result ≡ (fresh && starts_with name.now (drop at text.now)) }
 {
-    if fresh {
-        return begins(text, at, name);
-    }
-    false
+    fresh && text[at..].starts_with(name)
 }
 
 // The value of the first line that begins with a name. The blank behind it is part of the name here.
-fn find(text: &[u8], name: &[u8]) -> Field
-    ensures { Finds name.now text.now result }
+fn find<'a>(text: &'a [u8], name: &[u8]) -> Option<&'a [u8]>
+    ensures { MatchOption result (value_named name.now text.now ≡ none) (λ v. value_named name.now text.now ≡ some v.now) }
 {
     let mut fresh = true;
-    let mut i = 0;
-    while i < text.len() {
+    for i in 0..text.len() {
         if is_here(text, i, name, fresh) {
             let from = i + name.len();
-            let to = line_end(text, from);
-            return Field {
-                found: true,
-                from,
-                to,
-            };
+            return Some(&text[from..line_end(text, from)]);
         }
         fresh = text[i] == b'\n';
-        i += 1;
     }
-    Field {
-        found: false,
-        from: 0,
-        to: 0,
-    }
+    None
 }
 
 // A value that is a number up to a limit.
-pub fn count(text: &[u8], name: &[u8], most: u32) -> Number
+pub fn count(text: &[u8], name: &[u8], most: u32) -> Option<u32>
     ensures { result ≡ count_in most name.now text.now }
 {
-    let field = find(text, name);
-    let from = field.from;
-    let to = field.to;
-    if field.found {
-        return up_to(&text[from..to], most);
-    }
-    Number::None
+    up_to(find(text, name)?, most)
 }
 
 // A value that is a number with or without a sign.
-pub fn amount(text: &[u8], name: &[u8]) -> Amount
+pub fn amount(text: &[u8], name: &[u8]) -> Option<i64>
     ensures { result ≡ amount_named name.now text.now }
 {
-    let field = find(text, name);
-    let from = field.from;
-    let to = field.to;
-    if field.found {
-        return signed(&text[from..to]);
-    }
-    Amount::None
+    signed(find(text, name)?)
 }

@@ -6,7 +6,6 @@ ghost use Rattle.std.specs.Prelude.{min, length};
 ghost use Rattle.page.specs.Lines.{Spotted};
 
 mod amounts;
-mod bytes;
 mod characters;
 mod fields;
 mod floats;
@@ -17,7 +16,7 @@ mod pages;
 mod text;
 
 use crate::lines::{Spot, columns, feeds_before, line_end, line_start};
-pub use amounts::{Amount, Number, up_to};
+pub use amounts::up_to;
 pub use characters::readable;
 pub use fields::{amount, count};
 pub use lines::trimmed;

@@ -23,12 +23,10 @@ pub fn feeds_before(source: &[u8], at: usize) -> usize
     ensures { result ≡ feeds (take at source.now) }
 {
     let mut count = 0;
-    let mut i = 0;
-    while i < at {
+    for i in 0..at {
         if source[i] == b'\n' {
             count += 1;
         }
-        i += 1;
     }
     count
 }

@@ -14,12 +14,11 @@ use Rattle.language.proofs.Text.Choices.{outcome, clash, and_both}
 use Rattle.language.proofs.Text.Classes.{worth_digit}
 use Rattle.language.proofs.Text.Digits.{number_append}
 use Rattle.language.specs.Text.{between, is_digit, worth, number_from}
+use Rattle.std.specs.Prelude.{Option, Some, None}
 use Rattle.page.specs.Amounts.{all_digits, is_number, number_up_to, AMOUNT, amount_by, amount_in}
 use Rattle.page.specs.Characters.{is_readable}
 use Rattle.page.specs.Lines.{feeds}
 use Rattle.page.specs.Text.{places, decimal_of, each, is_hidden, byte_shown, all_shown}
-use Rattle.page.specs.declared.amounts.Amount.{Amount}
-use Rattle.page.specs.declared.amounts.Number.{Number}
 use Rattle.wording.specs.Fields.{name_words}
 use Rattle.wording.specs.Values.{signed_by, signed_words}
 use Rattle.records.proofs.LinesRead.{both_quiet}
@@ -105,7 +104,7 @@ pub decimal_worth : (n : ℕ) → number_from 10 0 (decimal_of n) ≡ n
 unfolding decimal_of
 decimal_worth n = digits_worth (places n n) n (enough n n (omega arith))
 
-pub count_read : (most n : ℕ) → n ≤ most → number_up_to most (decimal_of n) ≡ Number.Of n
+pub count_read : (most n : ℕ) → n ≤ most → number_up_to most (decimal_of n) ≡ Some n
 unfolding number_up_to
 count_read most n h = rw (decimal_is n, decimal_worth n, le-leb n most h) refl
 
@@ -115,17 +114,17 @@ digit_apart : (b c : ℕ) → is_digit b ≡ true → is_digit c ≡ false → e
 digit_apart b c h k = ne_eqb b c (λ e. clash h (ap is_digit e ∙ k))
 
 module _ (f : ℕ → ℤ) where
-  by_worth : (w : List ℕ) {n : ℕ} → is_number w ≡ true → number_from 10 0 w ≡ n → n ≤ AMOUNT → amount_by f w ≡ Amount.Of (f n)
+  by_worth : (w : List ℕ) {n : ℕ} → is_number w ≡ true → number_from 10 0 w ≡ n → n ≤ AMOUNT → amount_by f w ≡ Some (f n)
   unfolding amount_by
   by_worth w {n} h e l = rw (h, e, le-leb n AMOUNT l) refl
 
-unsigned : (w : List ℕ) {n : ℕ} → is_number w ≡ true → number_from 10 0 w ≡ n → n ≤ AMOUNT → amount_in w ≡ Amount.Of (pos n)
+unsigned : (w : List ℕ) {n : ℕ} → is_number w ≡ true → number_from 10 0 w ≡ n → n ≤ AMOUNT → amount_in w ≡ Some (pos n)
 unfolding amount_in is_number all_digits is_digit between
 unsigned [] h e l = absurd (clash h refl)
 unsigned (b ∷ w) h e l =
     rw (digit_apart b 45 (and_both (is_digit b) (all_digits w) h).0 refl) (by_worth pos (b ∷ w) h e l)
 
-pub amount_read : (z : ℤ) → nat_abs z ≤ AMOUNT → amount_in (signed_words z) ≡ Amount.Of z
+pub amount_read : (z : ℤ) → nat_abs z ≤ AMOUNT → amount_in (signed_words z) ≡ Some z
 unfolding signed_by amount_in
 amount_read (pos n) h = unsigned (decimal_of n) (decimal_is n) (decimal_worth n) h
 amount_read (negsuc n) h =

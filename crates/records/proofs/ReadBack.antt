@@ -20,10 +20,10 @@ use Rattle.language.specs.Text.{between, is_digit, worth, number_from}
 use Rattle.language.specs.Tokens.{spell}
 use Rattle.page.specs.Amounts.{all_digits, is_number, number_up_to, AMOUNT}
 use Rattle.page.specs.Text.{decimal_of, Adds}
-use Rattle.page.specs.declared.amounts.Number.{Number}
 use Rattle.tally.specs.Stands.{report_in}
 use Rattle.tally.specs.declared.sums.Sums.{Sums}
 use Rattle.records.specs.Machines.{shift_lines, combined_lines}
+use Rattle.std.specs.Prelude.{Option, Some, None}
 use Rattle.records.specs.Readings.{count_told, amount_told, nine_told, sums_told, is_told, over_told, number_told}
 use Rattle.records.specs.Readings.{whole, full, Reads}
 use Rattle.wording.specs.Values.{signed_words}
@@ -176,12 +176,12 @@ pub record Back (r : Reading) (many : Bool) (s : Sums) : Type 0 where
   pub sums : r.sums ≡ s
 
 module _ (l : Line) (ls : List Line) {s : Sums} (t : Tells (l ∷ ls) s) (w : Writable s) {r : Reading} (x : Reads (text_of (l ∷ ls)) r) where
-  numbered : {v : List ℕ} {n : ℕ} → look (spell "number ") (l ∷ ls) ≡ some v → number_up_to 99 v ≡ Number.Of n
-      → number_told (text_of (l ∷ ls)) ≡ Number.Of n
+  numbered : {v : List ℕ} {n : ℕ} → look (spell "number ") (l ∷ ls) ≡ some v → number_up_to 99 v ≡ Some n
+      → number_told (text_of (l ∷ ls)) ≡ Some n
   numbered e h = rw (found (spell "number ") (l ∷ ls) t.clean e) h
 
-  back : (n : ℕ) → number_told (text_of (l ∷ ls)) ≡ Number.Of n → is_told (Number.Of n) ≡ true → full (text_of (l ∷ ls)) ≡ true
-      → Back r (over_told (Number.Of n)) s
+  back : (n : ℕ) → number_told (text_of (l ∷ ls)) ≡ Some n → is_told (Some n) ≡ true → full (text_of (l ∷ ls)) ≡ true
+      → Back r (over_told (Some n)) s
   back n e h f = record {
     good = x.good ∙ (λ i. f i && (is_told (e i) && whole (sums_back t w i))) ∙ rw (h, w.whole) refl;
     over = x.over ∙ ap over_told e;

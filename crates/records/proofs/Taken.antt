@@ -13,32 +13,30 @@ use Rattle.language.specs.Combining.{paid_lines, possible}
 use Rattle.language.specs.Sizes.{LINES}
 use Rattle.page.specs.Fields.{count_in, amount_named}
 use Rattle.page.specs.Lines.{feeds, behind}
-use Rattle.page.specs.declared.amounts.Amount.{Amount}
-use Rattle.page.specs.declared.amounts.Number.{Number}
 use Rattle.tally.specs.Stands.{report_in}
 use Rattle.tally.specs.declared.sums.Sums.{Sums}
+use Rattle.std.specs.Prelude.{Option, Some, None, unwrap_or}
 use Rattle.records.specs.Readings.{or_many, count_told, or_much, amount_told, nine_told, sums_told, is_told, over_told, number_told}
 use Rattle.records.specs.Readings.{whole, full, Reads}
 
 -- ---- one value
 
-module _ (name t : List ℕ) {a : Number} (e : a ≡ count_in LINES name t) where
-  pub a_count : {n : ℕ} → a ≡ Number.Of n → n ≡ count_told name t
-  unfolding count_told
-  a_count h = ap or_many (sym h ∙ e)
+pub a_count : (name t : List ℕ) {a : Option ℕ} → a ≡ count_in LINES name t → unwrap_or a 65537 ≡ count_told name t
+unfolding count_told
+a_count name t {a} e = or_one a ∙ ap or_many e
+  where
+    or_one : (o : Option ℕ) → unwrap_or o 65537 ≡ or_many o
+    or_one None = refl
+    or_one (Some n) = refl
 
-  pub no_count : a ≡ Number.None → 65537 ≡ count_told name t
-  unfolding count_told
-  no_count h = ap or_many (sym h ∙ e)
-
-module _ (name t : List ℕ) {a : Amount} (e : a ≡ amount_named name t) where
-  pub an_amount : {z : ℤ} → a ≡ Amount.Of z → z ≡ amount_told name t
-  unfolding amount_told
-  an_amount h = ap or_much (sym h ∙ e)
-
-  pub no_amount : a ≡ Amount.None → pos 4611686018427387904 ≡ amount_told name t
-  unfolding amount_told
-  no_amount h = ap or_much (sym h ∙ e)
+pub an_amount : (name t : List ℕ) {a : Option ℤ} → a ≡ amount_named name t
+    → unwrap_or a (pos 4611686018427387904) ≡ amount_told name t
+unfolding amount_told
+an_amount name t {a} e = or_one a ∙ ap or_much e
+  where
+    or_one : (o : Option ℤ) → unwrap_or o (pos 4611686018427387904) ≡ or_much o
+    or_one None = refl
+    or_one (Some z) = refl
 
 -- ---- all of them
 
@@ -81,7 +79,7 @@ module _ (t : List ℕ) (last : ℕ) (e : last + behind (take (length t) t) ≡ 
 
 -- ---- the whole
 
-pub all_read : (t : List ℕ) {number : Number} {sums : Sums} {f o w g v : Bool} → number ≡ number_told t → sums ≡ sums_told t
+pub all_read : (t : List ℕ) {number : Option ℕ} {sums : Sums} {f o w g v : Bool} → number ≡ number_told t → sums ≡ sums_told t
     → f ≡ full t → o ≡ is_told number → w ≡ whole sums → g ≡ (f && (o && w)) → v ≡ over_told number
     → Reads t record { good = g; over = v; sums = sums }
 all_read t {number} {sums} {f} {o} {w} n s a b c e h = record {

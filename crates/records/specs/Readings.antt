@@ -1,27 +1,25 @@
 -- The report of a shift for machines, read again: each value by its name. What is not there, or is no number that it
 -- can be, is read as one that no shift can come to.
-use Rattle.std.specs.Prelude.{eqb, ℤ, pos, Bool, false, ◌&&◌, ◌||◌, List, [], ◌∷◌, ◌≡◌, ℕ}
+use Rattle.std.specs.Prelude.{eqb, ℤ, pos, Bool, false, ◌&&◌, ◌||◌, List, [], ◌∷◌, ◌≡◌, Option, Some, None, ℕ}
 use Rattle.language.specs.Combining.{paid_lines, possible}
 use Rattle.language.specs.Sizes.{LINES}
 use Rattle.language.specs.Tokens.{spell}
 use Rattle.page.specs.Fields.{count_in, amount_named}
 use Rattle.page.specs.Lines.{feeds, behind}
-use Rattle.page.specs.declared.amounts.Amount.{Amount}
-use Rattle.page.specs.declared.amounts.Number.{Number}
 use Rattle.tally.specs.Stands.{report_in}
 use Rattle.tally.specs.declared.sums.Sums.{Sums}
 use Rattle.records.specs.declared.readings.Reading.{Reading}
 
-abbrev pub or_many : Number → ℕ
-or_many (Number.Of n) = n
-or_many Number.None = 65537
+abbrev pub or_many : Option ℕ → ℕ
+or_many (Some n) = n
+or_many None = 65537
 
 unfoldable pub count_told : (name : List ℕ) → List ℕ → ℕ
 count_told name t = or_many (count_in LINES name t)
 
-abbrev pub or_much : Amount → ℤ
-or_much (Amount.Of z) = z
-or_much Amount.None = pos 4611686018427387904
+abbrev pub or_much : Option ℤ → ℤ
+or_much (Some z) = z
+or_much None = pos 4611686018427387904
 
 unfoldable pub amount_told : (name : List ℕ) → List ℕ → ℤ
 amount_told name t = or_much (amount_named name t)
@@ -51,15 +49,15 @@ sums_told t = record {
 }
 
 -- the number that such a report tells is 0 or 46
-abbrev pub is_told : Number → Bool
-is_told (Number.Of n) = eqb n 0 || eqb n 46
-is_told Number.None = false
+abbrev pub is_told : Option ℕ → Bool
+is_told (Some n) = eqb n 0 || eqb n 46
+is_told None = false
 
-abbrev pub over_told : Number → Bool
-over_told (Number.Of n) = eqb n 46
-over_told Number.None = false
+abbrev pub over_told : Option ℕ → Bool
+over_told (Some n) = eqb n 46
+over_told None = false
 
-abbrev pub number_told : List ℕ → Number
+abbrev pub number_told : List ℕ → Option ℕ
 number_told t = count_in 99 (spell "number ") t
 
 -- they can be those of a shift, and as many were paid as is told

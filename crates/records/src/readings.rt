@@ -1,10 +1,10 @@
 // The report of a shift for machines, read again.
-ghost use Rattle.std.specs.Prelude.{◌&&◌, ◌||◌, ◌≡◌, eqb};
+ghost use Rattle.std.specs.Prelude.{◌||◌, ◌≡◌, eqb};
 ghost use Rattle.records.specs.Readings.{count_told, amount_told, nine_told, sums_told, is_told, over_told};
 ghost use Rattle.records.specs.Readings.{whole, full, Reads};
 
 use page::lines::{feeds_before, line_start};
-use page::{Amount, Number, amount, count};
+use page::{amount, count};
 use tally::sums::Sums;
 use tally::{LINES, combining};
 
@@ -28,19 +28,13 @@ pub struct Reading {
 fn count_of(text: &[u8], name: &[u8]) -> u32
     ensures { result ≡ count_told name.now text.now }
 {
-    match count(text, name, LINES) {
-        Number::Of(n) => n,
-        Number::None => NO_COUNT,
-    }
+    count(text, name, LINES).unwrap_or(NO_COUNT)
 }
 
 fn amount_of(text: &[u8], name: &[u8]) -> i64
     ensures { result ≡ amount_told name.now text.now }
 {
-    match amount(text, name) {
-        Amount::Of(z) => z,
-        Amount::None => NO_AMOUNT,
-    }
+    amount(text, name).unwrap_or(NO_AMOUNT)
 }
 
 fn stops_of(text: &[u8]) -> [u32; 9]
@@ -74,51 +68,30 @@ fn sums_of(text: &[u8]) -> Sums
 }
 
 // The number that such a report tells is 0 or 46.
-fn is_either(n: u32) -> bool
-    ensures { result ≡ (eqb n 0 || eqb n 46) }
-{
-    if n == 0 {
-        return true;
-    }
-    n == 46
-}
-
-fn is_told(number: Number) -> bool
+fn is_told(number: Option<u32>) -> bool
     ensures { result ≡ is_told number }
 {
-    match number {
-        Number::Of(n) => is_either(n),
-        Number::None => false,
-    }
+    matches!(number, Some(0 | 46))
 }
 
-fn over_told(number: Number) -> bool
+fn over_told(number: Option<u32>) -> bool
     ensures { result ≡ over_told number }
 {
-    match number {
-        Number::Of(n) => n == 46,
-        Number::None => false,
-    }
+    matches!(number, Some(46))
 }
 
 // They can be those of a shift, and as many were paid as is told.
 fn is_whole(sums: Sums) -> bool
     ensures { result ≡ whole sums }
 {
-    if combining::possible(sums) {
-        return combining::paid(sums) == sums.paid;
-    }
-    false
+    combining::possible(sums) && combining::paid(sums) == sums.paid
 }
 
 // As many lines as such a report has: that of parts together tells of no sheet and no allowance.
 fn is_length(lines: usize) -> bool
     ensures { result ≡ (eqb lines 18 || eqb lines 20) }
 {
-    if lines == 18 {
-        return true;
-    }
-    lines == 20
+    matches!(lines, 18 | 20)
 }
 
 // No line is missing, none is there twice, and the last has its end: a report that was cut, or one behind another, is
@@ -127,23 +100,7 @@ fn is_full(text: &[u8]) -> bool
     ensures { result ≡ full text.now }
 {
     let n = text.len();
-    let last = line_start(text, n);
-    let lines = feeds_before(text, n);
-    if last == n {
-        return is_length(lines);
-    }
-    false
-}
-
-fn all(full: bool, told: bool, whole: bool) -> bool
-    ensures { result ≡ (full && (told && whole)) }
-{
-    if full {
-        if told {
-            return whole;
-        }
-    }
-    false
+    line_start(text, n) == n && is_length(feeds_before(text, n))
 }
 
 pub fn read(text: &[u8]) -> Reading
@@ -151,11 +108,8 @@ pub fn read(text: &[u8]) -> Reading
 {
     let number = count(text, b"number ", NUMBERS);
     let sums = sums_of(text);
-    let full = is_full(text);
-    let told = is_told(number);
-    let whole = is_whole(sums);
     Reading {
-        good: all(full, told, whole),
+        good: is_full(text) && is_told(number) && is_whole(sums),
         over: over_told(number),
         sums,
     }

@@ -1,24 +1,21 @@
--- `is_number` goes over the digits: what it has passed are digits.
-use mathlib.Core.Path.{sym, ◌∙◌}
-use Rattle.page.proofs.Digits.{empty_word, passed_none, passed_more, passed_less, passed_all}
+-- `is_number` asks it of each byte.
+use borrow.Author.Rules.{rules}
+use borrow.Author.Tests.{eqb-true, eqb-false}
+use lib.ListN.{length}
+use mathlib.Core.Bool.{true, false}
+use mathlib.Core.Path.{◌≡◌, sym, ◌∙◌}
+use Rattle.std.proofs.lemmas.Iterator.{cases_from_all, YieldsList-from_slice}
+use Rattle.std.specs.Char.{is_ascii_digit}
+use Rattle.page.proofs.Digits.{empty_word, told}
 use Rattle.page.proofs.amounts.is_number.Goals as goal
 
-pub returns-then-word-eq0 : goal.returns-then-word-eq0
-returns-then-word-eq0 c =
-    empty_word c.args.word.now c.if-word-eq0.true
+pub returns-then-not-is_empty : goal.returns-then-not-is_empty
+returns-then-not-is_empty c =
+    told c.args.word.now _ (eqb-false (length c.args.word.now) 0 (sym c.is_empty.ensures ∙ c.if-not-is_empty.true))
+    (cases_from_all _ _ _ (λ b. is_ascii_digit b ≡ true) (λ b. is_ascii_digit b ≡ false) c.all.ensures.ran
+    (YieldsList-from_slice c.args.word.now cc) (λ x q k. search rules) (λ x q k. search rules))
 
-pub loop-i-init : goal.loop-i-init
-loop-i-init c =
-    passed_none c.args.word.now c.if-word-eq0.false
-
-pub returns-then-not-is_digit : goal.returns-then-not-is_digit
-returns-then-not-is_digit c =
-    passed_less c.loop-i.invariant c.loop-i-test.true (sym c.is_digit.ensures ∙ c.if-not-is_digit.true)
-
-pub loop-i-preserved : goal.loop-i-preserved
-loop-i-preserved c =
-    passed_more c.loop-i.invariant c.loop-i-test.true (sym c.is_digit.ensures ∙ c.if-not-is_digit.false)
-
-pub returns : goal.returns
-returns c =
-    passed_all c.loop-i.invariant c.loop-i-test.false
+pub returns-else-not-is_empty : goal.returns-else-not-is_empty
+returns-else-not-is_empty c =
+    rw c.if-not-is_empty.false
+    (empty_word c.args.word.now (eqb-true (length c.args.word.now) 0 (sym c.is_empty.ensures ∙ c.if-not-is_empty.false)))

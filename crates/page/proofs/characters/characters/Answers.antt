@@ -7,16 +7,16 @@ use native.Mathlib.Omega.{arith}
 use Rattle.page.proofs.characters.characters.Goals as goal
 use Rattle.page.proofs.characters.characters.Goals.{else-not-is_inner, then-not-is_inner}
 
-pub loop-i-init : goal.loop-i-init
-loop-i-init c =
-    (omega arith, omega arith, sym (heads_nil c.args.bytes.now))
+pub loop-b-init : goal.loop-b-init
+loop-b-init c =
+    (omega arith, sym (heads_nil c.args.bytes.now))
 
-pub loop-i-preserved : goal.loop-i-preserved
-loop-i-preserved c =
+pub loop-b-preserved : goal.loop-b-preserved
+loop-b-preserved c =
     let t = c.args.bytes.now in
-    let i = c.loop-i.i in
+    let i = c.loop-b.b-index in
     let h : i < length t = omega arith in
     elim c.if-not-is_inner.branch [
-      | then-not-is_inner w ↦ (omega arith, omega arith, omega (arith, heads_more t i h (sym c.is_inner.ensures ∙ w.if-not-is_inner.true)))
-      | else-not-is_inner w ↦ (omega arith, omega arith, omega (arith, heads_same t i h (sym c.is_inner.ensures ∙ w.if-not-is_inner.false)))
+      | then-not-is_inner w ↦ (omega arith, omega (arith, heads_more t i h (sym c.is_inner.ensures ∙ w.if-not-is_inner.true)))
+      | else-not-is_inner w ↦ (omega arith, omega (arith, heads_same t i h (sym c.is_inner.ensures ∙ w.if-not-is_inner.false)))
     ]

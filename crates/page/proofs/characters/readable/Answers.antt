@@ -1,21 +1,20 @@
 -- `readable` goes over the bytes: what is left of them decides, from what is due.
 use mathlib.Core.Path.{sym, ◌∙◌}
+use native.Mathlib.Omega.{arith}
 use Rattle.page.proofs.Letters.{going_none, going_more, going_less, going_all}
 use Rattle.page.proofs.characters.readable.Goals as goal
 
-pub loop-i-init : goal.loop-i-init
-loop-i-init c =
-    going_none c.args.bytes.now
+pub loop-b-init : goal.loop-b-init
+loop-b-init c = going_none c.args.bytes.now
 
-pub returns-then-not-may_follow : goal.returns-then-not-may_follow
-returns-then-not-may_follow c =
-    going_less c.loop-i.invariant c.loop-i-test.true (sym c.may_follow.ensures ∙ c.if-not-may_follow.true)
+pub returns-then-not-takes : goal.returns-then-not-takes
+returns-then-not-takes c =
+    going_less c.loop-b.invariant (omega arith) (sym c.takes.ensures ∙ c.if-not-takes.true)
 
-pub loop-i-preserved : goal.loop-i-preserved
-loop-i-preserved c =
-    going_more c.loop-i.invariant c.loop-i-test.true (sym c.may_follow.ensures ∙ c.if-not-may_follow.false)
-    c.due_after-due.ensures c.low_after-least.ensures c.high_after-most.ensures
+pub loop-b-preserved : goal.loop-b-preserved
+loop-b-preserved c =
+    let e = c.after-due.ensures in
+    going_more c.loop-b.invariant (omega arith) (sym c.takes.ensures ∙ c.if-not-takes.false) e.bytes e.least e.most
 
 pub returns : goal.returns
-returns c =
-    going_all c.loop-i.invariant c.loop-i-test.false
+returns c = going_all c.loop-b.invariant (omega arith)

@@ -9,7 +9,7 @@ use Rattle.page.proofs.lines.feeds_before.Goals.{else-source-i-eq10, then-source
 
 pub loop-i-init : goal.loop-i-init
 loop-i-init c =
-    (omega arith, omega arith, sym (feeds_nil c.args.source.now))
+    (omega arith, sym (feeds_nil c.args.source.now))
 
 pub loop-i-preserved : goal.loop-i-preserved
 loop-i-preserved c =
@@ -17,6 +17,6 @@ loop-i-preserved c =
     let i = c.loop-i.i in
     let h : i < length t = omega arith in
     elim c.if-source-i-eq10.branch [
-      | then-source-i-eq10 w ↦ (omega arith, omega arith, omega (arith, feeds_more t i h w.if-source-i-eq10.true))
-      | else-source-i-eq10 w ↦ (omega arith, omega arith, omega (arith, feeds_same t i h w.if-source-i-eq10.false))
+      | then-source-i-eq10 w ↦ (omega arith, omega (arith, feeds_more t i h w.if-source-i-eq10.true))
+      | else-source-i-eq10 w ↦ (omega arith, omega (arith, feeds_same t i h w.if-source-i-eq10.false))
     ]

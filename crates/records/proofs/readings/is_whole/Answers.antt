@@ -3,9 +3,7 @@ use Rattle.records.proofs.Taken.{is_whole, not_whole}
 use Rattle.records.proofs.readings.is_whole.Goals as goal
 
 pub returns-then-possible : goal.returns-then-possible
-returns-then-possible c =
-    is_whole c.args.sums c.possible.ensures c.if-possible.true c.paid.ensures
+returns-then-possible c = is_whole c.args.sums c.possible.ensures c.if-possible.true c.paid.ensures
 
-pub returns : goal.returns
-returns c =
-    not_whole c.args.sums c.possible.ensures c.if-possible.false
+pub returns-else-possible : goal.returns-else-possible
+returns-else-possible c = rw c.if-possible.false (not_whole c.args.sums c.possible.ensures c.if-possible.false)
