@@ -2,7 +2,7 @@
 use mathlib.Core.List.{List}
 use mathlib.Core.Path.{◌≡◌, refl, sym, ap, subst, ◌∙◌}
 use Prim.Native.Nat.{ℕ, ◌≤◌, ◌<◌}
-use Rattle.std.proofs.Common.{Err}
+use Rattle.std.proofs.Common.{Ok, Err}
 use native.Mathlib.Omega.{arith}
 use lib.ListN.{length}
 use Rattle.language.specs.Sizes.{TOKENS, PAY_COUNT, TABLE}
@@ -22,8 +22,8 @@ use Rattle.layout.proofs.VariablesTrees.{holds_without}
 use Rattle.layout.proofs.VariablesWords.{length_without}
 use Rattle.layout.proofs.Wiped.{zeros_cleared, wiped_without_variables}
 use Rattle.profiles.specs.Profiled as profiles
-use Rattle.profiles.specs.Profiled.{Countable, Answers}
-use Rattle.profiles.specs.declared.Counted.{Counted}
+use Rattle.profiles.specs.Profiled.{Countable, Counted, Answers}
+use Rattle.profiles.specs.declared.Uncounted.TheVariants.{EndlessNode, ManyUnits}
 use Rattle.sheets.specs.Forms.{origin_of, place_of}
 use Rattle.sheets.specs.Sheets.{OfSource, Examined}
 use Rattle.sheets.specs.declared.Form.{Form}
@@ -46,11 +46,11 @@ module _ (first second : List ℕ) (f : Form) where
   counted_told : (edition : ℕ) (w : List ℕ) {ts : List Token} {p : Program} {t : Ty} (count n table : ℕ) (c : Counted) → TABLE ≤ table
       → Passes (origin_of first second f edition) ts p t → Stand w count ts → n ≡ type_number t → Answers c p
       → Profile.Profiled (origin_of first second f edition) table (profiled_report (profiled_of first second f w count n c))
-  counted_told edition w count n table (Counted.Endless i) h a st e x = rw (form_place first second f edition st i) (profile_endless h a x)
-  counted_told edition w count n table Counted.TooMany h a st e x =
+  counted_told edition w count n table (Err (EndlessNode i)) h a st e x = rw (form_place first second f edition st i) (profile_endless h a x)
+  counted_told edition w count n table (Err ManyUnits) h a st e x =
       subst (λ (i : ℕ). Profile.Profiled (origin_of first second f edition) table (profile_report (refused many_units) i 0 0))
       (form_nowhere first second f edition) (profile_many h a x.0 x.1)
-  counted_told edition w count n table (Counted.Units m) h a st e x =
+  counted_told edition w count n table (Ok m) h a st e x =
       subst (λ (i : ℕ). Profile.Profiled (origin_of first second f edition) table (profile_report passed i n m)) (form_nowhere first second f edition)
       (rw (e, x.1) (profile_passed h a x.0 (subst (λ (k : ℕ). k ≤ PAY_COUNT) x.1 x.2)))
 

@@ -4,8 +4,8 @@ use Rattle.language.specs.Sizes.{TABLE}
 use Rattle.language.specs.Profile as Profile
 use Rattle.layout.specs.Table.{zeros}
 use Rattle.numbers.specs.declared.Refusal.{Refusal}
-use Rattle.profiles.specs.Profiled.{Countable}
-use Rattle.profiles.specs.declared.Counted.{Counted}
+use Rattle.profiles.specs.Profiled.{Countable, Counted}
+use Rattle.profiles.specs.declared.Uncounted.TheVariants.{EndlessNode, ManyUnits}
 use Rattle.sheets.specs.Forms.{origin_of, place_of}
 use Rattle.sheets.specs.Sheets.{OfSource}
 use Rattle.sheets.specs.declared.Form.{Form}
@@ -15,10 +15,10 @@ use Rattle.grumpy.specs.Reports.{ProfiledAt, profiled_report}
 -- the answer for a program whose type has the number t, from the words of a table that stands for so many tokens of a
 -- source
 abbrev pub profiled_of : List ℕ → List ℕ → Form → List ℕ → ℕ → ℕ → Counted → ProfiledAt ℕ
-profiled_of first second f w count t (Counted.Endless i) =
+profiled_of first second f w count t (Err (EndlessNode i)) =
     Err (record { why = Refusal.EndlessNode; place = place_of first second f w count i })
-profiled_of first second f w count t Counted.TooMany = Err (record { why = Refusal.ManyUnits; place = 0 })
-profiled_of first second f w count t (Counted.Units n) = Ok (record { type_number = t; count = n })
+profiled_of first second f w count t (Err ManyUnits) = Err (record { why = Refusal.ManyUnits; place = 0 })
+profiled_of first second f w count t (Ok n) = Ok (record { type_number = t; count = n })
 
 -- a sheet that passes can be counted
 abbrev pub Payable : List ℕ → Seen → Type 0

@@ -10,7 +10,7 @@ use crate::answers::{Costs, Profiled};
 use language::TABLE;
 use layout::memory;
 use numbers::Refusal;
-use profiles::Counted;
+use profiles::Uncounted;
 use sheets::{Form, Refused, Seen};
 
 // The answer for a program of this type, in a source whose tokens the table holds.
@@ -21,22 +21,22 @@ fn answer(
     table: &[u32],
     count: usize,
     type_number: u32,
-    counted: Counted,
+    counted: Result<u32, Uncounted>,
 ) -> Profiled<usize>
     requires { (TABLE ≤ length table.now) × (count ≤ TOKENS) }
     ensures { result ≡ profiled_of first.now second.now form table.now count
         type_number counted }
 {
     match counted {
-        Counted::Endless(at) => {
+        Err(Uncounted::EndlessNode(at)) => {
             let place = sheets::place_in(first, second, form, table, count, at);
             Err(Refused {
                 why: Refusal::EndlessNode,
                 place,
             })
         }
-        Counted::TooMany => Err(crate::nowhere(Refusal::ManyUnits)),
-        Counted::Units(count) => Ok(Costs { type_number, count }),
+        Err(Uncounted::ManyUnits) => Err(crate::nowhere(Refusal::ManyUnits)),
+        Ok(count) => Ok(Costs { type_number, count }),
     }
 }
 

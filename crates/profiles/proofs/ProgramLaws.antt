@@ -3,6 +3,7 @@ use mathlib.Core.Bool.{false}
 use mathlib.Core.List.{List, [], ◌∷◌}
 use mathlib.Core.Option.{some}
 use mathlib.Core.Path.{◌≡◌, refl, sym, ap, ap₂, subst, ◌∙◌}
+use Rattle.std.specs.Prelude.{Ok, Err}
 use Prim.Native.Nat.{ℕ, ◌+◌, ◌*◌, ◌-◌, ◌≤◌, ◌<◌}
 use native.Mathlib.Decide.{dec_lt, ℕ_discrete}
 use native.Mathlib.Numerals.{add-one}
@@ -27,9 +28,8 @@ use Rattle.layout.proofs.FunctionLaws.{function_named, function_headed}
 use Rattle.layout.proofs.VariablesTrees.{right_inside, function_alike, holds_alike}
 use Rattle.profiles.specs.Shares.{FULL, going_on, share, body_word, put_share}
 use Rattle.profiles.specs.Passes.{Passed, pass_none, pass_more, Heads, AtRow, PassedTo}
-use Rattle.profiles.specs.Profiled.{Countable, Answers, Beyond, Reckoned, told, Bodied, BodyPassed}
-use Rattle.profiles.specs.declared.Counted.{Counted}
-use Rattle.profiles.specs.declared.Counted.TheVariants.{Endless, TooMany, Units}
+use Rattle.profiles.specs.Profiled.{Countable, Counted, Answers, Beyond, Reckoned, told, Bodied, BodyPassed}
+use Rattle.profiles.specs.declared.Uncounted.TheVariants.{EndlessNode, ManyUnits}
 use Rattle.profiles.proofs.ShareLaws.{going_inside, share_endless, share_ends, count_many, count_few}
 use Rattle.profiles.proofs.PassLaws.{passed_kept, name_kept, heads_kept}
 use Rattle.profiles.proofs.TreeLaws.{tree_share}
@@ -38,15 +38,15 @@ use Rattle.profiles.proofs.SightLaws.{Prices, priced_none, priced_more, prices_k
 -- ---- answers
 
 module _ (s : ℕ) where
-  pub told_endless : FULL < s → told s ≡ Endless (s - FULL - 1)
+  pub told_endless : FULL < s → told s ≡ Err (EndlessNode (s - FULL - 1))
   unfolding told
   told_endless h = rw (lt-ltb FULL s h) refl
 
-  pub told_many : s ≤ FULL → s ≡ FULL → told s ≡ TooMany
+  pub told_many : s ≤ FULL → s ≡ FULL → told s ≡ Err ManyUnits
   unfolding told
   told_many h e = rw (le-ltb FULL s h, eq-eqb s FULL e) refl
 
-  pub told_units : s ≤ FULL → (s ≡ FULL → ⊥) → told s ≡ Units s
+  pub told_units : s ≤ FULL → (s ≡ FULL → ⊥) → told s ≡ Ok s
   unfolding told
   told_units h e = rw (le-ltb FULL s h, ne_eqb s FULL e) refl
 

@@ -1,5 +1,5 @@
 -- What is asked and promised: of every program that the table holds, its first endless node, or its count.
-use Rattle.std.specs.Prelude.{cond, List, ◌≡◌, ℕ, ◌+◌, ◌-◌, ◌≤◌, ◌<◌, eqb, ltb, length, get_or}
+use Rattle.std.specs.Prelude.{Result, Ok, Err, cond, List, ◌≡◌, ℕ, ◌+◌, ◌-◌, ◌≤◌, ◌<◌, eqb, ltb, length, get_or}
 use Rattle.std.proofs.Math.Option.{none, some}
 use Rattle.language.specs.Sizes.{NODES, PAY_COUNT}
 use Rattle.language.specs.Tokens.{Token}
@@ -12,8 +12,8 @@ use Rattle.layout.specs.declared.Held.{Held}
 use Rattle.layout.specs.Functions.{function_name}
 use Rattle.profiles.specs.Shares.{FULL}
 use Rattle.profiles.specs.Passes.{Heads, PassedTo}
-use Rattle.profiles.specs.declared.Counted.{Counted}
-use Rattle.profiles.specs.declared.Counted.TheVariants.{Endless, TooMany, Units}
+use Rattle.profiles.specs.declared.Uncounted.{Uncounted}
+use Rattle.profiles.specs.declared.Uncounted.TheVariants.{EndlessNode, ManyUnits}
 
 -- the table holds some program
 pub record Countable (w : List ℕ) (P : Held) : Type 0 where
@@ -21,11 +21,15 @@ pub record Countable (w : List ℕ) (P : Held) : Type 0 where
   pub program : Program
   pub holds : Holds tokens w P program
 
+-- how many units a program can use, or why they are not counted
+abbrev pub Counted : Type 0
+Counted = Result ℕ Uncounted
+
 -- what the answer says of the program p
 abbrev pub Answers : Counted → Program → Type 0
-Answers (Endless i) p = first_endless p ≡ some i
-Answers TooMany p = (first_endless p ≡ none) × (PAY_COUNT < units_most p)
-Answers (Units n) p = (first_endless p ≡ none) × (n ≡ units_most p) × (n ≤ PAY_COUNT)
+Answers (Err (EndlessNode i)) p = first_endless p ≡ some i
+Answers (Err ManyUnits) p = (first_endless p ≡ none) × (PAY_COUNT < units_most p)
+Answers (Ok n) p = (first_endless p ≡ none) × (n ≡ units_most p) × (n ≤ PAY_COUNT)
 
 -- two tables differ in the words of variables alone
 pub record Beyond (w w' : List ℕ) : Type 0 where
@@ -47,7 +51,7 @@ pub record Profiled (w w' : List ℕ) (P : Held) (r : Counted) : Type 0 where
 
 -- the answer that a share is
 unfoldable pub told : ℕ → Counted
-told s = cond (ltb FULL s) (Endless (s - FULL - 1)) (cond (eqb s FULL) TooMany (Units s))
+told s = cond (ltb FULL s) (Err (EndlessNode (s - FULL - 1))) (cond (eqb s FULL) (Err ManyUnits) (Ok s))
 
 -- function k and those before it have names, and its body is a row
 pub record Bodied (w : List ℕ) (k : ℕ) : Type 0 where

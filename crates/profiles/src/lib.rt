@@ -10,12 +10,11 @@ mod shares;
 use language::NODES;
 use layout::{HELD, Held, TABLE_END, VARIABLES_AT, functions, memory, rows};
 
-// The count of a program's last expression; that it is too large; or the token of the first endless node.
+// Why a program's units are not counted: the token of its first endless node, or that they are too many.
 #[derive(Clone, Copy)]
-pub enum Counted {
-    Endless(u32),
-    TooMany,
-    Units(u32),
+pub enum Uncounted {
+    EndlessNode(u32),
+    ManyUnits,
 }
 
 // What the share of the body of function k comes to.
@@ -30,39 +29,36 @@ fn body(table: &mut [u32], k: usize) -> u32
 }
 
 // The answer that a share is.
-fn told(share: u32) -> Counted
+#[tactic(auto, unfolding(crate::specs::Profiled::told))]
+fn told(share: u32) -> Result<u32, Uncounted>
     ensures { result ≡ told share }
 {
-    if shares::FULL < share {
-        return Counted::Endless(share - shares::FULL - 1);
+    match share {
+        0..shares::FULL => Ok(share),
+        shares::FULL => Err(Uncounted::ManyUnits),
+        _ => Err(Uncounted::EndlessNode(share - shares::FULL - 1)),
     }
-    if share == shares::FULL {
-        return Counted::TooMany;
-    }
-    Counted::Units(share)
 }
 
 // Functions in their order, then the last expression, in which no function is the one that is defined. The
 // variables' words hold shares in the end.
-fn reckon(table: &mut [u32], program: Held) -> Counted
+fn reckon(table: &mut [u32], program: Held) -> Result<u32, Uncounted>
     requires { Countable table.old program }
     ensures { Reckoned table.old table.new program result }
 {
-    let mut k = 0;
-    while k < program.functions {
+    for k in 0..program.functions {
         let share = body(table, k);
         if shares::FULL < share {
             return told(share);
         }
         shares::put(table, NODES + k, share);
-        k += 1;
     }
     let last = passes::pass(table, program.root, HELD, program.functions);
     told(last)
 }
 
-// The same, and the variables' words are cleared.
-pub fn profile(table: &mut [u32], program: Held) -> Counted
+// How many units the program can use. The variables' words are cleared.
+pub fn profile(table: &mut [u32], program: Held) -> Result<u32, Uncounted>
     requires { Countable table.old program }
     ensures { Profiled table.old table.new program result }
 {

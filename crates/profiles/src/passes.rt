@@ -11,15 +11,13 @@ use layout::{functions, rows, token};
 use rules::operators;
 
 // The row of a node's arguments or bounds.
+#[tactic(auto, unfolding(crate::specs::Shares::reach))]
 fn reach(table: &[u32], row: usize) -> usize
     requires { (TABLE ≤ length table.now) × (row < NODES) }
     ensures { result ≡ reach table.now row }
 {
     let named = rows::link(table, row, rows::FIRST);
-    if row < named {
-        return 0;
-    }
-    named
+    if row < named { 0 } else { named }
 }
 
 // One unit for a node, and its arguments or bounds.
@@ -41,34 +39,33 @@ fn find(table: &[u32], seen: usize, name: u32) -> u32
     requires { Heads table.now seen }
     ensures { result ≡ find_share table.now name seen }
 {
-    let mut i = seen;
-    while 0 < i {
-        let k = i - 1;
+    for k in (0..seen).rev() {
         if functions::name(table, k) == name {
             return shares::get(table, NODES + k);
         }
-        i = k;
     }
     0
 }
 
 // The share of a callee's body; a call of the function itself is endless.
+#[tactic(auto, unfolding(crate::specs::Shares::callee_share))]
 fn callee(table: &[u32], row: usize, own_name: u32, seen: usize) -> u32
     requires { AtRow table.now row seen }
     ensures { result ≡ callee_share table.now row own_name seen }
 {
     let own = rows::link(table, row, rows::OWN);
-    if own < TOKENS {
-        let name = token::value(table, own);
-        if name == own_name {
-            return shares::going_on(own as u32);
-        }
-        return find(table, seen, name);
+    if TOKENS <= own {
+        return 0;
     }
-    0
+    let name = token::value(table, own);
+    if name == own_name {
+        return shares::going_on(own as u32);
+    }
+    find(table, seen, name)
 }
 
 // A loop, behind what it works out once or before each pass.
+#[tactic(auto, unfolding(crate::specs::Shares::around_share))]
 fn around(table: &[u32], row: usize, before: u32) -> u32
     requires { (TABLE ≤ length table.now) × (row < NODES) }
     ensures { result ≡ around_share table.now row before }
@@ -79,6 +76,7 @@ fn around(table: &[u32], row: usize, before: u32) -> u32
 }
 
 // A node with so many children and no list.
+#[tactic(auto, unfolding(crate::specs::Shares::over_share))]
 fn over(table: &[u32], row: usize, count: usize) -> u32
     requires { (TABLE ≤ length table.now) × (row < NODES) }
     ensures { result ≡ over_share table.now row count }
@@ -87,15 +85,15 @@ fn over(table: &[u32], row: usize, count: usize) -> u32
         return 1;
     }
     let first = shares::beside(1, shares::part(table, row, rows::FIRST));
-    if count == 1 {
-        return first;
+    match count {
+        1 => first,
+        2 => shares::beside(first, shares::part(table, row, rows::SECOND)),
+        _ => {
+            let second = shares::part(table, row, rows::SECOND);
+            let third = shares::part(table, row, rows::THIRD);
+            shares::beside(first, shares::instead(second, third))
+        }
     }
-    let second = shares::part(table, row, rows::SECOND);
-    if count == 2 {
-        return shares::beside(first, second);
-    }
-    let third = shares::part(table, row, rows::THIRD);
-    shares::beside(first, shares::instead(second, third))
 }
 
 // The share of a row within the function of this name, where the first `seen` functions are in sight.
@@ -104,21 +102,15 @@ fn share(table: &[u32], row: usize, own_name: u32, seen: usize) -> u32
     ensures { RowShare table.now row own_name seen result }
 {
     let kind = rows::word(table, row, rows::KIND);
-    if kind == rows::CALL {
-        let passed = arguments(table, row);
-        let body = callee(table, row, own_name, seen);
-        return shares::beside(passed, body);
+    match kind {
+        rows::CALL => {
+            let passed = arguments(table, row);
+            shares::beside(passed, callee(table, row, own_name, seen))
+        }
+        kinds::WHILE => around(table, row, over(table, row, 1)),
+        _ if operators::counts(kind) => around(table, row, arguments(table, row)),
+        _ => over(table, row, operators::children(kind)),
     }
-    if operators::counts(kind) {
-        let bounds = arguments(table, row);
-        return around(table, row, bounds);
-    }
-    let count = operators::children(kind);
-    if kind == kinds::WHILE {
-        let test = over(table, row, 1);
-        return around(table, row, test);
-    }
-    over(table, row, count)
 }
 
 // The shares of all rows up to one, and of that one.
@@ -126,11 +118,9 @@ pub fn pass(table: &mut [u32], last: usize, own_name: u32, seen: usize) -> u32
     requires { AtRow table.old last seen }
     ensures { PassedTo table.old table.new last own_name seen result }
 {
-    let mut i = 0;
-    while i <= last {
+    for i in 0..last + 1 {
         let found = share(table, i, own_name, seen);
         shares::put(table, i, found);
-        i += 1;
     }
     shares::get(table, last)
 }

@@ -11,26 +11,23 @@ pub const FULL: u32 = PAY_COUNT + 1;
 
 const LAST: u32 = TOKENS as u32;
 
+#[tactic(auto, unfolding(crate::specs::Shares::most))]
 fn most(count: u32) -> u32
     ensures { result ≡ most count }
 {
-    if FULL < count {
-        return FULL;
-    }
-    count
+    count.min(FULL)
 }
 
 // The share of an endless node.
+#[tactic(auto, unfolding(crate::specs::Shares::going_on))]
 pub fn going_on(own: u32) -> u32
     ensures { result ≡ going_on own }
 {
-    if own < LAST {
-        return FULL + 1 + own;
-    }
-    FULL + 1 + LAST
+    FULL + 1 + own.min(LAST)
 }
 
 // Of two trees that are both begun.
+#[tactic(auto, unfolding(crate::specs::Shares::beside))]
 pub fn beside(a: u32, b: u32) -> u32
     ensures { result ≡ beside a b }
 {
@@ -44,6 +41,7 @@ pub fn beside(a: u32, b: u32) -> u32
 }
 
 // Of two trees of which one is begun: the dearer one.
+#[tactic(auto, unfolding(crate::specs::Shares::instead))]
 pub fn instead(a: u32, b: u32) -> u32
     ensures { result ≡ instead a b }
 {
@@ -53,10 +51,7 @@ pub fn instead(a: u32, b: u32) -> u32
     if FULL < b {
         return b;
     }
-    if a < b {
-        return b;
-    }
-    a
+    a.max(b)
 }
 
 // Share i: that of a row, or behind them that of a function's body.
@@ -75,15 +70,13 @@ pub fn put(table: &mut [u32], i: usize, share: u32)
 }
 
 // The row that word k of a row names, which stands before it.
+#[tactic(auto, unfolding(crate::specs::Shares::earlier))]
 pub fn earlier(table: &[u32], row: usize, k: usize) -> usize
     requires { (TABLE ≤ length table.now) × (row < NODES) × (k < 5) }
     ensures { result ≡ earlier table.now row k }
 {
     let named = rows::link(table, row, k);
-    if named < row {
-        return named;
-    }
-    0
+    if named < row { named } else { 0 }
 }
 
 // The share of that row.

@@ -4,6 +4,7 @@ use mathlib.Core.Bool.{Bool, true, false, cond}
 use mathlib.Core.List.{List, ◌∷◌}
 use Rattle.std.specs.Prelude.{Some}
 use Rattle.std.proofs.lemmas.Option.{same_Some}
+use mathlib.Core.Logic.{◌⊎◌, inl, inr}
 use mathlib.Core.Path.{◌≡◌, refl, sym, ap, ap₂, subst, ◌∙◌}
 use Prim.Native.Nat.{ℕ, zero, suc, ◌+◌, ◌≤◌, ◌<◌}
 use native.Mathlib.Numerals.{add-one}
@@ -16,9 +17,9 @@ use Rattle.language.specs.Tokens.{LET, SEMI, WHILE, IF}
 use Rattle.layout.specs.Table.{OWN, token_value, row_word, function_row}
 use Rattle.layout.specs.Functions.{function_name, Headed, find_function}
 use Rattle.layout.specs.Slots.{HELD}
-use Rattle.layout.specs.Notes.{put_name, put_note, names_in}
-use Rattle.layout.specs.Resolved.{slot_of, parameters_in}
-use Rattle.resolver.specs.Resolves.{Wrote, sees, Between, Entered, Binding, Bound}
+use Rattle.layout.specs.Notes.{put_name, names_in}
+use Rattle.layout.specs.Resolved.{parameters_in}
+use Rattle.resolver.specs.Resolves.{Wrote, sees, Between, Entered, Binding}
 use Rattle.resolver.proofs.Writing.{wrote_none, wrote_then, wrote_name, names_put, row_alike, token_alike}
 
 -- ---- a node's second part
@@ -48,14 +49,10 @@ level_by : (t : List ℕ) (node kind size : ℕ)
     → sees kind (token_value t (row_word t node OWN + 1)) (names_in t size) ≡ names_in t size → Between t t node kind size size
 level_by t node kind size s = record { wrote = wrote_none t 0 0 size; names = sym s; more = omega arith; few = omega arith }
 
-pub semi_level : (t : List ℕ) (node kind size : ℕ) → kind ≡ SEMI → Between t t node kind size size
-semi_level t node kind size e = level_by t node kind size (sees_semi kind _ _ e)
-
-pub while_level : (t : List ℕ) (node kind size : ℕ) → kind ≡ WHILE → Between t t node kind size size
-while_level t node kind size e = level_by t node kind size (sees_while kind _ _ e)
-
-pub if_level : (t : List ℕ) (node kind size : ℕ) → kind ≡ IF → Between t t node kind size size
-if_level t node kind size e = level_by t node kind size (sees_if kind _ _ e)
+pub level : (t : List ℕ) (node kind size : ℕ) → (kind ≡ WHILE) ⊎ ((kind ≡ IF) ⊎ (kind ≡ SEMI)) → Between t t node kind size size
+level t node kind size (inl e) = level_by t node kind size (sees_while kind _ _ e)
+level t node kind size (inr (inl e)) = level_by t node kind size (sees_if kind _ _ e)
+level t node kind size (inr (inr e)) = level_by t node kind size (sees_semi kind _ _ e)
 
 module _ (t u : List ℕ) (node kind size x : ℕ) (long : TABLE ≤ length t) (few : size < TOKENS) (is : u ≡ put_name t size x) where
   bound_by : sees kind (token_value t (row_word t node OWN + 1)) (names_in t size) ≡ x ∷ names_in t size
@@ -159,11 +156,6 @@ module _ {t u : List ℕ} {row count i : ℕ} (b : Binding t row count) (h : Tak
             h.names);
       }
 
-pub taken_all : {t u : List ℕ} {row count i : ℕ} → Taken t u row count i → count ≤ i → Bound t u row count
-taken_all {t} {u} {row} {count} {i} h l =
-    let e : i ≡ count = omega (arith, h.few, l) in
-    record { wrote = h.wrote; names = subst (λ (k : ℕ). names_in u k ≡ parameters_in t row k) e h.names }
-
 -- ---- the function that a call means
 
 pub found_inside : (t : List ℕ) (x defs : ℕ) {r : ℕ} → ((k : ℕ) → k < defs → Headed t k) → find_function t x defs ≡ Some r → r < NODES
@@ -174,11 +166,3 @@ found_inside t x (suc n) {r} h e = go (eqb x (function_name t n)) e (λ d. found
     go : (b : Bool) → cond b (Some (function_row t n)) (find_function t x n) ≡ Some r → (find_function t x n ≡ Some r → r < NODES) → r < NODES
     go true d before = omega (arith, (h n (omega arith)).row, same_Some _ _ d)
     go false d before = before d
-
--- ---- a name
-
-pub name_noted : (t u : List ℕ) (node size i x s : ℕ) → i ≡ row_word t node OWN → x ≡ token_value t i → s ≡ slot_of x (names_in t size)
-    → u ≡ put_note t i s
-    → u ≡ put_note t (row_word t node OWN) (slot_of (token_value t (row_word t node OWN)) (names_in t size))
-name_noted t u node size i x s p q r e =
-    e ∙ ap₂ (λ (k y : ℕ). put_note t k y) p (r ∙ ap (λ (z : ℕ). slot_of z (names_in t size)) (q ∙ ap (λ (k : ℕ). token_value t k) p))

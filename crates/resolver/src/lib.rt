@@ -15,12 +15,10 @@ fn parameters(table: &mut [u32], row: usize, count: usize)
     requires { Binding table.old row count }
     ensures { Bound table.old table.new row count }
 {
-    let mut i = 0;
-    while i < count {
+    for i in 0..count {
         let own = rows::link(table, row + 1 + i, rows::OWN);
         let name = token::value(table, own);
         notes::put_name(table, i, name);
-        i += 1;
     }
 }
 

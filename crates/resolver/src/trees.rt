@@ -19,13 +19,10 @@ fn slot(table: &[u32], size: usize, number: u32) -> u32
     requires { (TABLE ≤ length table.now) × (size ≤ TOKENS) }
     ensures { result ≡ slot_of number (names_in table.now size) }
 {
-    let mut i = size;
-    while 0 < i {
-        let k = i - 1;
+    for k in (0..size).rev() {
         if notes::name(table, k) == number {
             return k as u32;
         }
-        i = k;
     }
     0
 }
@@ -49,23 +46,19 @@ fn between(table: &mut [u32], node: usize, kind: u32, size: usize) -> usize
         × (row_word table.old node OWN + 1 < TOKENS) }
     ensures { Between table.old table.new node kind size result }
 {
-    if kind == kinds::LET {
-        let own = rows::link(table, node, rows::OWN);
-        let number = token::value(table, own + 1);
-        notes::put_name(table, size, number);
-        return size + 1;
+    match kind {
+        kinds::SEMI | kinds::WHILE | kinds::IF => size,
+        kinds::LET => {
+            let own = rows::link(table, node, rows::OWN);
+            let number = token::value(table, own + 1);
+            notes::put_name(table, size, number);
+            size + 1
+        }
+        _ => {
+            notes::put_name(table, size, HELD);
+            size + 1
+        }
     }
-    if kind == kinds::SEMI {
-        return size;
-    }
-    if kind == kinds::WHILE {
-        return size;
-    }
-    if kind == kinds::IF {
-        return size;
-    }
-    notes::put_name(table, size, HELD);
-    size + 1
 }
 
 // The tree at `node`, where `size` slots of its frame are in use.
@@ -75,17 +68,11 @@ pub fn place(table: &mut [u32], node: usize, defs: usize, size: usize)
     ensures { Places table.old table.new node defs size }
 {
     let kind = rows::word(table, node, rows::KIND);
-    if kind == kinds::NAME {
-        name(table, node, size);
-        return;
-    }
-    if kind == rows::CALL {
-        call(table, node, defs, size);
-        return;
-    }
-    if operators::counts(kind) {
-        counted(table, node, defs, size);
-        return;
+    match kind {
+        kinds::NAME => return name(table, node, size),
+        rows::CALL => return call(table, node, defs, size),
+        _ if operators::counts(kind) => return counted(table, node, defs, size),
+        _ => (),
     }
     let count = operators::children(kind);
     if count == 0 {

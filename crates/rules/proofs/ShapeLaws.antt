@@ -16,7 +16,7 @@ use Rattle.language.proofs.Executable.Checks.{ok, after_ok}
 use Rattle.language.proofs.Executable.Checker.{literal_type, infer}
 use Rattle.layout.specs.Rows.{PREFIX, literal_kind, binary_kind}
 use Rattle.layout.specs.Decode.{Shape, a_for, shape_of, counts, build}
-use Rattle.layout.proofs.Shapes.{shape_kind, kind_of_shape, range_counts, unary_high, binary_between, children_by_entries, children_most}
+use Rattle.layout.proofs.Shapes.{shape_kind, kind_of_shape, range_counts, unary_high, binary_between, children_by_entries}
 use Rattle.layout.proofs.Shapes.{Parted, is_name, is_number, is_float, is_constant, is_call, is_for, is_unary, is_group, is_block}
 use Rattle.layout.proofs.Shapes.{is_binary, is_follow, is_let, is_while, parted}
 use Rattle.rules.specs.Asked.{Typing, Tells, Children, Constant, AsksOne, AsksTwo, Prefixed, Between, Follows, Repeats}
@@ -45,10 +45,6 @@ children_are k e s h = sym e ∙ sym (children_by_entries children_by tt k h)
 -- the same, of a row
 pub children_as : {k j m n : ℕ} → k ≡ j → m ≡ n → Children k m → Children j n
 children_as e d h = subst₂ (λ (k m : ℕ). Children k m) e d h
-
--- a node that has neither none, one nor two has three
-pub children_rest : {k j m : ℕ} → k ≡ j → (m ≡ 0 → ⊥) → (m ≡ 1 → ⊥) → (m ≡ 2 → ⊥) → Children k m → Children j 3
-children_rest {k} {j} {m} e x y z h s d = let a = h s (ap shape_of e ∙ d) in let b = children_most j d in omega arith
 
 -- a `for` is told by its kind
 pub for_shape : (k : ℕ) → counts k ≡ true → (b : Bool) × (shape_of k ≡ some (a_for b))

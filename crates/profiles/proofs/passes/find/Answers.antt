@@ -6,14 +6,11 @@ use Rattle.profiles.proofs.passes.find.Goals as goal
 pub returns-then-name : goal.returns-then-name
 returns-then-name c =
     c.get.ensures
-    ∙ sym (c.loop-i.invariant.1 ∙ body_here _ _ (omega (arith, c.loop-i-test.true))
-    (sym c.name.ensures ∙ c.if-name.true))
+    ∙ sym (c.loop-k.invariant ∙ body_here _ _ (omega (arith, c.loop-k-test.true)) (sym c.name.ensures ∙ c.if-name.true))
 
-pub loop-i-preserved : goal.loop-i-preserved
-loop-i-preserved c = (
-  omega (arith, c.loop-i.invariant.0),
-  c.loop-i.invariant.1 ∙ body_past _ _ (omega (arith, c.loop-i-test.true)) (λ e. c.if-name.false (c.name.ensures ∙ e)),
-)
+pub loop-k-preserved : goal.loop-k-preserved
+loop-k-preserved c =
+    c.loop-k.invariant ∙ body_past _ _ (omega (arith, c.loop-k-test.true)) (λ e. c.if-name.false (c.name.ensures ∙ e))
 
 pub returns : goal.returns
-returns c = sym (c.loop-i.invariant.1 ∙ body_none _ _ (omega (arith, c.loop-i-test.false)))
+returns c = sym (c.loop-k.invariant ∙ body_none _ _ (omega (arith, c.loop-k-test.false)))

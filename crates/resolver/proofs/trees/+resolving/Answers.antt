@@ -108,18 +108,17 @@ place-word-kind-requires t c = (c.requires.job.scene.long, inside c.requires, om
 
 pub place-name-requires : goal.place-name-requires
 place-name-requires t c =
-    let h = name_ready c.requires (sym c.word-kind.ensures ∙ c.if-kind-eq-NAME.true) in
+    let h = name_ready c.requires (sym c.word-kind.ensures ∙ c.in-1.is) in
     (c.requires.job.scene.long, inside c.requires, h.0, h.1)
 
-pub place-returns-then-kind-eq-NAME : goal.place-returns-then-kind-eq-NAME
-place-returns-then-kind-eq-NAME t c =
-    name_done (sym c.word-kind.ensures ∙ c.if-kind-eq-NAME.true) c.name.ensures
+pub place-returns-in-1 : goal.place-returns-in-1
+place-returns-in-1 t c =
+    name_done (sym c.word-kind.ensures ∙ c.in-1.is) c.name.ensures
 
 pub place-returns-then-count-eq0 : goal.place-returns-then-count-eq0
 place-returns-then-count-eq0 t c =
     leaf_done (children_as c.word-kind.ensures refl c.children-count.ensures) c.if-count-eq0.true
-    (λ e. c.if-kind-eq-NAME.false (c.word-kind.ensures ∙ e))
-    (λ e. c.if-kind-eq-CALL.false (c.word-kind.ensures ∙ e))
+    (λ e. omega (arith, c.word-kind.ensures)) (λ e. omega (arith, c.word-kind.ensures))
     (λ e. false≢true (sym c.if-counts.false ∙ c.counts.ensures ∙ ap counts c.word-kind.ensures ∙ e))
 
 pub place-link-first-requires : goal.place-link-first-requires
