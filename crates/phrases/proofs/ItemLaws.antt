@@ -32,6 +32,8 @@ module _ {count n f : ℕ} {w w₁ : List ℕ} {g : Part} where
       → (kind_of w count n ≡ FOR → ⊥) → Yields (Assign n) count w n f g w₁ → Yields (Clause n) count w n f g w₁
   clause_assign h i j k a = same g a (λ ts s r x. S.clause_assign (not_at n s h) (not_at n s i) (not_at n s j) (not_at n s k) x)
 
+pub ruleset clause_ways = (clause_let, clause_for, clause_assign)
+
 -- ---- if
 
 module _ {count n f : ℕ} {w w₁ : List ℕ} (h : kind_of w count n ≡ IF) where

@@ -50,6 +50,7 @@ pub fn seq(table: &mut [u32], count: usize, at: usize, free: usize) -> Read
 
 // A Tail or an Item, which the first token does not tell: an `if` is a Tail where its last part is one.
 #[cycle(phrases)]
+#[tactic(auto, using(crate::proofs::ItemLaws::clause_ways))]
 fn clause(table: &mut [u32], count: usize, at: usize, free: usize) -> Read
     requires { Room count table.old at free }
     ensures { Yields (Clause at) count table.old at free result table.new }

@@ -6,15 +6,6 @@ mod Names
 mod Tiers
 use Rattle.phrases.proofs.+phrases.Goals as goal
 
-pub items::clause-returns-in-4 : goal.items::clause-returns-in-4
-items::clause-returns-in-4 = Items.clause-returns-in-4
-
-pub items::clause-returns-in-43 : goal.items::clause-returns-in-43
-items::clause-returns-in-43 = Items.clause-returns-in-43
-
-pub items::clause-returns-in_default : goal.items::clause-returns-in_default
-items::clause-returns-in_default = Items.clause-returns-in_default
-
 pub items::if_else-until-read-requires : goal.items::if_else-until-read-requires
 items::if_else-until-read-requires = Items.if_else-until-read-requires
 

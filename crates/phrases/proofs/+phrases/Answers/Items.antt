@@ -2,23 +2,11 @@
 use mathlib.Core.Path.{refl, sym, ◌∙◌}
 use native.Mathlib.Omega.{arith}
 use Rattle.phrases.proofs.Moving.{top_fits, later, later_with}
-use Rattle.phrases.proofs.ItemLaws.{clause_let, clause_for, clause_assign, if_none, then_none, if_all, body, while_none, while_all}
+use Rattle.phrases.proofs.ItemLaws.{if_none, then_none, if_all, body, while_none, while_all}
 use Rattle.phrases.proofs.Standing.{within}
 use Rattle.phrases.proofs.Answering.{back, known}
 use Rattle.phrases.proofs.SeqLaws.{let_name, let_is, let_none, let_all, seq_none, seq_one, seq_more, until_here, until_other, until_none}
 use Rattle.phrases.proofs.+phrases.Goals as goal
-
-pub clause-returns-in-4 : goal.items::clause-returns-in-4
-clause-returns-in-4 t c =
-    clause_let (sym c.kind.ensures ∙ c.in-4.is) c.let_in.ensures
-
-pub clause-returns-in-43 : goal.items::clause-returns-in-43
-clause-returns-in-43 t c =
-    clause_for (sym c.kind.ensures ∙ c.in-43.is) c.for_in.ensures
-
-pub clause-returns-in_default : goal.items::clause-returns-in_default
-clause-returns-in_default t c =
-    clause_assign (omega arith) (omega arith) (omega arith) (omega arith) c.assign.ensures
 
 pub if_else-until-read-requires : goal.items::if_else-until-read-requires
 if_else-until-read-requires t c =
