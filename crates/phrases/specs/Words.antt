@@ -1,6 +1,6 @@
 -- What a reader answers, as the one word in which it goes from reader to reader.
 use Rattle.std.specs.Prelude.{◌≡◌, ℕ, zero, suc, ◌+◌, ◌*◌, ◌/◌, ◌%◌, Result, Ok, Err, refl}
-use Rattle.std.proofs.Common.{◌∙◌, arith}
+use Rattle.std.proofs.Common.{sym, ◌∙◌, zero-add}
 use Rattle.std.proofs.Math.Nat.{div-add-mod}
 use Rattle.phrases.specs.declared.parts.Tree.{Tree}
 use Rattle.phrases.specs.declared.parts.Failed.{Failed}
@@ -34,7 +34,7 @@ word_of (Err e) = e.at
 
 word_of_parted : (k m : ℕ) → word_of (parted k m) ≡ REACH * k + m
 unfolding parted word_of
-word_of_parted zero m = omega arith
+word_of_parted zero m = sym (zero-add m)
 word_of_parted (suc j) m = refl
 
 -- a word tells all of its part, and no more

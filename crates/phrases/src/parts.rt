@@ -24,10 +24,10 @@ pub struct Failed {
     pub at: usize,
 }
 
-// What a reader answers: a tree, or where there is none. It goes from reader to reader as one word: the first free
-// row, 0 where reading failed, and the token. The root is the row before the free one. The `Result` itself, handed on by
-// `?`, was tried: even with a tree of one word it takes 192 bytes of stack for each token on wasm32, where this takes
-// 80, and that is more than the header promises; on the machines for ARM it takes half as much again.
+// What a reader answers: a tree, or where there is none. It goes from reader to reader as one word: the first
+// free row, 0 where reading failed, and the token. The root is the row before the free one. The `Result` itself,
+// handed on by `?`, was tried: even with a tree of one word it takes 192 bytes of stack for each token on wasm32,
+// where this takes 80, and that is more than the header promises; on ARM it takes half as much again.
 #[derive(Clone, Copy)]
 pub struct Read {
     word: u32,
@@ -102,8 +102,9 @@ pub fn node(
     Read::tree(free as u32, next)
 }
 
-// The functions below write a node behind the last of its parts, and hand on where that failed. They differ in the links
-// of its row and in the token behind it: as one function each call would give all of these, which the names say.
+// The functions below write a node behind the last of its parts, and hand on where that failed. They differ in
+// the links of its row and in the token behind it: as one function each call would give all of these, which the
+// names say.
 
 // A node over one part.
 pub fn over(table: &mut [u32], kind: u32, own: usize, read: Read) -> Read
