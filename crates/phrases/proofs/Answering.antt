@@ -11,6 +11,7 @@ use Rattle.layout.specs.Table.{put_row, without_rows}
 use Rattle.layout.specs.Names.{Stand}
 use Rattle.layout.specs.Rows.{below, lay}
 use Rattle.phrases.specs.Parts.{Told, On, Answer, Yields, Written, Topped}
+use Rattle.phrases.specs.declared.parts.Failed.{Failed}
 use Rattle.phrases.specs.declared.parts.Tree.{Tree}
 use Rattle.phrases.specs.Words.{Part, tree_at, none_at}
 use Rattle.phrases.proofs.Standing.{stand_lay}
@@ -24,6 +25,12 @@ known {T} {count} {n} {f} {lo} {hi} {w} {w'} a e = subst (λ (x : Part). Answer 
 pub back : {T : Told Exp} {count n f lo hi : ℕ} {w w' : List ℕ} {g h : Part} → Answer T count w n f lo hi h w' → g ≡ h
     → Answer T count w n f lo hi g w'
 back a e = known a (sym e)
+
+-- a failure, handed on as the word that tells it
+pub handed : {T U : Told Exp} {count n f lo hi n₁ f₁ l₁ h₁ : ℕ} {w v w' : List ℕ} {g : Part} {e : Failed}
+    → Answer U count v n₁ f₁ l₁ h₁ g w' → g ≡ Err e
+    → (Answer U count v n₁ f₁ l₁ h₁ (none_at e.at) w' → Answer T count w n f lo hi (none_at e.at) w') → Answer T count w n f lo hi g w'
+handed a e h = back (h (known a e)) e
 
 -- where the last part was a tree, a row was written behind it
 pub written : (put : List ℕ → ℕ → ℕ → List ℕ) (behind : ℕ → ℕ) {g h : Part} {w w' : List ℕ} {t : Tree} → g ≡ Ok t

@@ -12,9 +12,12 @@ use Rattle.language.proofs.Executable.SettlesExpressions as S
 use Rattle.layout.specs.Table.{kind_of, put_row}
 use Rattle.layout.specs.Rows.{below, lay}
 use Rattle.phrases.specs.Parts.{Told, Yields, Halts, Topped, Clause, Let, For, Assign, Until}
-use Rattle.phrases.specs.Words.{Part, tree_at, none_at}
+use Rattle.std.specs.Prelude.{Ok, Err}
+use Rattle.phrases.specs.declared.parts.Failed.{Failed}
+use Rattle.phrases.specs.declared.parts.Tree.{Tree}
+use Rattle.phrases.specs.Words.{Part, tree_at}
 use Rattle.phrases.proofs.Standing.{at, not_at}
-use Rattle.phrases.proofs.Answering.{after, fails_first, fails_second, same, tops, over_one, over_two}
+use Rattle.phrases.proofs.Answering.{known, handed, after, fails_first, fails_second, same, tops, over_one, over_two}
 
 -- ---- clause
 
@@ -38,14 +41,15 @@ pub ruleset clause_ways = (clause_let, clause_for, clause_assign)
 
 module _ {count n f : ℕ} {w w₁ : List ℕ} (h : kind_of w count n ≡ IF) where
   -- no test, or no `then` behind it
-  pub if_none : {e : ℕ} → Halts (Until THEN (n + 1)) count w (n + 1) f (none_at e) w₁ → Yields (Clause n) count w n f (none_at e) w₁
-  if_none a = fails_first a (λ ts s x. S.if_failed (at n s h) x)
+  pub if_none : {g : Part} {e : Failed} → Halts (Until THEN (n + 1)) count w (n + 1) f g w₁ → g ≡ Err e → Yields (Clause n) count w n f g w₁
+  if_none a q = handed a q (λ b. fails_first b (λ ts s x. S.if_failed (at n s h) x))
+
+  -- no part behind `then`, or no `else` behind that
+  pub then_none : {g₁ g : Part} {t : Tree} {e : Failed} {w₂ : List ℕ} → Halts (Until THEN (n + 1)) count w (n + 1) f g₁ w₁ → g₁ ≡ Ok t
+      → Halts (Until ELSE (t.next + 1)) count w₁ (t.next + 1) t.free g w₂ → g ≡ Err e → Yields (Clause n) count w n f g w₂
+  then_none a p b q = handed b q (λ d. fails_second (known a p) d (λ ts s x p q. S.then_failed (at n s h) p q))
 
   module _ {r m k : ℕ} {w₂ : List ℕ} (a : Halts (Until THEN (n + 1)) count w (n + 1) f (tree_at r m k) w₁) where
-    -- no part behind `then`, or no `else` behind that
-    pub then_none : {e : ℕ} → Halts (Until ELSE (m + 1)) count w₁ (m + 1) k (none_at e) w₂ → Yields (Clause n) count w n f (none_at e) w₂
-    then_none b = fails_second a b (λ ts s x p q. S.then_failed (at n s h) p q)
-
     -- both, and another clause or none behind `else`
     pub if_all : {r₂ m₂ k₂ : ℕ} {w₃ w₄ : List ℕ} {g z : Part} → Halts (Until ELSE (m + 1)) count w₁ (m + 1) k (tree_at r₂ m₂ k₂) w₂
         → Yields (Clause (m₂ + 1)) count w₂ (m₂ + 1) k₂ g w₃ → Topped (λ u i j. put_row u i IF n r r₂ j) (λ l. l) g w₃ z w₄
@@ -105,8 +109,9 @@ unlooped ts a p (unbraced q) = S.while_block a p q
 
 module _ {count n f : ℕ} {w w₁ : List ℕ} (h : kind_of w count n ≡ WHILE) where
   -- no test, or no `{` behind it
-  pub while_none : {e : ℕ} → Halts (Until LBRACE (n + 1)) count w (n + 1) f (none_at e) w₁ → Yields (Clause n) count w n f (none_at e) w₁
-  while_none a = fails_first a (λ ts s x. S.while_failed (at n s h) x)
+  pub while_none : {g : Part} {e : Failed} → Halts (Until LBRACE (n + 1)) count w (n + 1) f g w₁ → g ≡ Err e
+      → Yields (Clause n) count w n f g w₁
+  while_none a q = handed a q (λ b. fails_first b (λ ts s x. S.while_failed (at n s h) x))
 
   -- a test, `{`, and a body or none
   pub while_all : {r m k : ℕ} {w₂ w₃ : List ℕ} {g z : Part} → Halts (Until LBRACE (n + 1)) count w (n + 1) f (tree_at r m k) w₁

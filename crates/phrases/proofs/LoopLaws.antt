@@ -16,10 +16,11 @@ use Rattle.language.proofs.Executable.SettlesLoops as S
 use Rattle.layout.specs.Table.{kind_of, put_row}
 use Rattle.layout.specs.Rows.{ARGUMENT, range_kind, below, under, head, lay, lay_all}
 use Rattle.phrases.specs.Parts.{Told, in_table, Yields, YieldsAll, Written, Topped, Tier, For, Bounds, Ends}
+use Rattle.phrases.specs.declared.parts.Failed.{Failed}
 use Rattle.phrases.specs.Words.{Part, tree_at, none_at}
 use Rattle.phrases.proofs.Standing.{at, not_at}
 use Rattle.phrases.proofs.RowKinds.{stands_for_none}
-use Rattle.phrases.proofs.Answering.{fails, fails_first, fails_behind, tops}
+use Rattle.phrases.proofs.Answering.{handed, fails, fails_first, fails_behind, tops}
 use Rattle.phrases.proofs.Listing.{after_all, lists_last, lists_more}
 use Rattle.phrases.proofs.ItemLaws.{Braced, braced, unbraced, Block}
 
@@ -95,8 +96,9 @@ module _ {count n f : ℕ} {w : List ℕ} (h : kind_of w count n ≡ FOR) where
 
     module _ {w₁ : List ℕ} (j : kind_of w count (n + 2) ≡ IN) where
       -- no start
-      pub start_none : {e : ℕ} → Yields (Tier 1 (n + 3)) count w (n + 3) f (none_at e) w₁ → Yields (For n) count w n f (none_at e) w₁
-      start_none a = fails_first a (λ ts s x. S.for_failed (at n s h) (at (n + 1) s i) (at (n + 2) s j) (S.bounds_failed x))
+      pub start_none : {g : Part} {e : Failed} → Yields (Tier 1 (n + 3)) count w (n + 3) f g w₁ → g ≡ Err e → Yields (For n) count w n f g w₁
+      start_none a q =
+          handed a q (λ b. fails_first b (λ ts s x. S.for_failed (at n s h) (at (n + 1) s i) (at (n + 2) s j) (S.bounds_failed x)))
 
       -- a start, and neither `..` nor `..=`, the kind of the token being c
       pub start_other : {c r m k : ℕ} → Yields (Tier 1 (n + 3)) count w (n + 3) f (tree_at r m k) w₁ → c ≡ kind_of w₁ count m

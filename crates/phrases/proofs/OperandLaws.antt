@@ -13,23 +13,29 @@ use Rattle.language.proofs.Executable.SettlesExpressions as S
 use Rattle.layout.specs.Table.{kind_of, put_row}
 use Rattle.layout.specs.Rows.{PREFIX, below, lay, literal_kind, binary_kind}
 use Rattle.phrases.specs.Parts.{in_table, Yields, Halts, Written, Topped, Assign, Tier, Un, Atom, Until}
+use Rattle.std.specs.Prelude.{Ok, Err}
+use Rattle.phrases.specs.declared.parts.Failed.{Failed}
+use Rattle.phrases.specs.declared.parts.Tree.{Tree}
 use Rattle.phrases.specs.Words.{Part, tree_at, none_at}
 use Rattle.phrases.proofs.Standing.{at, not_at, within}
 use Rattle.phrases.proofs.RowKinds.{stands_for, stands_for_none, prefix_row, constant_row}
-use Rattle.phrases.proofs.Answering.{fails, fails_first, keeps, same, single, over_one, over_two}
+use Rattle.phrases.proofs.Answering.{known, back, handed, fails, fails_first, keeps, same, single, over_one, over_two}
 
 module _ {count n f : ℕ} {w w₁ : List ℕ} where
   -- ---- assign
 
   -- no Or
-  pub assign_none : {e : ℕ} → Yields (Tier 1 n) count w n f (none_at e) w₁ → Yields (Assign n) count w n f (none_at e) w₁
-  assign_none a = fails_first a (λ ts s x. S.assign_failed x)
+  pub assign_none : {g : Part} {e : Failed} → Yields (Tier 1 n) count w n f g w₁ → g ≡ Err e → Yields (Assign n) count w n f g w₁
+  assign_none a q = handed a q (λ b. fails_first b (λ ts s x. S.assign_failed x))
+
+  -- an Or, and no `:=`
+  pub assign_one : {g : Part} {t : Tree} → Yields (Tier 1 n) count w n f g w₁ → g ≡ Ok t → (kind_of w₁ count t.next ≡ BECOMES → ⊥)
+      → Yields (Assign n) count w n f g w₁
+  assign_one {t = t} b q h = let a = known b q in back (keeps a a.ahead (λ ts s v x p. S.assign_one p (not_at t.next v h))) q
+
+  pub ruleset assign_ways = (assign_none, assign_one)
 
   module _ {r m k : ℕ} (a : Yields (Tier 1 n) count w n f (tree_at r m k) w₁) where
-    -- an Or, and no `:=`
-    pub assign_one : (kind_of w₁ count m ≡ BECOMES → ⊥) → Yields (Assign n) count w n f (tree_at r m k) w₁
-    assign_one h = keeps a a.ahead (λ ts s v x p. S.assign_one p (not_at m v h))
-
     -- an Or, `:=`, and another Or or none
     pub assign_to : {w₂ w₃ : List ℕ} {g z : Part} → kind_of w₁ count m ≡ BECOMES → Yields (Tier 1 (m + 1)) count w₁ (m + 1) k g w₂
         → Topped (λ u i j. put_row u i BECOMES m r j 0) (λ l. l) g w₂ z w₃ → Yields (Assign n) count w n f z w₃

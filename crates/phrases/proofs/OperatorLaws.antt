@@ -19,10 +19,11 @@ use Rattle.layout.specs.Names.{Stand}
 use Rattle.layout.specs.Rows.{below, lay, binary_kind}
 use Rattle.layout.proofs.TableLaws.{kind_within, without_put_row}
 use Rattle.phrases.specs.Parts.{Room, Yields, Continues, Tier, Un}
+use Rattle.phrases.specs.declared.parts.Failed.{Failed}
 use Rattle.phrases.specs.Words.{Part, tree_at, none_at}
 use Rattle.phrases.proofs.Standing.{stand_row}
 use Rattle.phrases.proofs.RowKinds.{joins_row}
-use Rattle.phrases.proofs.Answering.{after, fails_first}
+use Rattle.phrases.proofs.Answering.{handed, after, fails_first}
 
 -- ---- numbers
 
@@ -54,8 +55,8 @@ follows p v c h a b d = go (eqb p 4) refl h
 
 module _ {count n f v : ℕ} {w w₁ : List ℕ} where
   -- no Un
-  pub tier_none : {e : ℕ} → v ≤ 7 → Yields (Un n) count w n f (none_at e) w₁ → Yields (Tier v n) count w n f (none_at e) w₁
-  tier_none h a = fails_first a (λ ts s x. climb_failed 7 v h x)
+  pub tier_none : {g : Part} {e : Failed} → Yields (Un n) count w n f g w₁ → g ≡ Err e → v ≤ 7 → Yields (Tier v n) count w n f g w₁
+  tier_none a q h = handed a q (λ b. fails_first b (λ ts s x. climb_failed 7 v h x))
 
   -- a Un, and what the operators behind it come to
   pub tier_first : {r m k : ℕ} {w₂ : List ℕ} (g : Part) → Yields (Un n) count w n f (tree_at r m k) w₁ → Continues v 7 count w₁ m r k g w₂

@@ -9,57 +9,63 @@ use Rattle.language.proofs.Executable.SettlesExpressions as S
 use Rattle.layout.specs.Table.{kind_of, put_row}
 use Rattle.layout.specs.Rows.{below, lay}
 use Rattle.phrases.specs.Parts.{Yields, Halts, Topped, Seq, Clause, Let, Until}
+use Rattle.phrases.specs.declared.parts.Failed.{Failed}
+use Rattle.phrases.specs.declared.parts.Tree.{Tree}
+use Rattle.std.specs.Prelude.{Ok, Err}
 use Rattle.phrases.specs.Words.{Part, tree_at, none_at}
 use Rattle.phrases.proofs.Standing.{at, not_at, within}
-use Rattle.phrases.proofs.Answering.{fails, fails_first, fails_behind, keeps, over_two}
+use Rattle.phrases.proofs.Answering.{known, back, handed, fails, fails_first, fails_behind, keeps, over_two}
 
 module _ {count n f : ℕ} {w w₁ : List ℕ} where
   -- ---- until
 
   -- the mark stands behind the Seq
-  pub until_here : {mark r m k : ℕ} → 1 ≤ mark → Yields (Seq n) count w n f (tree_at r m k) w₁ → kind_of w₁ count m ≡ mark
-      → Halts (Until mark n) count w n f (tree_at r m k) w₁
-  until_here {mark} {m = m} p a h =
-      let i = within w₁ count m mark h p in
+  pub until_here : {mark : ℕ} {g : Part} {t : Tree} → Yields (Seq n) count w n f g w₁ → g ≡ Ok t → 1 ≤ mark
+      → kind_of w₁ count t.next ≡ mark → Halts (Until mark n) count w n f g w₁
+  until_here {mark} {t = t} b q p h =
+      let a = known b q in
+      let i = within w₁ count t.next mark h p in
       let o = a.ahead in
-      keeps a record { least = o.least; most = i; owned = o.owned; end = o.end } (λ ts s v x y. S.until_got y (at m v h))
+      back (keeps a record { least = o.least; most = i; owned = o.owned; end = o.end } (λ ts s v x y. S.until_got y (at t.next v h))) q
 
   -- another token does
-  pub until_other : {mark r m k : ℕ} → Yields (Seq n) count w n f (tree_at r m k) w₁ → (kind_of w₁ count m ≡ mark → ⊥)
-      → Halts (Until mark n) count w n f (none_at m) w₁
-  until_other {m = m} a h = fails_behind a (λ ts s v x y. S.until_other y (not_at m v h))
+  pub until_other : {mark : ℕ} {g h : Part} {t : Tree} → Yields (Seq n) count w n f g w₁ → g ≡ Ok t → (kind_of w₁ count t.next ≡ mark → ⊥)
+      → h ≡ none_at t.next → Halts (Until mark n) count w n f h w₁
+  until_other {t = t} a q i z = back (fails_behind (known a q) (λ ts s v x y. S.until_other y (not_at t.next v i))) z
 
   -- no Seq
-  pub until_none : {mark e : ℕ} → Yields (Seq n) count w n f (none_at e) w₁ → Halts (Until mark n) count w n f (none_at e) w₁
-  until_none a = fails_first a (λ ts s x. S.until_failed x)
+  pub until_none : {mark : ℕ} {g : Part} {e : Failed} → Yields (Seq n) count w n f g w₁ → g ≡ Err e → Halts (Until mark n) count w n f g w₁
+  until_none a q = handed a q (λ b. fails_first b (λ ts s x. S.until_failed x))
 
   -- ---- seq
 
   -- no clause
-  pub seq_none : {e : ℕ} → Yields (Clause n) count w n f (none_at e) w₁ → Yields (Seq n) count w n f (none_at e) w₁
-  seq_none a = fails_first a (λ ts s x. S.seq_failed x)
+  pub seq_none : {g : Part} {e : Failed} → Yields (Clause n) count w n f g w₁ → g ≡ Err e → Yields (Seq n) count w n f g w₁
+  seq_none a q = handed a q (λ b. fails_first b (λ ts s x. S.seq_failed x))
 
-  module _ {r m k : ℕ} (a : Yields (Clause n) count w n f (tree_at r m k) w₁) where
-    -- a clause, and no `;`
-    pub seq_one : (kind_of w₁ count m ≡ SEMI → ⊥) → Yields (Seq n) count w n f (tree_at r m k) w₁
-    seq_one i = keeps a a.ahead (λ ts s v x y. S.seq_one y (not_at m v i))
+  -- a clause, and no `;`
+  pub seq_one : {g : Part} {t : Tree} → Yields (Clause n) count w n f g w₁ → g ≡ Ok t → (kind_of w₁ count t.next ≡ SEMI → ⊥)
+      → Yields (Seq n) count w n f g w₁
+  seq_one {t = t} b q i = let a = known b q in back (keeps a a.ahead (λ ts s v x y. S.seq_one y (not_at t.next v i))) q
 
-    -- a clause, `;`, and another Seq or none
-    pub seq_more : {w₂ w₃ : List ℕ} {g z : Part} → kind_of w₁ count m ≡ SEMI → Yields (Seq (m + 1)) count w₁ (m + 1) k g w₂
-        → Topped (λ u i j. put_row u i SEMI m r j 0) (λ l. l) g w₂ z w₃ → Yields (Seq n) count w n f z w₃
-    unfolding lay below
-    seq_more i b t =
-        let d = a.ahead in
-        over_two SEMI m (λ ts. follow m) (λ ts v x y. (refl, refl))
-        (λ ts s v x p. (λ y l q. S.seq_more p (at m v i) q, λ e q. S.seq_more p (at m v i) q))
-        a b t (λ q l j o. record { least = omega arith; most = o.most; owned = omega arith; end = refl })
+  pub ruleset seq_ways = (seq_none, seq_one)
+
+  -- a clause, `;`, and another Seq or none
+  pub seq_more : {r m k : ℕ} {w₂ w₃ : List ℕ} {g z : Part} → Yields (Clause n) count w n f (tree_at r m k) w₁ → kind_of w₁ count m ≡ SEMI
+      → Yields (Seq (m + 1)) count w₁ (m + 1) k g w₂ → Topped (λ u i j. put_row u i SEMI m r j 0) (λ l. l) g w₂ z w₃ → Yields (Seq n) count w n f z w₃
+  unfolding lay below
+  seq_more {m = m} a i b t =
+      let d = a.ahead in
+      over_two SEMI m (λ ts. follow m) (λ ts v x y. (refl, refl))
+      (λ ts s v x p. (λ y l q. S.seq_more p (at m v i) q, λ e q. S.seq_more p (at m v i) q))
+      a b t (λ q l j o. record { least = omega arith; most = o.most; owned = omega arith; end = refl })
 
   -- ---- let
 
   module _ (h : kind_of w count n ≡ LET) (i : kind_of w count (n + 1) ≡ NAME) (j : kind_of w count (n + 2) ≡ IS) where
     -- no value, or no `in` behind it
-    pub let_none : {e : ℕ} → Halts (Until IN (n + 3)) count w (n + 3) f (none_at e) w₁ → Yields (Let n) count w n f (none_at e) w₁
-    let_none a = fails_first a (λ ts s x. S.let_failed (at n s h) (at (n + 1) s i) (at (n + 2) s j) x)
+    pub let_none : {g : Part} {e : Failed} → Halts (Until IN (n + 3)) count w (n + 3) f g w₁ → g ≡ Err e → Yields (Let n) count w n f g w₁
+    let_none a q = handed a q (λ b. fails_first b (λ ts s x. S.let_failed (at n s h) (at (n + 1) s i) (at (n + 2) s j) x))
 
     -- a value, `in`, and a body or none
     pub let_all : {r m k : ℕ} {w₂ w₃ : List ℕ} {g z : Part} → Halts (Until IN (n + 3)) count w (n + 3) f (tree_at r m k) w₁

@@ -33,6 +33,7 @@ pub fn until(table: &mut [u32], count: usize, at: usize, free: usize, mark: u32)
 
 // `;` associates to the right. Behind a Tail there is none: the body of its let has taken it.
 #[cycle(phrases)]
+#[tactic(auto, using(crate::proofs::SeqLaws::seq_ways))]
 pub fn seq(table: &mut [u32], count: usize, at: usize, free: usize) -> Read
     requires { Room count table.old at free }
     ensures { Yields (Seq at) count table.old at free result table.new }

@@ -12,6 +12,7 @@ use layout::token::kind;
 
 // `:=` does not chain.
 #[cycle(phrases)]
+#[tactic(auto, using(crate::proofs::OperandLaws::assign_ways))]
 pub fn assign(table: &mut [u32], count: usize, at: usize, free: usize) -> Read
     requires { Room count table.old at free }
     ensures { Yields (Assign at) count table.old at free result table.new }

@@ -12,12 +12,6 @@ items::if_else-until-read-requires = Items.if_else-until-read-requires
 pub items::if_else-returns : goal.items::if_else-returns
 items::if_else-returns = Items.if_else-returns
 
-pub items::if_else-returns-in_default-part : goal.items::if_else-returns-in_default-part
-items::if_else-returns-in_default-part = Items.if_else-returns-in_default-part
-
-pub items::if_else-returns-in_default : goal.items::if_else-returns-in_default
-items::if_else-returns-in_default = Items.if_else-returns-in_default
-
 pub items::let_in-returns-then-kind-ne-NAME : goal.items::let_in-returns-then-kind-ne-NAME
 items::let_in-returns-then-kind-ne-NAME = Items.let_in-returns-then-kind-ne-NAME
 
@@ -30,9 +24,6 @@ items::let_in-until-read-requires = Items.let_in-until-read-requires
 pub items::let_in-returns : goal.items::let_in-returns
 items::let_in-returns = Items.let_in-returns
 
-pub items::let_in-returns-in_default : goal.items::let_in-returns-in_default
-items::let_in-returns-in_default = Items.let_in-returns-in_default
-
 pub items::seq-seq-rest-requires : goal.items::seq-seq-rest-requires
 items::seq-seq-rest-requires = Items.seq-seq-rest-requires
 
@@ -42,29 +33,11 @@ items::seq-pair-requires = Items.seq-pair-requires
 pub items::seq-returns : goal.items::seq-returns
 items::seq-returns = Items.seq-returns
 
-pub items::seq-returns-then-kind-ne-SEMI : goal.items::seq-returns-then-kind-ne-SEMI
-items::seq-returns-then-kind-ne-SEMI = Items.seq-returns-then-kind-ne-SEMI
-
-pub items::seq-returns-in_default : goal.items::seq-returns-in_default
-items::seq-returns-in_default = Items.seq-returns-in_default
-
-pub items::until-returns-then-kind-mark : goal.items::until-returns-then-kind-mark
-items::until-returns-then-kind-mark = Items.until-returns-then-kind-mark
-
-pub items::until-returns-else-kind-mark : goal.items::until-returns-else-kind-mark
-items::until-returns-else-kind-mark = Items.until-returns-else-kind-mark
-
-pub items::until-returns-in_default : goal.items::until-returns-in_default
-items::until-returns-in_default = Items.until-returns-in_default
-
 pub items::while_block-until-read-requires : goal.items::while_block-until-read-requires
 items::while_block-until-read-requires = Items.while_block-until-read-requires
 
 pub items::while_block-returns : goal.items::while_block-returns
 items::while_block-returns = Items.while_block-returns
-
-pub items::while_block-returns-in_default : goal.items::while_block-returns-in_default
-items::while_block-returns-in_default = Items.while_block-returns-in_default
 
 pub loops::ends-tier-step-requires : goal.loops::ends-tier-step-requires
 loops::ends-tier-step-requires = Loops.ends-tier-step-requires
@@ -107,9 +80,6 @@ loops::for_in-returns = Loops.for_in-returns
 
 pub loops::for_in-returns-in_default-part : goal.loops::for_in-returns-in_default-part
 loops::for_in-returns-in_default-part = Loops.for_in-returns-in_default-part
-
-pub loops::for_in-returns-in_default : goal.loops::for_in-returns-in_default
-loops::for_in-returns-in_default = Loops.for_in-returns-in_default
 
 pub names::arguments-around-requires : goal.names::arguments-around-requires
 names::arguments-around-requires = Names.arguments-around-requires
@@ -159,12 +129,6 @@ tiers::assign-pair-requires = Tiers.assign-pair-requires
 pub tiers::assign-returns : goal.tiers::assign-returns
 tiers::assign-returns = Tiers.assign-returns
 
-pub tiers::assign-returns-then-kind-ne-BECOMES : goal.tiers::assign-returns-then-kind-ne-BECOMES
-tiers::assign-returns-then-kind-ne-BECOMES = Tiers.assign-returns-then-kind-ne-BECOMES
-
-pub tiers::assign-returns-in_default : goal.tiers::assign-returns-in_default
-tiers::assign-returns-in_default = Tiers.assign-returns-in_default
-
 pub tiers::atom-node-requires : goal.tiers::atom-node-requires
 tiers::atom-node-requires = Tiers.atom-node-requires
 
@@ -213,9 +177,6 @@ tiers::rest-returns-in_default = Tiers.rest-returns-in_default
 pub tiers::tier-returns : goal.tiers::tier-returns
 tiers::tier-returns = Tiers.tier-returns
 
-pub tiers::tier-returns-in_default : goal.tiers::tier-returns-in_default
-tiers::tier-returns-in_default = Tiers.tier-returns-in_default
-
 pub tiers::un-un-operand-requires : goal.tiers::un-un-operand-requires
 tiers::un-un-operand-requires = Tiers.un-un-operand-requires
 
@@ -230,3 +191,30 @@ tiers::un-returns-then-is_prefix = Tiers.un-returns-then-is_prefix
 
 pub tiers::un-returns-else-is_prefix : goal.tiers::un-returns-else-is_prefix
 tiers::un-returns-else-is_prefix = Tiers.un-returns-else-is_prefix
+
+pub items::until-returns-in_default : goal.items::until-returns-in_default
+items::until-returns-in_default = Items.until-returns-in_default
+
+pub items::until-returns-then-kind-mark : goal.items::until-returns-then-kind-mark
+items::until-returns-then-kind-mark = Items.until-returns-then-kind-mark
+
+pub items::until-returns-else-kind-mark : goal.items::until-returns-else-kind-mark
+items::until-returns-else-kind-mark = Items.until-returns-else-kind-mark
+
+pub items::let_in-returns-in_default : goal.items::let_in-returns-in_default
+items::let_in-returns-in_default = Items.let_in-returns-in_default
+
+pub items::if_else-returns-in_default : goal.items::if_else-returns-in_default
+items::if_else-returns-in_default = Items.if_else-returns-in_default
+
+pub items::if_else-returns-in_default-part : goal.items::if_else-returns-in_default-part
+items::if_else-returns-in_default-part = Items.if_else-returns-in_default-part
+
+pub items::while_block-returns-in_default : goal.items::while_block-returns-in_default
+items::while_block-returns-in_default = Items.while_block-returns-in_default
+
+pub tiers::tier-returns-in_default : goal.tiers::tier-returns-in_default
+tiers::tier-returns-in_default = Tiers.tier-returns-in_default
+
+pub loops::for_in-returns-in_default : goal.loops::for_in-returns-in_default
+loops::for_in-returns-in_default = Loops.for_in-returns-in_default

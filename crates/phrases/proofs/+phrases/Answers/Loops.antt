@@ -120,6 +120,5 @@ for_in-returns-in_default-part t c =
 
 pub for_in-returns-in_default : goal.loops::for_in-returns-in_default
 for_in-returns-in_default t c =
-    let seen = sym c.part.ensures ∙ c.in_default.is in
-    back (start_none c.requires.at_value (sym c.kind.ensures ∙ c.if-kind-ne-NAME.false) (sym c.kind-2.ensures ∙ c.if-kind-ne-IN.false)
-    (known c.tier-read.ensures seen)) seen
+    start_none c.requires.at_value (sym c.kind.ensures ∙ c.if-kind-ne-NAME.false) (sym c.kind-2.ensures ∙ c.if-kind-ne-IN.false)
+    c.tier-read.ensures (sym c.part.ensures ∙ c.in_default.is)

@@ -5,7 +5,7 @@ use Rattle.phrases.proofs.Moving.{top_fits, later, later_with, node_fits}
 use Rattle.phrases.proofs.Standing.{within}
 use Rattle.phrases.proofs.Answering.{back, known}
 use Rattle.phrases.proofs.RowKinds.{constant_within, prefix_within, prefix_small}
-use Rattle.phrases.proofs.OperandLaws.{assign_none, assign_one, assign_to, atom_constant, numeral_within, atom_numeral, atom_group, atom_block}
+use Rattle.phrases.proofs.OperandLaws.{assign_to, atom_constant, numeral_within, atom_numeral, atom_group, atom_block}
 use Rattle.phrases.proofs.OperandLaws.{atom_other, un_prefix, un_atom}
 use Rattle.phrases.proofs.OperatorLaws.{back_end, back_more, binding, rest_end, rest_none, rest_more, tier_none, tier_first}
 use Rattle.phrases.proofs.+phrases.Goals as goal
@@ -31,16 +31,6 @@ pub assign-returns : goal.tiers::assign-returns
 assign-returns t c =
     let seen = sym c.part.ensures ∙ c.in-Ok.is in
     assign_to (known c.tier-read.ensures seen) (sym c.kind.ensures ∙ c.if-kind-ne-BECOMES.false) c.tier-value.ensures c.pair.ensures
-
-pub assign-returns-then-kind-ne-BECOMES : goal.tiers::assign-returns-then-kind-ne-BECOMES
-assign-returns-then-kind-ne-BECOMES t c =
-    let seen = sym c.part.ensures ∙ c.in-Ok.is in
-    back (assign_one (known c.tier-read.ensures seen) (λ e. c.if-kind-ne-BECOMES.true (c.kind.ensures ∙ e))) seen
-
-pub assign-returns-in_default : goal.tiers::assign-returns-in_default
-assign-returns-in_default t c =
-    let seen = sym c.part.ensures ∙ c.in_default.is in
-    back (assign_none (known c.tier-read.ensures seen)) seen
 
 pub atom-node-requires : goal.tiers::atom-node-requires
 atom-node-requires t c =
@@ -137,11 +127,6 @@ tier-returns t c =
     let seen = sym c.part.ensures ∙ c.in-Ok.is in
     tier_first _ (known c.un-read.ensures seen) c.rest.ensures
 
-pub tier-returns-in_default : goal.tiers::tier-returns-in_default
-tier-returns-in_default t c =
-    let seen = sym c.part.ensures ∙ c.in_default.is in
-    back (tier_none c.requires.le_least.1 (known c.un-read.ensures seen)) seen
-
 pub un-un-operand-requires : goal.tiers::un-un-operand-requires
 un-un-operand-requires t c =
     let p = c.requires in
@@ -166,3 +151,7 @@ un-returns-then-is_prefix t c =
 pub un-returns-else-is_prefix : goal.tiers::un-returns-else-is_prefix
 un-returns-else-is_prefix t c =
     un_atom c.kind-k.ensures (sym c.is_prefix.ensures ∙ c.if-is_prefix.false) c.atom.ensures
+
+pub tier-returns-in_default : goal.tiers::tier-returns-in_default
+tier-returns-in_default t c =
+    tier_none c.un-read.ensures (sym c.part.ensures ∙ c.in_default.is) c.requires.le_least.1
