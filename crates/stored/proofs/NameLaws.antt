@@ -1,6 +1,6 @@
 -- Names compared by their lines: where lines begin, and the first that has the digits of another.
 use lib.ListN.{length, get_or}
-use lib.Seq.{slice, take-length}
+use lib.Seq.{slice, take-length, length-slice}
 use mathlib.Core.Bool.{Bool, true, false}
 use mathlib.Core.List.{List}
 use mathlib.Core.Logic.{⊎_elim}
@@ -62,18 +62,14 @@ module _ {t w : List ℕ} {n p q : ℕ} (k : Searchable t w n p q) {at r from en
         let z : to ≡ line_from w r + token_end w r * 2 = omega (arith, h, starts_there, g) in
         ap₂ (λ (a b : ℕ). slice a b t) starts_there z
 
-    pub hangable : Hangable t w at n from to p q
+    pub hangable : Hangable w at n (slice from to t)
     hangable = record {
       room = k.bytes.room;
       some = some;
       few = k.sought.small;
       shape = k.sought.shape;
       link_at = x.link_at;
-      order = omega (arith, h);
-      inside = omega (arith, h, line_near, k.bytes.lines);
-      near = omega (arith, h, line_near, k.near);
-      order_new = k.bytes.order;
-      inside_new = k.bytes.inside;
+      near = omega (arith, h, line_near, k.near, length-slice from to t (omega (arith, h, line_near, k.bytes.lines)));
     }
 
     module _ {v : List ℕ} {y : Bool} (hung : Hung w v at n (slice from to t) (slice p q t) y) where
@@ -105,13 +101,11 @@ module _ {t w : List ℕ} {n p q : ℕ} (k : Searchable t w n p q) {at r from en
         planted_fork k.sought k.bytes.room some x (digits_there ∙ ap (digits_of t w) e) (hung.forked d),
       )
 
-pub seekable : {t w : List ℕ} {n p q : ℕ} → Searchable t w n p q → Seekable t w n p q
+pub seekable : {t w : List ℕ} {n p q : ℕ} → Searchable t w n p q → Seekable w n
 seekable k = record {
   room = k.bytes.room;
   few = k.bytes.few;
   shape = k.sought.shape;
-  order = k.bytes.order;
-  ends = k.bytes.inside;
 }
 
 pub first_start : {t w : List ℕ} {n : ℕ} {s : List ℕ} → n ≡ 0 → Shape w n → First t w n s 0 × Planted (digits_of t w) w w n s

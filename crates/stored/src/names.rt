@@ -10,7 +10,7 @@ use crate::entries::Entry;
 use language::kinds;
 use layout::{PUTCHAR, token};
 use tokens::forks::{STARTS_AT, hang, way_end};
-use tokens::view::{Text, View};
+use tokens::view::{Part, Text, View};
 
 // The ordinal of the first of the tokens in the table whose line has the digits from p up to q, which are to be the
 // next one; where none has, their count. Where the line of a token begins is told behind the forks.
@@ -28,11 +28,21 @@ fn first_alike(stored: &[u8], table: &mut [u32], count: usize, p: usize, q: usiz
         second: stored,
         view: View::Plain,
     };
-    let at = way_end(&text, table, count, p, q);
+    let name = Part {
+        text: &text,
+        from: p,
+        to: q,
+    };
+    let at = way_end(table, count, &name);
     let leaf = table[at] as usize;
     let from = table[STARTS_AT + leaf] as usize;
     let to = from + token::end(table, leaf) as usize * 2;
-    if hang(&text, table, at, count, from, to, p, q) {
+    let old = Part {
+        text: &text,
+        from,
+        to,
+    };
+    if hang(table, at, count, &old, &name) {
         return leaf;
     }
     count
@@ -51,8 +61,12 @@ fn name_number(stored: &[u8], table: &mut [u32], count: usize, p: usize, q: usiz
         second: stored,
         view: View::Line { from: p, to: q },
     };
-    let size = text.len();
-    if text.spells(0, size, b"putchar") {
+    let all = Part {
+        text: &text,
+        from: 0,
+        to: text.len(),
+    };
+    if all.spells(b"putchar") {
         return PUTCHAR;
     }
     ordinal as u32

@@ -109,19 +109,19 @@ letter_some t p q i l h e = sym (letter_inside (slice p q t) i (omega (arith, le
 -- ---- other bytes of the text
 
 -- the bytes from a up to b are as many as those from p up to q, and agree with them up to byte i
-pub record Alike (t : List ℕ) (a b p q i : ℕ) : Type 0 where
+pub record Alike (t : List ℕ) (a b : ℕ) (u : List ℕ) (p q i : ℕ) : Type 0 where
   pub inside : b ≤ length t
   pub order : p ≤ q
-  pub ends : q ≤ length t
+  pub ends : q ≤ length u
   pub many : b - a ≡ q - p
-  pub agrees : Agrees t p (slice a b t) i
+  pub agrees : Agrees u p (slice a b t) i
 
 -- at first no byte is compared
-pub alike_none : {t : List ℕ} {a b p q : ℕ} → b ≤ length t → p ≤ q → q ≤ length t → b - a ≡ q - p → Alike t a b p q 0
-alike_none {t} {a} {b} {p} u o v n =
-    record { inside = u; order = o; ends = v; many = n; agrees = agrees_none t p (slice a b t) }
+pub alike_none : {t u : List ℕ} {a b p q : ℕ} → b ≤ length t → p ≤ q → q ≤ length u → b - a ≡ q - p → Alike t a b u p q 0
+alike_none {t} {u} {a} {b} {p} h o v n =
+    record { inside = h; order = o; ends = v; many = n; agrees = agrees_none u p (slice a b t) }
 
-module _ {t : List ℕ} {a b p q i : ℕ} (g : Alike t a b p q i) where
+module _ {t u : List ℕ} {a b p q i : ℕ} (g : Alike t a b u p q i) where
   size : length (slice a b t) ≡ b - a
   size = length-slice a b t g.inside
 
@@ -132,51 +132,51 @@ module _ {t : List ℕ} {a b p q i : ℕ} (g : Alike t a b p q i) where
   first_byte : {x : ℕ} → i < b - a → x ≡ byte t (a + i) → get_or (slice a b t) i 0 ≡ x
   first_byte h e = slice_byte t a b i h ∙ sym e
 
-  settled : {r : Bool} → r ≡ stands t p (slice a b t) → r ≡ same (slice a b t) (slice p q t)
-  settled e = e ∙ stands_same t (slice a b t) p q g.order g.ends (size ∙ g.many)
+  settled : {r : Bool} → r ≡ stands u p (slice a b t) → r ≡ same (slice a b t) (slice p q u)
+  settled e = e ∙ stands_same u (slice a b t) p q g.order g.ends (size ∙ g.many)
 
   -- byte i agrees too
-  pub alike_more : {x y : ℕ} → i < b - a → x ≡ byte t (a + i) → y ≡ byte t (p + i) → x ≡ y → Alike t a b p q (i + 1)
+  pub alike_more : {x y : ℕ} → i < b - a → x ≡ byte t (a + i) → y ≡ byte u (p + i) → x ≡ y → Alike t a b u p q (i + 1)
   alike_more h e f z =
       let more = agrees_more g.agrees (omega (arith, size)) f (sym (first_byte h e ∙ z)) in
       record { inside = g.inside; order = g.order; ends = g.ends; many = g.many; agrees = more }
 
   -- byte i does not agree
-  pub alike_less : {x y : ℕ} → i < b - a → x ≡ byte t (a + i) → y ≡ byte t (p + i) → (x ≡ y → ⊥) → IsParting (slice a b t) (slice p q t) (Some i)
+  pub alike_less : {x y : ℕ} → i < b - a → x ≡ byte t (a + i) → y ≡ byte u (p + i) → (x ≡ y → ⊥) → IsParting (slice a b t) (slice p q u) (Some i)
   alike_less h e f n =
-      let l = length-slice p q t g.ends in
-      let u = letter_inside (slice a b t) i (omega (arith, size)) in
-      let v = letter_inside (slice p q t) i (omega (arith, g.many)) in
-      (omega (arith, size), λ z. n (omega (arith, first_byte h e, slice_byte t p q i (omega (arith, g.many)))))
+      let l = length-slice p q u g.ends in
+      let m = letter_inside (slice a b t) i (omega (arith, size)) in
+      let v = letter_inside (slice p q u) i (omega (arith, g.many)) in
+      (omega (arith, size), λ z. n (omega (arith, first_byte h e, slice_byte u p q i (omega (arith, g.many)))))
 
   -- no byte is left
-  pub alike_all : b - a ≤ i → same (slice a b t) (slice p q t) ≡ true
+  pub alike_all : b - a ≤ i → same (slice a b t) (slice p q u) ≡ true
   alike_all h = sym (settled (agrees_all g.agrees (omega (arith, size))))
 
 -- there are more bytes of one than of the other
-fewer : (t : List ℕ) (a b p q : ℕ) → b ≤ length t → q ≤ length t → b - a < q - p → IsParting (slice a b t) (slice p q t) (Some (b - a))
-fewer t a b p q h l n =
+fewer : (t : List ℕ) (a b : ℕ) (u : List ℕ) (p q : ℕ) → b ≤ length t → q ≤ length u → b - a < q - p → IsParting (slice a b t) (slice p q u) (Some (b - a))
+fewer t a b u p q h l n =
     let x = length-slice a b t h in
-    let y = length-slice p q t l in
-    let u = letter_past (slice a b t) (b - a) (omega arith) in
-    let v = letter_inside (slice p q t) (b - a) (omega arith) in
+    let y = length-slice p q u l in
+    let m = letter_past (slice a b t) (b - a) (omega arith) in
+    let v = letter_inside (slice p q u) (b - a) (omega arith) in
     (omega arith, λ z. omega arith)
 
-further : (t : List ℕ) (a b p q : ℕ) → b ≤ length t → q ≤ length t → q - p < b - a → IsParting (slice a b t) (slice p q t) (Some (q - p))
-further t a b p q h l n =
+further : (t : List ℕ) (a b : ℕ) (u : List ℕ) (p q : ℕ) → b ≤ length t → q ≤ length u → q - p < b - a → IsParting (slice a b t) (slice p q u) (Some (q - p))
+further t a b u p q h l n =
     let x = length-slice a b t h in
-    let y = length-slice p q t l in
-    let u = letter_inside (slice a b t) (q - p) (omega arith) in
-    let v = letter_past (slice p q t) (q - p) (omega arith) in
+    let y = length-slice p q u l in
+    let m = letter_inside (slice a b t) (q - p) (omega arith) in
+    let v = letter_past (slice p q u) (q - p) (omega arith) in
     (omega arith, λ z. omega arith)
 
 -- so the shorter one has no byte where the other's next is
-pub parted : (t : List ℕ) (a b p q : ℕ) {m : ℕ} → b ≤ length t → q ≤ length t → (b - a ≡ q - p → ⊥) → m ≡ min (b - a) (q - p)
-    → IsParting (slice a b t) (slice p q t) (Some m)
-parted t a b p q {m} h l n e =
+pub parted : (t : List ℕ) (a b : ℕ) (u : List ℕ) (p q : ℕ) {m : ℕ} → b ≤ length t → q ≤ length u → (b - a ≡ q - p → ⊥) → m ≡ min (b - a) (q - p)
+    → IsParting (slice a b t) (slice p q u) (Some m)
+parted t a b u p q {m} h l n e =
     ⊎_elim
-    (λ (k : b - a < q - p). let z : b - a ≡ m = omega arith in subst (λ i. IsParting (slice a b t) (slice p q t) (Some i)) z (fewer t a b p q h l k))
-    (λ (k : q - p ≤ b - a). let z : q - p ≡ m = omega arith in subst (λ i. IsParting (slice a b t) (slice p q t) (Some i)) z (further t a b p q h l (omega arith)))
+    (λ (k : b - a < q - p). let z : b - a ≡ m = omega arith in subst (λ i. IsParting (slice a b t) (slice p q u) (Some i)) z (fewer t a b u p q h l k))
+    (λ (k : q - p ≤ b - a). let z : q - p ≡ m = omega arith in subst (λ i. IsParting (slice a b t) (slice p q u) (Some i)) z (further t a b u p q h l (omega arith)))
     (either (b - a) (q - p))
 
 -- ---- the tokens of a table

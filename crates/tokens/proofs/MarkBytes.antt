@@ -1,6 +1,6 @@
 -- The mark at a place, found by so many bytes there: the longest marks are looked for first.
-use borrow.Author.Tests.{eqb-true, eqb-false, ltb-true, eq-eqb, ne_eqb}
-use lib.Dec.{eqb, ltb}
+use borrow.Author.Tests.{eqb-true, eqb-false, eq-eqb, ne_eqb}
+use lib.Dec.{eqb}
 use lib.ListN.{length}
 use lib.Seq.{slice}
 use mathlib.Core.Bool.{Bool, true, false, cond, ◌&&◌}

@@ -1,7 +1,6 @@
 -- A spelling sought among tokens that can be found: the token at its way's end is the first that has it, or none has; and with the
 -- fork that it gets then it can be found, too.
 use lib.ListN.{length, get_or}
-use lib.Seq.{slice, length-slice}
 use mathlib.Core.List.{List}
 use mathlib.Core.Logic.{⊎_elim}
 use mathlib.Core.Path.{◌≡◌, refl, sym, ◌∙◌, ap, subst}
@@ -25,17 +24,17 @@ pub record Way (w : List ℕ) (s : Spelling) (at x : ℕ) : Type 0 where
   pub link_at : LinkAt (get_or w FORKS_AT 0) at
   pub is : x ≡ get_or w at 0
 
-module _ {t w : List ℕ} {n p q : ℕ} (k : Seekable t w n p q) where
+module _ {w : List ℕ} {n : ℕ} (k : Seekable w n) where
   fork_inside : (f : ℕ) → f < TOKENS + get_or w FORKS_AT 0 → f < 2 * TOKENS + ROOTS
   fork_inside f h = omega (arith, k.shape.few, k.few)
 
   -- it begins by the length
-  pub way_first : {at x : ℕ} → at ≡ start_at (q - p) → x ≡ get_or w at 0 → Way w (slice p q t) at x
-  way_first {at} e f =
-      let z : at ≡ start (slice p q t) = e ∙ ap start_at (sym (length-slice p q t k.ends)) in
+  pub way_first : {s : Spelling} {m at x : ℕ} → m ≡ length s → at ≡ start_at m → x ≡ get_or w at 0 → Way w s at x
+  way_first {s} {m} {at} l e f =
+      let z : at ≡ start s = e ∙ ap start_at l in
       record {
-        leads = subst (Leads w (slice p q t) (start (slice p q t))) (sym z) here;
-        link_at = subst (LinkAt (get_or w FORKS_AT 0)) (sym e) (start_there k.shape (q - p));
+        leads = subst (Leads w s (start s)) (sym z) here;
+        link_at = subst (LinkAt (get_or w FORKS_AT 0)) (sym e) (start_there k.shape m);
         is = f;
       }
 
@@ -43,23 +42,21 @@ module _ {t w : List ℕ} {n p q : ℕ} (k : Seekable t w n p q) where
   pub link_inside : {at : ℕ} → LinkAt (get_or w FORKS_AT 0) at → at < STARTS_AT
   link_inside l = omega (arith, l.is, l.two, fork_inside l.fork l.high)
 
-  pub first_inside : {at : ℕ} → at ≡ start_at (q - p) → at < STARTS_AT
-  first_inside e = link_inside (subst (LinkAt (get_or w FORKS_AT 0)) (sym e) (start_there k.shape (q - p)))
+  pub first_inside : (m : ℕ) {at : ℕ} → at ≡ start_at m → at < STARTS_AT
+  first_inside m e = link_inside (subst (LinkAt (get_or w FORKS_AT 0)) (sym e) (start_there k.shape m))
 
   module _ {s : Spelling} {at x : ℕ} (y : Way w s at x) where
     module _ (h : TOKENS ≤ x) where
       below : x < TOKENS + get_or w FORKS_AT 0
       below = omega (arith, y.is, (link_there k.shape y.link_at).below (omega (arith, y.is)))
 
-      pub way_askable : Askable t w x p q
+      pub way_askable : Askable w x
       way_askable =
           let asks = (link_there k.shape y.link_at).asks (omega (arith, y.is)) in
           record {
             room = k.room;
             inside = fork_inside x below;
             bit = k.shape.bits x (omega (arith, asks, y.is)) below;
-            order = k.order;
-            ends = k.ends;
           }
 
       module _ {a : ℕ} (e : a ≡ link w s x) where

@@ -21,7 +21,7 @@ use Rattle.language.proofs.Text.Tables.{every, most, same_one, no_kind}
 use Rattle.language.specs.Text.{byte, between, is_blank, is_letter, is_digit, Stands, Form, Piece}
 use Rattle.language.specs.Text.Content.{token}
 use Rattle.language.specs.Text.Form.{mark}
-use Rattle.language.specs.Tokens.{Spelling, spell, same, spelled, marks, EDITION_1, EDITION_2, PAST, SLASH, UPTO, THROUGH}
+use Rattle.language.specs.Tokens.{Spelling, spell, same, spelled, marks, EDITION_1, EDITION_2, SLASH, UPTO, THROUGH}
 use Rattle.language.specs.Tokens.Entry.{◌is◌}
 use Rattle.tokens.proofs.Compared.{stands_same}
 use Rattle.tokens.proofs.MarkBytes.{ahead, two_most, marked, unmarked, markless}

@@ -122,15 +122,12 @@ module _ {voc : Vocabulary} {t w₀ w : List ℕ} {p n : ℕ} (r : Reached voc t
           indexed_sought r.index back small
           (λ j h d. kind_reached laws r.reaches y.piece y.small j (omega (arith, r.count)) d ∙ e)
 
-      pub reached_searchable : Laws voc → k ≡ NAME → Searchable t w n p q
+      pub reached_searchable : Laws voc → k ≡ NAME → Searchable t w n (slice p q t)
       reached_searchable laws e =
-          let b = form_bounds t p q (token k y.value) y.piece.form in
           record {
             bytes = record {
               room = omega (arith, reached_length, r.room);
               few = r.few;
-              order = omega (arith, b.0);
-              inside = b.1;
               spans = reached_spans;
             };
             sought = reached_sought laws e;

@@ -98,21 +98,17 @@ pub record Ends (w : List ℕ) (s : Spelling) (at : ℕ) : Type 0 where
   pub link_at : LinkAt (get_or w FORKS_AT 0) at
   pub leaf : get_or w at 0 < TOKENS
 
--- what can be asked of fork f by the bytes from p up to q of a text t
-pub record Askable (t w : List ℕ) (f p q : ℕ) : Type 0 where
+-- what can be asked of fork f
+pub record Askable (w : List ℕ) (f : ℕ) : Type 0 where
   pub room : TABLE ≤ length w
   pub inside : f < 2 * TOKENS + ROOTS
   pub bit : 0 < get_or w (4 * f + 1) 0
-  pub order : p ≤ q
-  pub ends : q ≤ length t
 
--- they can be sought among n tokens
-pub record Seekable (t w : List ℕ) (n p q : ℕ) : Type 0 where
+-- a spelling can be sought among n tokens
+pub record Seekable (w : List ℕ) (n : ℕ) : Type 0 where
   pub room : TABLE ≤ length w
   pub few : n ≤ TOKENS
   pub shape : Shape w n
-  pub order : p ≤ q
-  pub ends : q ≤ length t
 
 -- ---- a fork more
 
@@ -154,19 +150,14 @@ pub record Forked (w v : List ℕ) (at n place old new : ℕ) : Type 0 where
   pub apart : Apart old new bit
   pub table : v ≡ put_fork w at n place bit ((old / bit) % 2)
 
--- token n, which has the bytes from p up to q, can be hung beside the token at which its way ends and which has those
--- from a up to b
-pub record Hangable (t w : List ℕ) (at n a b p q : ℕ) : Type 0 where
+-- token n can be hung beside the token at which its way ends and which is spelled x
+pub record Hangable (w : List ℕ) (at n : ℕ) (x : Spelling) : Type 0 where
   pub room : TABLE ≤ length w
   pub some : 0 < n
   pub few : n < TOKENS
   pub shape : Shape w n
   pub link_at : LinkAt (get_or w FORKS_AT 0) at
-  pub order : a ≤ b
-  pub inside : b ≤ length t
-  pub near : b < 4294967296
-  pub order_new : p ≤ q
-  pub inside_new : q ≤ length t
+  pub near : length x < 4294967296
 
 -- whether the spelling s is x; where it is not, there is a fork more
 pub record Hung (w v : List ℕ) (at n : ℕ) (x s : Spelling) (r : Bool) : Type 0 where

@@ -94,12 +94,10 @@ IsPiece voc t p (Err f) = (ts : List Tokens.Token) → Text.Wrong voc t p ts (fl
 abbrev pub Spans : List ℕ → List ℕ → ℕ → Type 0
 Spans t w count = (i : ℕ) → i < count → (token_place w i ≤ token_end w i) × (token_end w i ≤ length t)
 
--- the bytes from p up to q can be compared with the spellings of the first `count` tokens
-pub record Comparable (t w : List ℕ) (count p q : ℕ) : Type 0 where
+-- a spelling can be compared with those of the first `count` tokens
+pub record Comparable (t w : List ℕ) (count : ℕ) : Type 0 where
   pub room : TABLE ≤ length w
   pub few : count ≤ TOKENS
-  pub order : p ≤ q
-  pub inside : q ≤ length t
   pub spans : Spans t w count
 
 -- the spelling of token i
@@ -107,9 +105,9 @@ abbrev pub bytes_of : List ℕ → List ℕ → ℕ → Spelling
 bytes_of t w i = slice (token_place w i) (token_end w i) t
 
 -- and the first of them that is spelled so can be found
-pub record Searchable (t w : List ℕ) (count p q : ℕ) : Type 0 where
-  pub bytes : Comparable t w count p q
-  pub sought : Sought (bytes_of t w) w count (slice p q t)
+pub record Searchable (t w : List ℕ) (count : ℕ) (s : Spelling) : Type 0 where
+  pub bytes : Comparable t w count
+  pub sought : Sought (bytes_of t w) w count s
 
 -- r is the ordinal of the first of `count` tokens that is spelled s; where there is none, the count
 pub record First (t w : List ℕ) (count : ℕ) (s : Spelling) (r : ℕ) : Type 0 where

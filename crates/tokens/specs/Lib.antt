@@ -1,4 +1,5 @@
 pub mod Shown
+pub mod Parts
 pub mod Editions
 pub mod Forks
 pub mod Found

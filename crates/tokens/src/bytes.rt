@@ -1,12 +1,10 @@
 // Bytes of a text: the classes that tell what may begin at a place, and where a run of bytes of one class
 // ends.
 ghost use Rattle.std.specs.Prelude.{true, Bool, ℕ, ◌≡◌, ◌+◌, ◌≤◌, length};
-ghost use Rattle.std.proofs.Math.Seq.{slice};
 ghost use Rattle.language.specs.Text.{worth, is_blank, is_letter, is_digit, is_hex_digit, is_digit_of};
 ghost use Rattle.language.specs.Text.{is_name_byte, is_in_line};
 ghost use Rattle.language.proofs.Text.Runs.{Run};
 ghost use Rattle.language.proofs.Text.Spellings.{stands};
-ghost use Rattle.language.specs.Tokens.{same};
 ghost use Rattle.tokens.specs.Shown.{is_capital, text_of};
 
 use crate::hexadecimal::is_capital;
@@ -180,13 +178,5 @@ impl<'a> Text<'a> {
             }
         }
         true
-    }
-
-    // Do the bytes from p up to q spell this?
-    pub fn spells(&self, p: usize, q: usize, bytes: &[u8]) -> bool
-        requires { (p ≤ q) × (q ≤ length (text_of self.now)) }
-        ensures { result ≡ same bytes.now (slice p q (text_of self.now)) }
-    {
-        bytes.len() == q - p && self.stands_at(p, bytes)
     }
 }

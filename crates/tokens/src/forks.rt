@@ -5,14 +5,13 @@
 // the two apart. A way begins by a name's length, and its forks ask for different bits: so it is no longer than the
 // bits of the name, or, where the name is very long, than there are such names.
 ghost use Rattle.std.specs.Prelude.{◌≡◌, ◌/◌, ◌%◌, ◌≤◌, ◌<◌, length};
-ghost use Rattle.std.proofs.Math.Seq.{slice};
 ghost use Rattle.language.specs.Sizes.{TABLE};
 ghost use Rattle.tokens.specs.Forks as Forks;
 ghost use Rattle.tokens.specs.Forks.{start_at, letter_at, Askable, Seekable, Ends, IsParting, Apart};
 ghost use Rattle.tokens.specs.Forks.{Forkable, Forked, Hangable, Hung, Begun};
-ghost use Rattle.tokens.specs.Shown.{text_of};
+ghost use Rattle.tokens.specs.Parts.{part_of};
 
-use crate::view::Text;
+use crate::view::Part;
 use language::TOKENS;
 use layout::ROWS_AT;
 use layout::memory::clear;
@@ -44,55 +43,43 @@ fn start(size: usize) -> usize
     4 * (TOKENS + (ROOTS - 1)) + 2
 }
 
-// One more than a byte of those from p up to q; 0 past the last.
-fn letter(text: &Text, p: usize, q: usize, i: usize) -> u32
-    requires { (p ≤ q) × (q ≤ length (text_of text.now)) }
-    ensures { (result ≡ letter_at (slice p q (text_of text.now)) i) × (result ≤ 256) }
-{
-    if q - p <= i {
-        return 0;
-    }
-    u32::from(text.byte(p + i)) + 1
-}
-
-// The word with the link of a fork that the bytes from p up to q take.
-fn link(text: &Text, table: &[u32], fork: usize, p: usize, q: usize) -> usize
-    requires { Askable (text_of text.now) table.now fork p q }
-    ensures { result ≡ Forks.link table.now (slice p q (text_of text.now)) fork }
+// The word with the link of a fork that a spelling takes.
+fn link(table: &[u32], fork: usize, name: &Part) -> usize
+    requires { Askable table.now fork }
+    ensures { result ≡ Forks.link table.now (part_of name.now) fork }
 {
     let place = table[4 * fork] as usize;
     let bit = table[4 * fork + 1];
-    let asked = letter(text, p, q, place);
+    let asked = name.letter(place);
     let turn = asked / bit % 2;
     4 * fork + 2 + turn as usize
 }
 
-// The word with the link at which the way of the bytes from p up to q ends.
-pub fn way_end(text: &Text, table: &[u32], count: usize, p: usize, q: usize) -> usize
-    requires { Seekable (text_of text.now) table.now count p q }
-    ensures { Ends table.now (slice p q (text_of text.now)) result }
+// The word with the link at which the way of a spelling ends.
+pub fn way_end(table: &[u32], count: usize, name: &Part) -> usize
+    requires { Seekable table.now count }
+    ensures { Ends table.now (part_of name.now) result }
 {
-    let mut at = start(q - p);
+    let mut at = start(name.len());
     let mut to = table[at] as usize;
     while TOKENS <= to {
-        at = link(text, table, to, p, q);
+        at = link(table, to, name);
         to = table[at] as usize;
     }
     at
 }
 
-// A letter that tells the bytes from a up to b from those from p up to q; none, where the spellings are the same.
-fn compare(text: &Text, a: usize, b: usize, p: usize, q: usize) -> Option<usize>
-    requires { (a ≤ b) × (b ≤ length (text_of text.now))
-        × (p ≤ q) × (q ≤ length (text_of text.now)) }
-    ensures { IsParting (slice a b (text_of text.now))
-        (slice p q (text_of text.now)) result }
+// A letter that tells two spellings apart; none, where they are the same.
+fn compare(old: &Part, new: &Part) -> Option<usize>
+    ensures { IsParting (part_of old.now) (part_of new.now) result }
 {
-    if b - a != q - p {
-        return Some((b - a).min(q - p));
+    let size = old.to - old.from;
+    let other = new.to - new.from;
+    if size != other {
+        return Some(size.min(other));
     }
-    for i in 0..b - a {
-        if text.byte(a + i) != text.byte(p + i) {
+    for i in 0..size {
+        if old.text.byte(old.from + i) != new.text.byte(new.from + i) {
             return Some(i);
         }
     }
@@ -130,29 +117,16 @@ fn fork(table: &mut [u32], at: usize, count: usize, place: usize, old: u32, new:
     table[FORKS_AT] = forks + 1;
 }
 
-// Is the token from p up to q, which is to be token `count`, spelled like the one from a up to b, at which its way
-// ends? If not, it gets a fork there.
-pub fn hang(
-    text: &Text,
-    table: &mut [u32],
-    at: usize,
-    count: usize,
-    a: usize,
-    b: usize,
-    p: usize,
-    q: usize,
-) -> bool
-    requires { Hangable (text_of text.now) table.old at count a b p q }
-    ensures { Hung table.old table.new at count
-        (slice a b (text_of text.now))
-        (slice p q (text_of text.now)) result }
+// Is the name, which is to be token `count`, spelled like the old one, at which its way ends? If not, it gets a fork
+// there.
+pub fn hang(table: &mut [u32], at: usize, count: usize, old: &Part, name: &Part) -> bool
+    requires { Hangable table.old at count (part_of old.now) }
+    ensures { Hung table.old table.new at count (part_of old.now) (part_of name.now) result }
 {
-    match compare(text, a, b, p, q) {
+    match compare(old, name) {
         None => true,
         Some(i) => {
-            let old = letter(text, a, b, i);
-            let new = letter(text, p, q, i);
-            fork(table, at, count, i, old, new);
+            fork(table, at, count, i, old.letter(i), name.letter(i));
             false
         }
     }

@@ -3,13 +3,13 @@
 #![tactic(auto)]
 
 ghost use Rattle.std.specs.Prelude.{◌≡◌, ◌≤◌, length};
-ghost use Rattle.std.proofs.Math.Seq.{slice};
 ghost use Rattle.language.specs.Sizes.{TABLE};
 ghost use Rattle.language.specs.Tokens.{NAME};
 ghost use Rattle.tokens.specs.Found.{Searchable, TableWorth, bytes_of};
 ghost use Rattle.tokens.specs.Forks.{Foretold};
 ghost use Rattle.tokens.specs.Answer.{IsSplit};
 ghost use Rattle.tokens.specs.Editions.{meant};
+ghost use Rattle.tokens.specs.Parts.{part_of};
 ghost use Rattle.tokens.specs.Shown.{text_of};
 
 pub mod answer;
@@ -21,6 +21,7 @@ pub mod forks;
 pub mod hexadecimal;
 mod marks;
 mod names;
+mod parts;
 pub mod pieces;
 pub mod view;
 mod words;
@@ -29,28 +30,19 @@ mod worth;
 use crate::answer::Unsplit;
 use crate::edition::Edition;
 use crate::pieces::Piece;
-use crate::view::Text;
+use crate::view::{Part, Text};
 use language::{SOURCE, TOKENS, kinds};
 use numbers::Flaw;
 
 // What a token is worth in the table whose next one it is to be: a name its number.
-fn table_worth(
-    text: &Text,
-    table: &mut [u32],
-    count: usize,
-    kind: u32,
-    p: usize,
-    q: usize,
-    worth: u64,
-) -> u64
-    requires { kind ≡ NAME → Searchable (text_of text.now) table.old count p q }
-    ensures { TableWorth (text_of text.now) table.old count kind
-        (slice p q (text_of text.now)) worth result
-        × Foretold (bytes_of (text_of text.now) table.old) table.old
-        table.new count kind (slice p q (text_of text.now)) }
+fn table_worth(table: &mut [u32], count: usize, kind: u32, part: &Part, worth: u64) -> u64
+    requires { kind ≡ NAME → Searchable (text_of part.now.text.now) table.old count (part_of part.now) }
+    ensures { TableWorth (text_of part.now.text.now) table.old count kind (part_of part.now) worth result
+        × Foretold (bytes_of (text_of part.now.text.now) table.old) table.old table.new count kind
+        (part_of part.now) }
 {
     if kind == kinds::NAME {
-        return u64::from(names::name_number(text, table, count, p, q));
+        return u64::from(names::name_number(table, count, part));
     }
     worth
 }
@@ -83,7 +75,12 @@ pub fn split(edition: Edition, text: &Text, table: &mut [u32]) -> Result<usize, 
                 if count == TOKENS {
                     return Err(Unsplit::Stopped(Flaw::ManyTokens, at));
                 }
-                let both = table_worth(text, table, count, kind, at, end, worth);
+                let part = Part {
+                    text: &*text,
+                    from: at,
+                    to: end,
+                };
+                let both = table_worth(table, count, kind, &part, worth);
                 let high = layout::floats::high(both);
                 let low = layout::floats::low(both);
                 layout::token::put(table, count, kind, at as u32, end as u32, high, low);

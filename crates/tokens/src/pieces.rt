@@ -11,7 +11,7 @@ use crate::bytes::{InLine, NameByte, is_blank, is_digit, is_letter};
 use crate::comments::comment_end;
 use crate::edition::Edition;
 use crate::marks::mark_at;
-use crate::view::Text;
+use crate::view::{Part, Text};
 use crate::words::word;
 use crate::worth::number;
 use language::kinds;
@@ -46,8 +46,13 @@ pub fn piece_of(edition: Edition, text: &Text, at: usize, here: u8) -> Result<Pi
 {
     if is_letter(here) {
         let end = text.run_end(at, &NameByte);
+        let name = Part {
+            text,
+            from: at,
+            to: end,
+        };
         return Ok(Piece::Token {
-            kind: word(edition, text, at, end),
+            kind: word(edition, &name),
             end,
             worth: 0,
         });

@@ -27,6 +27,16 @@ pub struct Text<'a> {
     pub view: View,
 }
 
+// A part of a text: the bytes from one place up to another.
+#[derive(Clone, Copy)]
+pub struct Part<'a> {
+    pub text: &'a Text<'a>,
+    pub from: usize,
+    pub to: usize,
+    ghost order: { from ≤ to },
+    ghost inside: { to ≤ length (text_of text.now) },
+}
+
 // How many bytes a line of digits tells.
 #[tactic(auto, using(crate::proofs::Views::line_length))]
 fn len_of_line(sheet: &[u8], from: usize, to: usize) -> usize

@@ -5,24 +5,24 @@ ghost use Rattle.language.proofs.Text.Spellings.{stands};
 ghost use Rattle.language.specs.Text.{word_kind};
 ghost use Rattle.language.specs.Tokens.{NAME};
 ghost use Rattle.tokens.specs.Editions.{meant, has_loops};
+ghost use Rattle.tokens.specs.Parts.{part_of};
 ghost use Rattle.tokens.specs.Shown.{text_of};
 ghost use Rattle.tokens.specs.declared.edition.Edition.{Edition};
 
 use crate::edition::Edition;
-use crate::view::Text;
+use crate::view::{Part, Text};
 use language::kinds;
 
-// The kind of the name from p up to q: a word's own, or NAME. Its length and then its first byte leave two words at
+// The kind of a name: a word's own, or NAME. Its length and then its first byte leave two words at
 // most, and with no others it is compared.
-pub fn word(edition: Edition, text: &Text, p: usize, q: usize) -> u32
-    requires { (p ≤ q) × (q ≤ length (text_of text.now)) }
-    ensures { result ≡ word_kind (meant edition) (slice p q (text_of text.now)) }
+pub fn word(edition: Edition, name: &Part) -> u32
+    ensures { result ≡ word_kind (meant edition) (part_of name.now) }
 {
-    match q - p {
-        2 => of_two(edition, text, p),
-        3 => of_three(edition, text, p),
-        4 => of_four(text, p),
-        5 => of_five(text, p),
+    match name.to - name.from {
+        2 => of_two(edition, name.text, name.from),
+        3 => of_three(edition, name.text, name.from),
+        4 => of_four(name.text, name.from),
+        5 => of_five(name.text, name.from),
         _ => kinds::NAME,
     }
 }

@@ -1,10 +1,7 @@
 -- `tokens_of` goes from line to line, and keeps what is good so far.
-use mathlib.Core.Path.{subst}
 use Rattle.stored.proofs.Reading.{reached_none, reached_amiss, reached_miscounted, reached_long}
 use Rattle.stored.proofs.Reading.{reached_whole, reached_keepable, reached_next}
-use Rattle.stored.specs.Entries.{IsEntry}
 use Rattle.tokens.proofs.Editions.{laws_of}
-use Rattle.tokens.specs.Editions.{meant}
 use Rattle.stored.proofs.tokens_of.Goals as goal
 
 pub loop-at-init : goal.loop-at-init

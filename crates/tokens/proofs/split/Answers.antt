@@ -14,8 +14,6 @@ use Rattle.language.specs.Text.WrongUnder.{many}
 use Rattle.tokens.proofs.Splitting.{reached_none, reached_skip}
 use Rattle.tokens.proofs.Splitting.{reached_broken, reached_whole, reached_searchable, reached_next}
 use Rattle.tokens.proofs.Editions.{laws_of}
-use Rattle.tokens.specs.Editions.{meant}
-use Rattle.tokens.specs.Found.{IsPiece}
 use Rattle.tokens.specs.Shown.{text_of}
 use Rattle.tokens.proofs.split.Goals as goal
 

@@ -7,11 +7,11 @@ use Rattle.stored.proofs.names.name_number.Goals as goal
 pub returns-then-spells : goal.returns-then-spells
 returns-then-spells c =
     let a = c.args in
-    let told-so = putchar_told (told (slice a.p a.q a.stored.now)) c.len-size.ensures c.spells.ensures c.if-spells.true in
+    let told-so = putchar_told (told (slice a.p a.q a.stored.now)) c.len.ensures c.spells.ensures c.if-spells.true in
     (numbered_putchar told-so, c.first_alike-ordinal.ensures.1)
 
 pub returns : goal.returns
 returns c =
     let a = c.args in
-    let told-so = putchar_told (told (slice a.p a.q a.stored.now)) c.len-size.ensures c.spells.ensures c.if-spells.false in
+    let told-so = putchar_told (told (slice a.p a.q a.stored.now)) c.len.ensures c.spells.ensures c.if-spells.false in
     (numbered_first told-so c.first_alike-ordinal.ensures.0, c.first_alike-ordinal.ensures.1)

@@ -1,12 +1,13 @@
--- `compare` compares bytes of the text with others of it, one after the other.
+-- `compare` compares bytes of one part with those of another, one after the other.
 use Rattle.tokens.proofs.Compared.{alike_more, alike_less, alike_all, parted}
 use Rattle.tokens.specs.Shown.{text_of}
 use Rattle.tokens.proofs.forks.compare.Goals as goal
 
-pub returns-then-b-a : goal.returns-then-b-a
-returns-then-b-a c =
-    let a = c.args in
-    parted (text_of a.text.now) a.a a.b a.p a.q c.requires.1 c.requires.3 c.if-b-a.true c.min.ensures
+pub returns-then-size-other : goal.returns-then-size-other
+returns-then-size-other c =
+    let a = c.args.old.now in
+    let b = c.args.new.now in
+    parted (text_of a.text.now) a.from a.to (text_of b.text.now) b.from b.to a.inside b.inside c.if-size-other.true c.min.ensures
 
 pub returns-then-byte : goal.returns-then-byte
 returns-then-byte c =

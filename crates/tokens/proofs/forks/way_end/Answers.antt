@@ -6,15 +6,15 @@ use Rattle.tokens.proofs.forks.way_end.Goals as goal
 
 pub offset_bounds-table-at : goal.offset_bounds-table-at
 offset_bounds-table-at c =
-    omega (arith, first_inside c.requires c.start-at.ensures)
+    omega (arith, first_inside c.requires _ c.start-at.ensures)
 
 pub bounds-table-at : goal.bounds-table-at
 bounds-table-at c =
-    omega (arith, first_inside c.requires c.start-at.ensures, c.requires.room)
+    omega (arith, first_inside c.requires _ c.start-at.ensures, c.requires.room)
 
 pub loop-to-init : goal.loop-to-init
 loop-to-init c =
-    way_first c.requires c.start-at.ensures refl
+    way_first c.requires c.len.ensures c.start-at.ensures refl
 
 pub offset_bounds-table-at-in-loop-to : goal.offset_bounds-table-at-in-loop-to
 offset_bounds-table-at-in-loop-to c =

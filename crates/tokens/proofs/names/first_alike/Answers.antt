@@ -12,11 +12,11 @@ returns-then-count-eq0 c =
 pub returns-then-hang : goal.returns-then-hang
 returns-then-hang c =
     let end = c.way_end-at.ensures in
-    let some : 0 < c.args.count = omega (arith, c.if-count-eq0.false) in hung_found c.requires some end refl c.place-from.ensures c.end-to.ensures
+    let some : 0 < c.args.count = omega (arith, c.if-count-eq0.false) in hung_found c.requires some end refl c.place.ensures c.end.ensures
     c.hang.ensures c.if-hang.true
 
 pub returns : goal.returns
 returns c =
     let end = c.way_end-at.ensures in
-    let some : 0 < c.args.count = omega (arith, c.if-count-eq0.false) in hung_none c.requires some end refl c.place-from.ensures c.end-to.ensures
+    let some : 0 < c.args.count = omega (arith, c.if-count-eq0.false) in hung_none c.requires some end refl c.place.ensures c.end.ensures
     c.hang.ensures c.if-hang.false

@@ -5,4 +5,4 @@ use Rattle.tokens.proofs.words.word.Goals as goal
 
 pub returns-in_default : goal.returns-in_default
 returns-in_default c =
-    no_length ((text_of c.args.text.now)) c.args.p c.args.q c.requires.1 c.in_default.in_default-own.rest c.args.edition
+    let a = c.args.name.now in no_length (text_of a.text.now) a.from a.to a.inside c.in_default.in_default-own.rest c.args.edition
