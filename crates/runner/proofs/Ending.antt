@@ -14,8 +14,7 @@ use Rattle.layout.specs.Table.{zeros}
 use Rattle.layout.proofs.Clearing.{zeros_same}
 use Rattle.machine.specs.Outcomes.{bytes, memory}
 use Rattle.runner.specs.Standing.{Ending, ended, ending_of}
-use Rattle.runner.specs.Contract.{spent, reported_by, reported, outcome_of, spent_of, EndsAs}
-use Rattle.runner.specs.declared.Spent.{Spent}
+use Rattle.runner.specs.Contract.{result_of, reported, outcome_of, EndsAs}
 use Rattle.runner.specs.declared.state.Next.{Next}
 
 -- ---- cleared memory
@@ -61,14 +60,9 @@ output_is o o1 n e l h =
 -- ---- the report
 
 -- it is the outcome's, in the state in which the run ended
-pub report_is : (e : Ending) (n : Next) (σ : M.State) → ended e n.value σ ≡ outcome_of (reported_by e n) σ
+pub report_is : (e : Ending) (n : Next) (σ : M.State) → ended e n.value σ ≡ outcome_of (result_of e n) σ
 report_is Ending.complete n σ = refl
 report_is (Ending.stopped y p) n σ = refl
-
--- units and bytes are the tally's
-pub spent_is : (e : Ending) (n : Next) → spent_of (reported_by e n) ≡ spent n.tally
-spent_is Ending.complete n = refl
-spent_is (Ending.stopped y p) n = refl
 
 pub ends_as : {m : M.Outcome} (w o o1 : List ℕ) (n : Next) → ended (ending_of n.mode) n.value (memory w o1 n.tally) ≡ m
     → length o1 ≡ length o → n.tally.printed ≤ length o1 → ((k : ℕ) → n.tally.printed ≤ k → get_or o1 k 0 ≡ get_or o k 0)
@@ -76,7 +70,7 @@ pub ends_as : {m : M.Outcome} (w o o1 : List ℕ) (n : Next) → ended (ending_o
 ends_as w o o1 n e wide fits rest = record {
   state = memory w o1 n.tally;
   outcome = sym e ∙ report_is (ending_of n.mode) n (memory w o1 n.tally);
-  left = ap (λ (x : Spent). x.left) (spent_is (ending_of n.mode) n);
-  printed = ap (λ (x : Spent). x.printed) (spent_is (ending_of n.mode) n) ∙ sym (bytes_length o1 n.tally.printed);
+  left = refl;
+  printed = sym (bytes_length o1 n.tally.printed);
   output = output_is o o1 n.tally.printed wide fits rest;
 }

@@ -11,7 +11,10 @@ use Rattle.layout.specs.declared.Held.{Held}
 use Rattle.layout.specs.declared.values.Value.{Value}
 use Rattle.layout.specs.declared.values.Value.TheVariants.{Int, Float, Flag, Nothing, Cell}
 use Rattle.numbers.proofs.Apart.{same_stop}
-use Rattle.runner.specs.Contract.{spent_of, EndsAs, Loaded, RunsTo}
+use Rattle.std.specs.Prelude.{Result, Ok, Err}
+use Rattle.numbers.specs.declared.Stop.{Stop}
+use Rattle.runner.specs.Contract.{outcome_of, EndsAs, Loaded, RunsTo}
+use Rattle.runner.specs.declared.Halt.{Halt}
 use Rattle.runner.specs.declared.Done.{Done}
 
 -- ---- the code's values are told apart by what they stand for
@@ -37,7 +40,7 @@ one_value v w e = sym (value_back v) ∙ ap value_of e ∙ value_back w
 -- ---- one answer
 
 module _ {m : M.Outcome} {o o1 o2 : List ℕ} {r q : Done} (a : EndsAs m o o1 r) (b : EndsAs m o o2 q) (same : a.state ≡ b.state) where
-  one_spent : spent_of r ≡ spent_of q
+  one_spent : r.spent ≡ q.spent
   one_spent = λ i. record {
     left = (a.left ∙ ap (λ (σ : M.State). σ.units) same ∙ sym b.left) i;
     printed = (a.printed ∙ ap (λ (σ : M.State). length σ.printed) same ∙ sym b.printed) i;
@@ -53,16 +56,23 @@ same_value e = (cc, cc)
 same_end : {x y : M.Stop} {i j : ℕ} {σ τ : M.State} → stop x i σ ≡ stop y j τ → (x ≡ y) × (i ≡ j) × (σ ≡ τ)
 same_end e = (cc, cc, cc)
 
+same_place : {y z : Stop} {i j : ℕ} → y ≡ z → i ≡ j
+    → ◌≡◌ {A = Halt} (record { why = y; place = i }) (record { why = z; place = j })
+same_place d e = λ n. record { why = d n; place = e n }
+
+one_result : {m : M.Outcome} (x y : Result Value Halt) {σ τ : M.State} → m ≡ outcome_of x σ → m ≡ outcome_of y τ → (x ≡ y) × (σ ≡ τ)
+one_result (Ok v) (Ok w) e f = let z = same_value (sym e ∙ f) in (ap Ok (one_value v w z.0), z.1)
+one_result (Ok v) (Err h) e f = let z : ◌≡◌ {A = ℕ} 0 1 = cc (e, f) in absurd (omega arith)
+one_result (Err h) (Ok v) e f = let z : ◌≡◌ {A = ℕ} 0 1 = cc (e, f) in absurd (omega arith)
+one_result (Err h) (Err k) e f =
+    let x = same_end (sym e ∙ f) in
+    (ap Err (same_place (same_stop h.why k.why x.0) x.1), x.2)
+
 -- an outcome is told by one answer, and by one output
 pub one_answer : {m : M.Outcome} {o o1 o2 : List ℕ} (r q : Done) → EndsAs m o o1 r → EndsAs m o o2 q → (r ≡ q) × (o1 ≡ o2)
-one_answer {o = o} (Done.Value v d) (Done.Value w e) a b =
-    let z = same_value (sym a.outcome ∙ b.outcome) in
-    (λ i. Done.Value (one_value v w z.0 i) (one_spent a b z.1 i), one_output a b z.1)
-one_answer (Done.Value v d) (Done.Stop z j e) a b = let z : ◌≡◌ {A = ℕ} 0 1 = cc (a.outcome, b.outcome) in absurd (omega arith)
-one_answer (Done.Stop y i d) (Done.Value w e) a b = let z : ◌≡◌ {A = ℕ} 0 1 = cc (a.outcome, b.outcome) in absurd (omega arith)
-one_answer (Done.Stop y i d) (Done.Stop z j e) a b =
-    let x = same_end (sym a.outcome ∙ b.outcome) in
-    (λ n. Done.Stop (same_stop y z x.0 n) (x.1 n) (one_spent a b x.2 n), one_output a b x.2)
+one_answer r q a b =
+    let z = one_result r.result q.result a.outcome b.outcome in
+    (λ i. record { result = z.0 i; spent = one_spent a b z.1 i }, one_output a b z.1)
 
 -- no two answers, outputs or work memories fulfil the contract of `run`
 pub one_run : {table w o w1 o1 w2 o2 : List ℕ} {P : Held} {allowance : ℕ} {r q : Done} → Loaded table w P allowance

@@ -1,5 +1,5 @@
 -- The contract of `run`.
-use Rattle.std.specs.Prelude.{List, ◌++◌, reverse, ◌≡◌, ℕ, ◌≤◌, length, drop}
+use Rattle.std.specs.Prelude.{List, ◌++◌, reverse, ◌≡◌, ℕ, ◌≤◌, length, drop, Result, Ok, Err}
 use Rattle.language.specs.Sizes.{ALLOWANCE, WORK}
 use Rattle.language.specs.Tokens.{Token}
 use Rattle.language.specs.Trees.{Ty, Program}
@@ -12,22 +12,24 @@ use Rattle.layout.specs.Decode.{Holds}
 use Rattle.layout.specs.Resolved.{Resolved}
 use Rattle.layout.specs.declared.Held.{Held}
 use Rattle.layout.specs.Values.{meant}
+use Rattle.layout.specs.declared.values.Value.{Value}
 use Rattle.numbers.specs.Meanings.{stop_meant}
 use Rattle.machine.specs.declared.state.Tally.{Tally}
 use Rattle.runner.specs.Standing.{Ending, ending_of}
 use Rattle.runner.specs.declared.Spent.{Spent}
+use Rattle.runner.specs.declared.Halt.{Halt}
 use Rattle.runner.specs.declared.Done.{Done}
 use Rattle.runner.specs.declared.state.Next.{Next}
 
 abbrev pub spent : Tally → Spent
 spent t = record { left = t.units; printed = t.printed }
 
-abbrev pub reported_by : Ending → Next → Done
-reported_by Ending.complete n = Done.Value n.value (spent n.tally)
-reported_by (Ending.stopped y i) n = Done.Stop y i (spent n.tally)
+abbrev pub result_of : Ending → Next → Result Value Halt
+result_of Ending.complete n = Ok n.value
+result_of (Ending.stopped y i) n = Err (record { why = y; place = i })
 
 abbrev pub reported : Next → Done
-reported n = reported_by (ending_of n.mode) n
+reported n = record { result = result_of (ending_of n.mode) n; spent = spent n.tally }
 
 -- What is asked: the table holds a program that has a type, and its names and calls are resolved.
 pub record Loaded (table w : List ℕ) (P : Held) (allowance : ℕ) : Type 0 where
@@ -41,20 +43,16 @@ pub record Loaded (table w : List ℕ) (P : Held) (allowance : ℕ) : Type 0 whe
   pub allowed : allowance ≤ ALLOWANCE
 
 -- the outcome that an answer is, with a state
-abbrev pub outcome_of : Done → M.State → M.Outcome
-outcome_of (Done.Value v e) σ = value (meant v) σ
-outcome_of (Done.Stop y p e) σ = stop (stop_meant y) p σ
-
-abbrev pub spent_of : Done → Spent
-spent_of (Done.Value v e) = e
-spent_of (Done.Stop y p e) = e
+abbrev pub outcome_of : Result Value Halt → M.State → M.Outcome
+outcome_of (Ok v) σ = value (meant v) σ
+outcome_of (Err h) σ = stop (stop_meant h.why) h.place σ
 
 -- the answer r and the output o' are those of the outcome m
 pub record EndsAs (m : M.Outcome) (o o' : List ℕ) (r : Done) : Type 0 where
   pub state : M.State
-  pub outcome : m ≡ outcome_of r state
-  pub left : (spent_of r).left ≡ state.units
-  pub printed : (spent_of r).printed ≡ length state.printed
+  pub outcome : m ≡ outcome_of r.result state
+  pub left : r.spent.left ≡ state.units
+  pub printed : r.spent.printed ≡ length state.printed
   pub output : o' ≡ reverse state.printed ++ drop (length (reverse state.printed)) o
 
 -- What is promised: the answer and the output are those of the meaning, and work memory is cleared.

@@ -28,11 +28,18 @@ pub struct Spent {
     pub printed: usize,
 }
 
-// A value, or why and at which token the run stopped.
+// Why and at which token a run stopped.
 #[derive(Clone, Copy)]
-pub enum Done {
-    Value(Value, Spent),
-    Stop(Stop, u32, Spent),
+pub struct Halt {
+    pub why: Stop,
+    pub place: u32,
+}
+
+// A value, or why there is none; and what was used for it.
+#[derive(Clone, Copy)]
+pub struct Done {
+    pub result: Result<Value, Halt>,
+    pub spent: Spent,
 }
 
 // A node that is to begin does.
@@ -41,13 +48,9 @@ fn begun(table: &[u32], work: &mut [u32], out: &mut [u8], n: Next) -> Next
     ensures { Turns table.now work.old out.old work.new
         out.new n result Mode.Begin }
 {
-    let mode = n.mode;
-    let v = n.value;
-    match mode {
-        Mode::Begin => begin::begin(table, work, n.node, v, n.spot, n.tally),
-        Mode::Give => n,
-        Mode::Over => n,
-        Mode::Halt(_, _) => n,
+    match n.mode {
+        Mode::Begin => begin::begin(table, work, n),
+        _ => n,
     }
 }
 
@@ -57,13 +60,9 @@ fn given(table: &[u32], work: &mut [u32], out: &mut [u8], n: Next) -> Next
     ensures { Turns table.now work.old out.old work.new
         out.new n result Mode.Give }
 {
-    let mode = n.mode;
-    let v = n.value;
-    match mode {
-        Mode::Begin => n,
-        Mode::Give => resume::give(table, work, out, v, n.spot, n.tally),
-        Mode::Over => n,
-        Mode::Halt(_, _) => n,
+    match n.mode {
+        Mode::Give => resume::give(table, work, out, n),
+        _ => n,
     }
 }
 
@@ -84,7 +83,7 @@ fn go(table: &[u32], work: &mut [u32], out: &mut [u8], first: Next) -> Next
         out.new first result }
 {
     let mut next = first;
-    while state::runs(next) {
+    while next.runs() {
         next = turn(table, work, out, next);
     }
     next
@@ -94,18 +93,15 @@ fn report(n: Next) -> Done
     requires { n.tally.units ≤ ALLOWANCE + 1 }
     ensures { result ≡ reported n }
 {
-    let t = n.tally;
-    let v = n.value;
-    let spent = Spent {
-        left: t.units as u32,
-        printed: t.printed,
-    };
-    let mode = n.mode;
-    match mode {
-        Mode::Begin => Done::Value(v, spent),
-        Mode::Give => Done::Value(v, spent),
-        Mode::Over => Done::Value(v, spent),
-        Mode::Halt(why, place) => Done::Stop(why, place, spent),
+    Done {
+        result: match n.mode {
+            Mode::Halt(why, place) => Err(Halt { why, place }),
+            _ => Ok(n.value),
+        },
+        spent: Spent {
+            left: n.tally.units as u32,
+            printed: n.tally.printed,
+        },
     }
 }
 
@@ -115,19 +111,23 @@ pub fn run(table: &[u32], work: &mut [u32], out: &mut [u8], program: Held, allow
     ensures { RunsTo table.now work.old out.old work.new
         out.new program allowance result }
 {
-    let spot = Spot {
-        base: 0,
-        size: 0,
-        height: 1,
-    };
-    let tally = Tally {
-        units: allowance as usize,
-        births: 0,
-        cells: 0,
-        printed: 0,
+    let first = Next {
+        mode: Mode::Begin,
+        node: program.root,
+        value: Value::Nothing,
+        spot: Spot {
+            base: 0,
+            size: 0,
+            height: 1,
+        },
+        tally: Tally {
+            units: allowance as usize,
+            births: 0,
+            cells: 0,
+            printed: 0,
+        },
     };
     frames::put(work, 0, 0, state::WHOLE, 0, 0, 0);
-    let first = state::begins(program.root, Value::Nothing, spot, tally);
     let last = go(table, work, out, first);
     memory::clear(work, 0, WORK);
     report(last)

@@ -1,4 +1,3 @@
--- What the borrow checker leaves of `calls::argument`.
 use lib.Dec.{lit<, lit≤}
 use native.Mathlib.Omega.{arith}
 use Rattle.runner.proofs.Arguing.{framed, argument_read, argument_room, next_row, next_number, argues_next}

@@ -1,4 +1,3 @@
--- What the borrow checker leaves of `calls::call`.
 use mathlib.Core.Path.{sym, ◌∙◌}
 use lib.Dec.{lit<}
 use Rattle.runner.proofs.Promises.{starts_row, starts_frame}

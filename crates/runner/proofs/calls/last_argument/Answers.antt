@@ -1,4 +1,3 @@
--- What the borrow checker leaves of `calls::last_argument`.
 use mathlib.Core.Path.{sym, ap, ◌∙◌}
 use lib.Dec.{lit<, lit≤}
 use native.Mathlib.Omega.{arith}

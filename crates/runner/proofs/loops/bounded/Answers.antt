@@ -1,4 +1,3 @@
--- What the borrow checker leaves of `loops::bounded`.
 use mathlib.Core.Path.{refl}
 use lib.Dec.{lit≤}
 use native.Mathlib.Omega.{arith}

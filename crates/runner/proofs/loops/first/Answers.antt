@@ -1,4 +1,3 @@
--- What the borrow checker leaves of `loops::first`.
 use native.Mathlib.Nat.{le_refl}
 use Rattle.runner.proofs.Promises.{some_from, goes_from}
 use Rattle.runner.proofs.Looping.{opens_zero, opens_turns}
@@ -6,7 +5,7 @@ use Rattle.runner.proofs.loops.first.Goals as goal
 
 pub returns-then-still : goal.returns-then-still
 returns-then-still c =
-    opens_zero c.still.ensures c.if-still.true c.word-place.ensures c.args.v c.halts.ensures
+    opens_zero c.still.ensures c.if-still.true c.word.ensures c.args.n.value c.halts.ensures
 
 pub turn-requires : goal.turn-requires
 turn-requires c =

@@ -1,4 +1,3 @@
--- What the borrow checker leaves of `loops::turn`.
 use Rattle.runner.proofs.Looping.{turns_pass, turns_over}
 use Rattle.runner.proofs.loops.turn.Goals as goal
 

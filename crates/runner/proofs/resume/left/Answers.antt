@@ -1,4 +1,3 @@
--- What the borrow checker leaves of `resume::left`.
 use lib.Dec.{lit<}
 use Rattle.runner.proofs.Promises.{resumes_table, resumes_frame}
 use Rattle.runner.proofs.Resuming.{row_left, slot_left, lefts_settled, lefts_held}

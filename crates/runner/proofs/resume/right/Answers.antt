@@ -1,4 +1,3 @@
--- What the borrow checker leaves of `resume::right`.
 use mathlib.Core.Path.{refl}
 use lib.Dec.{lit<, lit≤}
 use native.Mathlib.Omega.{arith}

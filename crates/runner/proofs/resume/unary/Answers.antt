@@ -1,4 +1,3 @@
--- What the borrow checker leaves of `resume::unary`.
 use lib.Dec.{lit<}
 use Rattle.runner.proofs.Promises.{resumes_table, resumes_room}
 use Rattle.runner.proofs.Resuming.{row_unary, not_new, unaries, creates}
