@@ -5,7 +5,7 @@ use Rattle.wording.specs.declared.ends.End.TheVariants.{Passed, Counted, Value, 
 use Rattle.grumpy.specs.Reports.{CheckedAt, ProfiledAt, RanAt}
 use Rattle.layout.specs.declared.values.Value as value
 use Rattle.numbers.specs.declared.Stop as stop
-use Rattle.sheets.specs.declared.Located.{Located}
+use Rattle.numbers.specs.declared.Located.{Located}
 use Rattle.numbers.specs.declared.Refusal.{Refusal}
 use Rattle.pairs.specs.declared.Spot.{Spot}
 use Rattle.wording.specs.declared.causes.Cause as cause

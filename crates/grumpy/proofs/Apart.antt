@@ -16,7 +16,7 @@ use Rattle.numbers.specs.declared.Stop.{Stop}
 use Rattle.pairs.specs.Spots.{meant}
 use Rattle.pairs.specs.declared.Spot.{Spot}
 use Rattle.runner.proofs.Unique.{value_of, value_back}
-use Rattle.sheets.specs.declared.Located.{Located}
+use Rattle.numbers.specs.declared.Located.{Located}
 use Rattle.grumpy.specs.Reports.{RefusedAt, CheckedAt, Written, ProfiledAt, RanAt, check_told, profile_told, end_told, run_told, same}
 use Rattle.grumpy.specs.Reports.{checked_report, ran_report, wrote_report, profiled_report, pair_checked_report, pair_ran_report, pair_profiled_report}
 

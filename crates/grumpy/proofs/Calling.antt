@@ -28,7 +28,7 @@ use Rattle.layout.proofs.Clearing.{zeros_same}
 use Rattle.resolver.specs.Resolves.{Resolvable, Resolves}
 use Rattle.runner.specs.Contract.{Loaded}
 use Rattle.sheets.specs.Sheets.{OfSource, Passing, Examined}
-use Rattle.sheets.specs.declared.Located.{Located}
+use Rattle.numbers.specs.declared.Located.{Located}
 use Rattle.sheets.specs.declared.Seen.{Seen}
 use Rattle.grumpy.specs.Outcomes.{end_meant, ending_meant, Told, Executed}
 use Rattle.grumpy.specs.Calls.{Admissible, laid, HoldsCall, Prepared, Prepares, Callable, CallRan, Called}

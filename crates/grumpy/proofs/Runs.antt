@@ -1,8 +1,9 @@
 -- A program that is run: what the runner says of it, as the end that is told of it.
+use mathlib.Core.Option.{some}
 use mathlib.Core.List.{List, reverse}
 use mathlib.Core.Path.{◌≡◌, refl, sym, ap, subst, ◌∙◌}
 use Prim.Native.Nat.{ℕ, ◌-◌, ◌≤◌}
-use Rattle.std.proofs.Common.{Ok, Err}
+use Rattle.std.proofs.Common.{Result, Ok, Err}
 use native.Mathlib.Omega.{arith}
 use lib.ListN.{length, length-reverse}
 use Rattle.language.specs.State as M
@@ -13,10 +14,10 @@ use Rattle.language.proofs.Meaning.Spending.{Spent, spent_value, spent_stop, spe
 use Rattle.layout.specs.declared.Held.{Held}
 use Rattle.layout.specs.declared.values.Value.{Value}
 use Rattle.numbers.specs.declared.Stop.{Stop}
+use Rattle.numbers.specs.declared.Located.{Located}
 use Rattle.runner.specs.Contract as Runner
 use Rattle.runner.specs.declared.Done.{Done}
-use Rattle.runner.specs.declared.Spent as spent
-use Rattle.grumpy.specs.Outcomes.{Told, Executed}
+use Rattle.grumpy.specs.Outcomes.{end_meant, Executed}
 
 -- ---- no more units are left than were allowed
 
@@ -30,60 +31,39 @@ few (spent_value h) = h.few
 few (spent_stop h) = h.few
 few spent_stuck = omega arith
 
-units_told : (r : Done) (σ : M.State) → units_of (Runner.outcome_of r σ) ≡ σ.units
-units_told (Done.Value v e) σ = refl
-units_told (Done.Stop y i e) σ = refl
+units_told : (r : Result Value (Located Stop ℕ)) (σ : M.State) → units_of (Runner.outcome_of r σ) ≡ σ.units
+units_told (Ok v) σ = refl
+units_told (Err s) σ = refl
 
 module _ {table work out work' out' : List ℕ} {P : Held} {allowance : ℕ} {r : Done}
     (x : Runner.RunsTo table work out work' out' P allowance r) where
-  left_few : Runner.Loaded table work P allowance → (Runner.spent_of r).left ≤ allowance
+  pub left_few : Runner.Loaded table work P allowance → r.spent.left ≤ allowance
   left_few s =
       let a = x.answer s.ts s.program s.type s.holds s.typed s.resolved in
-      let e = a.left ∙ sym (units_told r a.state) ∙ ap units_of (sym a.outcome) in
+      let e = a.left ∙ sym (units_told r.result a.state) ∙ ap units_of (sym a.outcome) in
       let f = few (births_few s.program allowance (length out)) in
       omega arith
-
-  pub value_left : Runner.Loaded table work P allowance → (v : Value) (e : spent.Spent) → r ≡ Done.Value v e → e.left ≤ allowance
-  value_left s v e q = subst (λ (r : Done). (Runner.spent_of r).left ≤ allowance) q (left_few s)
-
-  pub stop_left : Runner.Loaded table work P allowance → (y : Stop) (i : ℕ) (e : spent.Spent) → r ≡ Done.Stop y i e → e.left ≤ allowance
-  stop_left s y i e q = subst (λ (r : Done). (Runner.spent_of r).left ≤ allowance) q (left_few s)
 
 -- ---- the end that is told
 
 -- what is told of an outcome whose units are those left
-value_told : {m : M.Outcome} {out out' : List ℕ} (allowance : ℕ) (v : Value) (e : spent.Spent) → Runner.EndsAs m out out' (Done.Value v e)
-    → Told m allowance out out' record { end = Ok v; units = allowance - e.left; printed = e.printed }
+end_told : (allowance : ℕ) (r : Result Value (Located Stop ℕ)) (σ : M.State) {n : ℕ} → n ≡ σ.units
+    → ending allowance (Runner.outcome_of r σ) ≡ some (end_meant r (allowance - n) (reverse σ.printed))
 unfolding ending
-value_told allowance v e a = record {
-  printed = reverse a.state.printed;
-  ends = ap (ending allowance) a.outcome ∙ rw a.left refl;
-  counted = a.printed ∙ sym (length-reverse a.state.printed);
-  output = a.output;
+end_told allowance (Ok v) σ e = rw e refl
+end_told allowance (Err s) σ e = rw e refl
+
+pub executed : {table work out work' out' : List ℕ} {P : Held} {allowance : ℕ} {r : Done}
+    → Runner.RunsTo table work out work' out' P allowance r
+    → Executed table work out work' out' P allowance record { end = r.result; units = allowance - r.spent.left; printed = r.spent.printed }
+executed {allowance = allowance} {r = r} x = record {
+  told = λ ts p t h y n.
+      let a = x.answer ts p t h y n in
+      record {
+        printed = reverse a.state.printed;
+        ends = ap (ending allowance) a.outcome ∙ end_told allowance r.result a.state a.left;
+        counted = a.printed ∙ sym (length-reverse a.state.printed);
+        output = a.output;
+      };
+  cleared = x.cleared;
 }
-
-stop_told : {m : M.Outcome} {out out' : List ℕ} (allowance : ℕ) (y : Stop) (i : ℕ) (e : spent.Spent) → Runner.EndsAs m out out' (Done.Stop y i e)
-    → Told m allowance out out' record { end = Err (record { why = y; place = i }); units = allowance - e.left; printed = e.printed }
-unfolding ending
-stop_told allowance y i e a = record {
-  printed = reverse a.state.printed;
-  ends = ap (ending allowance) a.outcome ∙ rw a.left refl;
-  counted = a.printed ∙ sym (length-reverse a.state.printed);
-  output = a.output;
-}
-
-module _ {table work out work' out' : List ℕ} {P : Held} {allowance : ℕ} {r : Done}
-    (x : Runner.RunsTo table work out work' out' P allowance r) where
-  pub executed_value : (v : Value) (e : spent.Spent) (u : ℕ) → r ≡ Done.Value v e → u ≡ allowance - e.left
-      → Executed table work out work' out' P allowance record { end = Ok v; units = u; printed = e.printed }
-  executed_value v e u q b = record {
-    told = λ ts p t h y n. rw b (value_told allowance v e (subst (Runner.EndsAs (run p allowance (length out)) out out') q (x.answer ts p t h y n)));
-    cleared = x.cleared;
-  }
-
-  pub executed_stop : (y : Stop) (i : ℕ) (e : spent.Spent) (u : ℕ) → r ≡ Done.Stop y i e → u ≡ allowance - e.left
-      → Executed table work out work' out' P allowance record { end = Err (record { why = y; place = i }); units = u; printed = e.printed }
-  executed_stop y i e u q b = record {
-    told = λ ts p t h z n. rw b (stop_told allowance y i e (subst (Runner.EndsAs (run p allowance (length out)) out out') q (x.answer ts p t h z n)));
-    cleared = x.cleared;
-  }

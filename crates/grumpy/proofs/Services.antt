@@ -27,7 +27,7 @@ use Rattle.resolver.specs.Resolves.{Resolves}
 use Rattle.sheets.specs.Forms.{origin_of, place_of}
 use Rattle.sheets.specs.Sheets.{OfSource, Examined}
 use Rattle.sheets.specs.declared.Form.{Form}
-use Rattle.sheets.specs.declared.Located.{Located}
+use Rattle.numbers.specs.declared.Located.{Located}
 use Rattle.sheets.specs.declared.Seen.{Seen}
 use Rattle.sheets.proofs.FormLaws.{form_lawful, form_nowhere, form_place}
 use Rattle.grumpy.specs.Reports.{RanAt, same, end_told, checked_report, ran_report}

@@ -22,7 +22,7 @@ use Rattle.sheets.specs.Forms.{origin_of, place_of}
 use Rattle.sheets.specs.Sheets.{OfSource}
 use Rattle.sheets.specs.declared.Form.{Form}
 use Rattle.sheets.specs.declared.Seen.{Seen}
-use Rattle.sheets.specs.declared.Located.{Located}
+use Rattle.numbers.specs.declared.Located.{Located}
 use Rattle.grumpy.specs.Reports.{RanAt, ran_report}
 use Rattle.grumpy.specs.declared.answers.Ending.{Ending}
 

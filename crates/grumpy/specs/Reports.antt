@@ -13,7 +13,7 @@ use Rattle.layout.specs.Values as Values
 use Rattle.layout.specs.declared.values.Value.{Value}
 use Rattle.pairs.specs.Spots.{meant}
 use Rattle.pairs.specs.declared.Spot.{Spot}
-use Rattle.sheets.specs.declared.Located.{Located}
+use Rattle.numbers.specs.declared.Located.{Located}
 use Rattle.grumpy.specs.declared.answers.Costs.{Costs}
 use Rattle.grumpy.specs.declared.answers.Ended.{Ended}
 use Rattle.grumpy.specs.declared.answers.Ending.{Ending}

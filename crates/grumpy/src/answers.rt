@@ -3,8 +3,8 @@
 ghost use Rattle.grumpy.specs.Outcomes.{EndsAt};
 
 use layout::values::Value;
-use numbers::Stop;
-use sheets::{Located, Refused};
+use numbers::{Located, Stop};
+use sheets::Refused;
 
 // A type's number, or a refusal.
 pub type Checked<P> = Result<u32, Refused<P>>;

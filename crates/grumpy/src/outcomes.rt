@@ -9,8 +9,7 @@ use crate::answers::{Ended, Ending, Ran};
 use language::WORK;
 use layout::{Held, memory};
 use numbers::Refusal;
-use runner::Done;
-use sheets::{Form, Located, Refused, Seen};
+use sheets::{Form, Refused, Seen};
 
 // Runs the program that the table holds.
 pub fn execute(
@@ -24,21 +23,11 @@ pub fn execute(
     ensures { Executed table.now work.old out.old work.new
         out.new program allowance result }
 {
-    match runner::run(table, work, out, program, allowance) {
-        Done::Value(value, spent) => {
-            let left = spent.left;
-            let used = allowance - left;
-            Ending {
-                end: Ok(value),
-                units: used,
-                printed: spent.printed,
-            }
-        }
-        Done::Stop(why, place, spent) => Ending {
-            end: Err(Located { why, place }),
-            units: allowance - spent.left,
-            printed: spent.printed,
-        },
+    let done = runner::run(table, work, out, program, allowance);
+    Ending {
+        end: done.result,
+        units: allowance - done.spent.left,
+        printed: done.spent.printed,
     }
 }
 

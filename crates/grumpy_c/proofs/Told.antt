@@ -23,7 +23,7 @@ use Rattle.layout.specs.declared.values.Value.{Value}
 use Rattle.numbers.specs.Meanings.{refusal_meant, stop_meant}
 use Rattle.numbers.specs.declared.Refusal.{Refusal}
 use Rattle.numbers.specs.declared.Stop.{Stop}
-use Rattle.sheets.specs.declared.Located.{Located}
+use Rattle.numbers.specs.declared.Located.{Located}
 use Rattle.grumpy.specs.declared.answers.Ended.{Ended}
 use Rattle.grumpy.specs.Reports.{CheckedAt, RefusedAt, RanAt, end_told, same, Written, checked_report, ran_report, wrote_report}
 use Rattle.grumpy_c.specs.Reports.{three, six, check_words, run_words, ToldChecked, ToldRan, CheckedC, check_no_report, check_reported, RanC}

@@ -21,7 +21,7 @@ use Rattle.numbers.specs.declared.Refusal.{Refusal}
 use Rattle.numbers.specs.declared.Stop.{Stop}
 use Rattle.pairs.specs.Spots.{meant}
 use Rattle.pairs.specs.declared.Spot.{Spot}
-use Rattle.sheets.specs.declared.Located.{Located}
+use Rattle.numbers.specs.declared.Located.{Located}
 use Rattle.grumpy.specs.declared.answers.Ended.{Ended}
 use Rattle.grumpy.specs.Reports.{CheckedAt, RefusedAt, RanAt, end_told, pair_checked_report, pair_ran_report}
 use Rattle.grumpy_c.specs.Reports.{three, six}

@@ -73,6 +73,13 @@ pub enum Stop {
     ZeroStep = 58,
 }
 
+// Why something is not done or stops, and where that is told.
+#[derive(Clone, Copy)]
+pub struct Located<Y, P> {
+    pub why: Y,
+    pub place: P,
+}
+
 pub fn of_flaw(flaw: Flaw) -> u32
     ensures { result ≡ flaw_number (flaw_meant flaw) }
 {

@@ -13,8 +13,8 @@ use Rattle.layout.specs.declared.values.Value.TheVariants.{Int, Float, Flag, Not
 use Rattle.numbers.proofs.Apart.{same_stop}
 use Rattle.std.specs.Prelude.{Result, Ok, Err}
 use Rattle.numbers.specs.declared.Stop.{Stop}
+use Rattle.numbers.specs.declared.Located.{Located}
 use Rattle.runner.specs.Contract.{outcome_of, EndsAs, Loaded, RunsTo}
-use Rattle.runner.specs.declared.Halt.{Halt}
 use Rattle.runner.specs.declared.Done.{Done}
 
 -- ---- the code's values are told apart by what they stand for
@@ -57,10 +57,10 @@ same_end : {x y : M.Stop} {i j : ℕ} {σ τ : M.State} → stop x i σ ≡ stop
 same_end e = (cc, cc, cc)
 
 same_place : {y z : Stop} {i j : ℕ} → y ≡ z → i ≡ j
-    → ◌≡◌ {A = Halt} (record { why = y; place = i }) (record { why = z; place = j })
+    → ◌≡◌ {A = Located Stop ℕ} (record { why = y; place = i }) (record { why = z; place = j })
 same_place d e = λ n. record { why = d n; place = e n }
 
-one_result : {m : M.Outcome} (x y : Result Value Halt) {σ τ : M.State} → m ≡ outcome_of x σ → m ≡ outcome_of y τ → (x ≡ y) × (σ ≡ τ)
+one_result : {m : M.Outcome} (x y : Result Value (Located Stop ℕ)) {σ τ : M.State} → m ≡ outcome_of x σ → m ≡ outcome_of y τ → (x ≡ y) × (σ ≡ τ)
 one_result (Ok v) (Ok w) e f = let z = same_value (sym e ∙ f) in (ap Ok (one_value v w z.0), z.1)
 one_result (Ok v) (Err h) e f = let z : ◌≡◌ {A = ℕ} 0 1 = cc (e, f) in absurd (omega arith)
 one_result (Err h) (Ok v) e f = let z : ◌≡◌ {A = ℕ} 0 1 = cc (e, f) in absurd (omega arith)

@@ -14,17 +14,18 @@ use Rattle.layout.specs.declared.Held.{Held}
 use Rattle.layout.specs.Values.{meant}
 use Rattle.layout.specs.declared.values.Value.{Value}
 use Rattle.numbers.specs.Meanings.{stop_meant}
+use Rattle.numbers.specs.declared.Stop.{Stop}
+use Rattle.numbers.specs.declared.Located.{Located}
 use Rattle.machine.specs.declared.state.Tally.{Tally}
 use Rattle.runner.specs.Standing.{Ending, ending_of}
 use Rattle.runner.specs.declared.Spent.{Spent}
-use Rattle.runner.specs.declared.Halt.{Halt}
 use Rattle.runner.specs.declared.Done.{Done}
 use Rattle.runner.specs.declared.state.Next.{Next}
 
 abbrev pub spent : Tally → Spent
 spent t = record { left = t.units; printed = t.printed }
 
-abbrev pub result_of : Ending → Next → Result Value Halt
+abbrev pub result_of : Ending → Next → Result Value (Located Stop ℕ)
 result_of Ending.complete n = Ok n.value
 result_of (Ending.stopped y i) n = Err (record { why = y; place = i })
 
@@ -43,7 +44,7 @@ pub record Loaded (table w : List ℕ) (P : Held) (allowance : ℕ) : Type 0 whe
   pub allowed : allowance ≤ ALLOWANCE
 
 -- the outcome that an answer is, with a state
-abbrev pub outcome_of : Result Value Halt → M.State → M.Outcome
+abbrev pub outcome_of : Result Value (Located Stop ℕ) → M.State → M.Outcome
 outcome_of (Ok v) σ = value (meant v) σ
 outcome_of (Err h) σ = stop (stop_meant h.why) h.place σ
 

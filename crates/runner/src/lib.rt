@@ -19,7 +19,7 @@ use language::WORK;
 use layout::values::Value;
 use layout::{Held, frames, memory};
 use machine::state::Tally;
-use numbers::Stop;
+use numbers::{Located, Stop};
 
 // The units that are left of the allowance, and how many bytes were printed.
 #[derive(Clone, Copy)]
@@ -28,17 +28,10 @@ pub struct Spent {
     pub printed: usize,
 }
 
-// Why and at which token a run stopped.
-#[derive(Clone, Copy)]
-pub struct Halt {
-    pub why: Stop,
-    pub place: u32,
-}
-
-// A value, or why there is none; and what was used for it.
+// A value, or why and at which token the run stopped; and what was used for it.
 #[derive(Clone, Copy)]
 pub struct Done {
-    pub result: Result<Value, Halt>,
+    pub result: Result<Value, Located<Stop, u32>>,
     pub spent: Spent,
 }
 
@@ -95,7 +88,7 @@ fn report(n: Next) -> Done
 {
     Done {
         result: match n.mode {
-            Mode::Halt(why, place) => Err(Halt { why, place }),
+            Mode::Halt(why, place) => Err(Located { why, place }),
             _ => Ok(n.value),
         },
         spent: Spent {

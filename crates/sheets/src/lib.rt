@@ -16,18 +16,11 @@ ghost use Rattle.sheets.specs.Sheets.{byte_of, Typed, Read, Placed, Near, lined_
 ghost use Rattle.sheets.specs.Forms.{origin_of, place_of};
 
 use layout::Held;
-use numbers::Refusal;
+use numbers::{Located, Refusal};
 use stored::Denied;
 use tokens::answer::Unsplit;
 use tokens::edition::{Edition, named};
 use tokens::view::{Text, View};
-
-// Why something is not done, and where that is told.
-#[derive(Clone, Copy)]
-pub struct Located<Y, P> {
-    pub why: Y,
-    pub place: P,
-}
 
 pub type Refused<P> = Located<Refusal, P>;
 

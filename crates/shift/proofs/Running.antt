@@ -26,7 +26,7 @@ use Rattle.layout.specs.Table.{zeros}
 use Rattle.layout.specs.declared.Held.{Held}
 use Rattle.layout.proofs.Wiped.{zeros_cleared}
 use Rattle.numbers.specs.declared.Stop.{Stop}
-use Rattle.sheets.specs.declared.Located.{Located}
+use Rattle.numbers.specs.declared.Located.{Located}
 use Rattle.grumpy.specs.Calls.{Prepared, Callable, CallRan, Called}
 use Rattle.grumpy.specs.Outcomes.{ending_meant}
 use Rattle.grumpy.specs.declared.answers.Ending.{Ending}

@@ -8,7 +8,7 @@ use Rattle.layout.specs.Table.{zeros}
 use Rattle.layout.specs.declared.Held.{Held}
 use Rattle.layout.specs.declared.values.Value.{Value}
 use Rattle.numbers.specs.declared.Stop.{Stop}
-use Rattle.sheets.specs.declared.Located.{Located}
+use Rattle.numbers.specs.declared.Located.{Located}
 use Rattle.grumpy.specs.Calls.{Prepared}
 use Rattle.grumpy.specs.declared.answers.Ending.{Ending}
 use Rattle.tally.specs.Stands.{outcome_meant}
