@@ -14,7 +14,7 @@ use Rattle.language.proofs.Text.Choices.{outcome, clash, and_both}
 use Rattle.language.proofs.Text.Classes.{worth_digit}
 use Rattle.language.proofs.Text.Digits.{number_append}
 use Rattle.language.specs.Text.{between, is_digit, worth, number_from}
-use Rattle.std.specs.Prelude.{Option, Some, None}
+use Rattle.std.specs.Prelude.{Some}
 use Rattle.page.specs.Amounts.{all_digits, is_number, number_up_to, AMOUNT, amount_by, amount_in}
 use Rattle.page.specs.Characters.{is_readable}
 use Rattle.page.specs.Lines.{feeds}

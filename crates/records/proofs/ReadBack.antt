@@ -4,11 +4,11 @@ use lib.IntN.{ℤ, pos, negsuc, nat_abs}
 use lib.ListN.{length, get_or, take, drop}
 use lib.Seq.{take_all, take-append_seam}
 use lib.Signed.{mag}
-use mathlib.Core.Bool.{Bool, true, false, ◌&&◌}
+use mathlib.Core.Bool.{Bool, true, false}
 use mathlib.Core.List.{List, [], ◌∷◌}
 use mathlib.Core.Logic.{◌⊎◌, inl, inr}
 use mathlib.Core.Option.{some}
-use mathlib.Core.Path.{◌≡◌, refl, ap, subst, ◌∙◌}
+use mathlib.Core.Path.{◌≡◌, refl, ◌∙◌}
 use borrow.Author.Tests.{eqb-true}
 use native.Mathlib.Omega.{arith}
 use Prim.Native.Nat.{ℕ, ◌+◌, ◌-◌, ◌≤◌}
@@ -23,9 +23,9 @@ use Rattle.page.specs.Text.{decimal_of, Adds}
 use Rattle.tally.specs.Stands.{report_in}
 use Rattle.tally.specs.declared.sums.Sums.{Sums}
 use Rattle.records.specs.Machines.{shift_lines, combined_lines}
-use Rattle.std.specs.Prelude.{Option, Some, None}
+use Rattle.std.specs.Prelude.{Option, Some}
 use Rattle.records.specs.Readings.{count_told, amount_told, nine_told, sums_told, is_told, over_told, number_told}
-use Rattle.records.specs.Readings.{whole, full, Reads}
+use Rattle.records.specs.Readings.{whole, full, reading_in}
 use Rattle.wording.specs.Values.{signed_words}
 use Rattle.records.specs.declared.readings.Reading.{Reading}
 use Rattle.records.proofs.LinesRead.{Line, line, text_of, Clean, apart, same, look, found, as_many, none_behind}
@@ -169,24 +169,19 @@ module _ {ls : List Line} {s : Sums} (t : Tells ls s) (w : Writable s) where
 
 -- ---- what comes of it
 
--- the reading is good, says whether there was a line too many, and has the sums
-pub record Back (r : Reading) (many : Bool) (s : Sums) : Type 0 where
-  pub good : r.good ≡ true
-  pub over : r.over ≡ many
-  pub sums : r.sums ≡ s
+-- it is read as a report, which says whether there was a line too many, and has the sums
+abbrev pub Back : Option Reading → (many : Bool) → Sums → Type 0
+Back r many s = r ≡ Some (record { over = many; sums = s })
 
-module _ (l : Line) (ls : List Line) {s : Sums} (t : Tells (l ∷ ls) s) (w : Writable s) {r : Reading} (x : Reads (text_of (l ∷ ls)) r) where
+module _ (l : Line) (ls : List Line) {s : Sums} (t : Tells (l ∷ ls) s) (w : Writable s) where
   numbered : {v : List ℕ} {n : ℕ} → look (spell "number ") (l ∷ ls) ≡ some v → number_up_to 99 v ≡ Some n
       → number_told (text_of (l ∷ ls)) ≡ Some n
   numbered e h = rw (found (spell "number ") (l ∷ ls) t.clean e) h
 
   back : (n : ℕ) → number_told (text_of (l ∷ ls)) ≡ Some n → is_told (Some n) ≡ true → full (text_of (l ∷ ls)) ≡ true
-      → Back r (over_told (Some n)) s
-  back n e h f = record {
-    good = x.good ∙ (λ i. f i && (is_told (e i) && whole (sums_back t w i))) ∙ rw (h, w.whole) refl;
-    over = x.over ∙ ap over_told e;
-    sums = x.sums ∙ sums_back t w;
-  }
+      → Back (reading_in (text_of (l ∷ ls))) (over_told (Some n)) s
+  unfolding reading_in
+  back n e h f = rw (f, e, sums_back t w, h, w.whole) refl
 
 is_full : (l : Line) (ls : List Line) → Clean (l ∷ ls) → (length (l ∷ ls) ≡ 18) ⊎ (length (l ∷ ls) ≡ 20) → full (text_of (l ∷ ls)) ≡ true
 unfolding full
@@ -215,11 +210,11 @@ module _ (status : ℕ) (file : List ℕ) (allowance : ℕ) (s : Sums) where
     largest = refl;
   }
 
-  pub shift_back : Writable s → {r : Reading} → Reads (shift_lines status file allowance false s) r → Back r false s
+  pub shift_back : Writable s → Back (reading_in (shift_lines status file allowance false s)) false s
   unfolding look apart same number_up_to number_from worth is_number all_digits is_digit between
-  shift_back w {r} x =
-      let y = subst (λ (t : List ℕ). Reads t r) (shift_text status file allowance s) x in
-      back _ _ shift_tells w y 0 (numbered _ _ shift_tells w y refl refl) refl (is_full _ _ (shift_clean status file allowance s) (inr refl))
+  shift_back w =
+      rw (shift_text status file allowance s)
+      (back _ _ shift_tells w 0 (numbered _ _ shift_tells w refl refl) refl (is_full _ _ (shift_clean status file allowance s) (inr refl)))
 
 -- whatever stands in the three lines before them
 module _ (a v m : List ℕ) (s : Sums) where
@@ -251,17 +246,16 @@ combined_tells : (status : ℕ) (over : Bool) (s : Sums) → Tells (combined_row
 combined_tells status true s = behind_three _ _ _ s (combined_clean status true s)
 combined_tells status false s = behind_three _ _ _ s (combined_clean status false s)
 
-pub combined_back : (status : ℕ) (over : Bool) (s : Sums) → Writable s → {r : Reading} → Reads (combined_lines status over s) r
-    → Back r over s
+pub combined_back : (status : ℕ) (over : Bool) (s : Sums) → Writable s → Back (reading_in (combined_lines status over s)) over s
 unfolding look apart same number_up_to number_from worth is_number all_digits is_digit between
-combined_back status true s w {r} x =
-    let y = subst (λ (t : List ℕ). Reads t r) (combined_text status true s) x in
+combined_back status true s w =
     let k = combined_tells status true s in
-    back _ _ k w y 46 (numbered _ _ k w y refl refl) refl (is_full _ _ (combined_clean status true s) (inl refl))
-combined_back status false s w {r} x =
-    let y = subst (λ (t : List ℕ). Reads t r) (combined_text status false s) x in
+    rw (combined_text status true s)
+    (back _ _ k w 46 (numbered _ _ k w refl refl) refl (is_full _ _ (combined_clean status true s) (inl refl)))
+combined_back status false s w =
     let k = combined_tells status false s in
-    back _ _ k w y 0 (numbered _ _ k w y refl refl) refl (is_full _ _ (combined_clean status false s) (inl refl))
+    rw (combined_text status false s)
+    (back _ _ k w 0 (numbered _ _ k w refl refl) refl (is_full _ _ (combined_clean status false s) (inl refl)))
 
 -- ---- what stands in the lent bytes
 
@@ -273,12 +267,10 @@ written {t} {entry} {exit} {n} a h =
 
 pub shift_read : (status : ℕ) (file : List ℕ) (allowance : ℕ) (s : Sums) {entry exit : List ℕ} {n : ℕ}
     → Adds (shift_lines status file allowance false s) entry exit 0 n → length (shift_lines status file allowance false s) ≤ length entry
-    → Writable s → {r : Reading} → Reads (take n exit) r → Back r false s
-shift_read status file allowance s a h w {r} x =
-    shift_back status file allowance s w (subst (λ (t : List ℕ). Reads t r) (written a h) x)
+    → Writable s → Back (reading_in (take n exit)) false s
+shift_read status file allowance s a h w = rw (written a h) (shift_back status file allowance s w)
 
 pub combined_read : (status : ℕ) (over : Bool) (s : Sums) {entry exit : List ℕ} {n : ℕ}
     → Adds (combined_lines status over s) entry exit 0 n → length (combined_lines status over s) ≤ length entry
-    → Writable s → {r : Reading} → Reads (take n exit) r → Back r over s
-combined_read status over s a h w {r} x =
-    combined_back status over s w (subst (λ (t : List ℕ). Reads t r) (written a h) x)
+    → Writable s → Back (reading_in (take n exit)) over s
+combined_read status over s a h w = rw (written a h) (combined_back status over s w)

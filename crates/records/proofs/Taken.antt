@@ -3,7 +3,7 @@ use lib.Dec.{eqb}
 use lib.IntN.{ℤ, pos}
 use lib.ListN.{length, take}
 use lib.Seq.{take-length}
-use mathlib.Core.Bool.{Bool, true, false, ◌&&◌, ◌||◌}
+use mathlib.Core.Bool.{Bool, true, false, ◌||◌}
 use mathlib.Core.List.{List}
 use mathlib.Core.Path.{◌≡◌, refl, sym, ap, ◌∙◌}
 use borrow.Author.Tests.{ne_eqb}
@@ -16,8 +16,8 @@ use Rattle.page.specs.Lines.{feeds, behind}
 use Rattle.tally.specs.Stands.{report_in}
 use Rattle.tally.specs.declared.sums.Sums.{Sums}
 use Rattle.std.specs.Prelude.{Option, Some, None, unwrap_or}
-use Rattle.records.specs.Readings.{or_many, count_told, or_much, amount_told, nine_told, sums_told, is_told, over_told, number_told}
-use Rattle.records.specs.Readings.{whole, full, Reads}
+use Rattle.records.specs.Readings.{or_many, count_told, or_much, amount_told, nine_told, sums_told}
+use Rattle.records.specs.Readings.{whole, full}
 
 -- ---- one value
 
@@ -76,14 +76,3 @@ module _ (t : List ℕ) (last : ℕ) (e : last + behind (take (length t) t) ≡ 
   not_ended h =
       let z : eqb (behind t) 0 ≡ false = ne_eqb (behind t) 0 (λ (b : behind t ≡ 0). h (omega (arith, left))) in
       rw z refl
-
--- ---- the whole
-
-pub all_read : (t : List ℕ) {number : Option ℕ} {sums : Sums} {f o w g v : Bool} → number ≡ number_told t → sums ≡ sums_told t
-    → f ≡ full t → o ≡ is_told number → w ≡ whole sums → g ≡ (f && (o && w)) → v ≡ over_told number
-    → Reads t record { good = g; over = v; sums = sums }
-all_read t {number} {sums} {f} {o} {w} n s a b c e h = record {
-  good = e ∙ (λ i. a i && ((b ∙ ap is_told n) i && (c ∙ ap whole s) i));
-  over = h ∙ ap over_told n;
-  sums = s;
-}

@@ -1,7 +1,7 @@
 // The report of a shift for machines, read again.
 ghost use Rattle.std.specs.Prelude.{◌||◌, ◌≡◌, eqb};
 ghost use Rattle.records.specs.Readings.{count_told, amount_told, nine_told, sums_told, is_told, over_told};
-ghost use Rattle.records.specs.Readings.{whole, full, Reads};
+ghost use Rattle.records.specs.Readings.{whole, full, reading_in};
 
 use page::lines::{feeds_before, line_start};
 use page::{amount, count};
@@ -16,10 +16,9 @@ const NO_COUNT: u32 = 65537;
 
 const NO_AMOUNT: i64 = 4611686018427387904;
 
-// A file that was read: whether it is the report of a shift, whether it tells of a line too many, and the sums.
+// The report of a shift: whether it tells of a line too many, and the sums.
 #[derive(Clone, Copy)]
 pub struct Reading {
-    pub good: bool,
     pub over: bool,
     pub sums: Sums,
 }
@@ -103,14 +102,18 @@ fn is_full(text: &[u8]) -> bool
     line_start(text, n) == n && is_length(feeds_before(text, n))
 }
 
-pub fn read(text: &[u8]) -> Reading
-    ensures { Reads text.now result }
+// A file that was read, if it is the report of a shift.
+#[tactic(auto, unfolding(crate::specs::Readings::reading_in))]
+pub fn read(text: &[u8]) -> Option<Reading>
+    ensures { result ≡ reading_in text.now }
 {
     let number = count(text, b"number ", NUMBERS);
     let sums = sums_of(text);
-    Reading {
-        good: is_full(text) && is_told(number) && is_whole(sums),
-        over: over_told(number),
-        sums,
+    if is_full(text) && is_told(number) && is_whole(sums) {
+        return Some(Reading {
+            over: over_told(number),
+            sums,
+        });
     }
+    None
 }

@@ -15,8 +15,7 @@ fn add(rt: &impl Outside, word: usize, all: Finished) -> Option<Finished> {
     let most = room.len();
     let bytes = input::load(rt, Some(word), &mut room)?;
     if bytes.len() < most {
-        let reading = readings::read(bytes);
-        if reading.good {
+        if let Some(reading) = readings::read(bytes) {
             let part = Finished {
                 told: Ending::Report { over: reading.over },
                 sums: reading.sums,
