@@ -1,5 +1,5 @@
--- What came of a rate sheet with a call under it as the second sheet, and what is known by its profile.
-use Rattle.std.specs.Prelude.{Bool, true, false, cond, eqb, ℕ, Option, Some, None, Result, Ok, Err}
+-- What came of a rate sheet with a call under it as the second sheet.
+use Rattle.std.specs.Prelude.{Bool, true, false, cond, eqb, ℕ, Result, Ok, Err}
 use Rattle.wording.specs.declared.ends.End.{End}
 use Rattle.wording.specs.declared.ends.End.TheVariants.{Passed, Counted, Value, Refused, Stopped}
 use Rattle.grumpy.specs.Reports.{CheckedAt, ProfiledAt, RanAt}
@@ -9,7 +9,7 @@ use Rattle.numbers.specs.declared.Located.{Located}
 use Rattle.numbers.specs.declared.Refusal.{Refusal}
 use Rattle.pairs.specs.declared.Spot.{Spot}
 use Rattle.wording.specs.declared.causes.Cause as cause
-use Rattle.answered.specs.Refusals.{is_long, is_unread}
+use Rattle.answered.specs.Refusals.{is_long}
 
 abbrev pub sided : (called : Bool) → Refusal → (place : ℕ) → End
 sided called r place =
@@ -40,14 +40,6 @@ abbrev pub ran_under : (own : ℕ) → RanAt Spot → End
 ran_under own (Ok r) = ended_under own r.type_number r.ending.units r.ending.printed r.ending.end
 ran_under own (Err r) = refused_under r.why r.place
 
-abbrev pub unread_under : CheckedAt Spot → Bool
-unread_under (Ok k) = false
-unread_under (Err r) = is_unread r.why
-
 abbrev pub profiled_under : ProfiledAt Spot → End
 profiled_under (Ok p) = Counted p.type_number p.count
 profiled_under (Err r) = refused_under r.why r.place
-
-abbrev pub most_under : ProfiledAt Spot → Option ℕ
-most_under (Ok p) = Some p.count
-most_under (Err r) = None

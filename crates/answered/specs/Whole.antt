@@ -1,5 +1,5 @@
--- What came of a whole sheet, from what the box answered, and what is known by its profile.
-use Rattle.std.specs.Prelude.{Bool, false, ℕ, Option, Some, None, Result, Ok, Err}
+-- What came of a whole sheet, from what the box answered.
+use Rattle.std.specs.Prelude.{ℕ, Result, Ok, Err}
 use Rattle.wording.specs.declared.ends.End.{End}
 use Rattle.wording.specs.declared.ends.End.TheVariants.{Passed, Counted, Value, Refused, Stopped}
 use Rattle.grumpy.specs.Reports.{CheckedAt, ProfiledAt, RanAt}
@@ -7,7 +7,6 @@ use Rattle.layout.specs.declared.values.Value as value
 use Rattle.numbers.specs.declared.Stop as stop
 use Rattle.numbers.specs.declared.Located.{Located}
 use Rattle.wording.specs.declared.causes.Cause as cause
-use Rattle.answered.specs.Refusals.{is_unread}
 
 abbrev pub checked_end : CheckedAt ℕ → End
 checked_end (Ok k) = Passed k
@@ -22,14 +21,6 @@ abbrev pub ran_end : RanAt ℕ → End
 ran_end (Ok r) = ended_end r.type_number r.ending.units r.ending.printed r.ending.end
 ran_end (Err r) = Refused (cause.TheVariants.Refused r.why) r.place
 
-abbrev pub unread_end : CheckedAt ℕ → Bool
-unread_end (Ok k) = false
-unread_end (Err r) = is_unread r.why
-
 abbrev pub profiled_end : ProfiledAt ℕ → End
 profiled_end (Ok p) = Counted p.type_number p.count
 profiled_end (Err r) = Refused (cause.TheVariants.Refused r.why) r.place
-
-abbrev pub most_of : ProfiledAt ℕ → Option ℕ
-most_of (Ok p) = Some p.count
-most_of (Err r) = None

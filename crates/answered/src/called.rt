@@ -1,9 +1,9 @@
 // What came of a rate sheet with a call under it, which is a sheet of its own: the second.
 ghost use Rattle.std.specs.Prelude.{◌≡◌};
 ghost use Rattle.answered.specs.Called.{refused_under, passed_under, checked_under, own_place, ended_under, ran_under};
-ghost use Rattle.answered.specs.Called.{profiled_under, most_under, unread_under};
+ghost use Rattle.answered.specs.Called.{profiled_under};
 
-use crate::refusals::{is_long, is_unread};
+use crate::refusals::is_long;
 use grumpy::answers::{Checked, Ended, Ending, Profiled, Ran};
 use numbers::Refusal;
 use pairs::Spot;
@@ -97,25 +97,5 @@ pub fn of_profile(answer: Profiled<Spot>) -> End
     match answer {
         Ok(costs) => End::Counted(costs.type_number, costs.count),
         Err(r) => refused(r.why, r.place),
-    }
-}
-
-// What is known by that of the units that the call can use.
-pub fn known(answer: Profiled<Spot>) -> Option<u32>
-    ensures { result ≡ most_under answer }
-{
-    match answer {
-        Ok(costs) => Some(costs.count),
-        Err(_) => None,
-    }
-}
-
-// Is it, with the call, no program?
-pub fn unread(answer: Checked<Spot>) -> bool
-    ensures { result ≡ unread_under answer }
-{
-    match answer {
-        Ok(_) => false,
-        Err(r) => is_unread(r.why),
     }
 }

@@ -1,8 +1,7 @@
 // What came of a whole sheet, or of a stored one.
 ghost use Rattle.std.specs.Prelude.{◌≡◌};
-ghost use Rattle.answered.specs.Whole.{checked_end, ended_end, ran_end, profiled_end, most_of, unread_end};
+ghost use Rattle.answered.specs.Whole.{checked_end, ended_end, ran_end, profiled_end};
 
-use crate::refusals::is_unread;
 use grumpy::answers::{Checked, Ended, Ending, Profiled, Ran};
 use wording::causes::Cause;
 use wording::ends::End;
@@ -60,25 +59,5 @@ pub fn of_profile(answer: Profiled<usize>) -> End
     match answer {
         Ok(costs) => End::Counted(costs.type_number, costs.count),
         Err(r) => End::Refused(Cause::Refused(r.why), r.place),
-    }
-}
-
-// What is known by that of the units that it can use.
-pub fn known(answer: Profiled<usize>) -> Option<u32>
-    ensures { result ≡ most_of answer }
-{
-    match answer {
-        Ok(costs) => Some(costs.count),
-        Err(_) => None,
-    }
-}
-
-// Is it, as it stands, no program?
-pub fn unread(answer: Checked<usize>) -> bool
-    ensures { result ≡ unread_end answer }
-{
-    match answer {
-        Ok(_) => false,
-        Err(r) => is_unread(r.why),
     }
 }

@@ -38,6 +38,7 @@ pub fn open<R: Files>(rt: &R, name: &[u8]) -> Result<R::File, Error> {
 }
 
 // Reads on behind the bytes that there are, until they are full or the input ends, and answers how many there are then.
+// It goes on by what each read gives, which no range says beforehand.
 fn read_on<I: Read>(input: &mut I, begun: usize, bytes: &mut [u8]) -> Result<usize, Error>
     requires { begun ≤ length bytes.old }
     ensures { ReadsAtMost result bytes.new }

@@ -2,6 +2,7 @@
 ghost use Rattle.std.specs.Prelude.{IfSome};
 ghost use Rattle.desk.specs.Statuses.{Status};
 
+use crate::job::Job;
 use desk::{Outside, arguments, input};
 use orders::asked::Asked;
 use records::readings;
@@ -50,13 +51,15 @@ fn summed(rt: &impl Outside) -> Option<Finished> {
     Some(all)
 }
 
-// That a part is refused otherwise than for its lines does not come: such a report has no sums, and is not read.
-pub fn combine(rt: &impl Outside, asked: Asked) -> Option<u32>
-    ensures { IfSome result Status }
-{
-    let all = summed(rt)?;
-    match all.told {
-        Ending::Report { over } => Some(reports::combined(rt, asked, over, all.sums)),
-        Ending::Refused(_) => None,
+impl<R: Outside> Job<'_, R> {
+    // That a part is refused otherwise than for its lines does not come: such a report has no sums, and is not read.
+    pub fn combine(&self) -> Option<u32>
+        ensures { IfSome result Status }
+    {
+        let all = summed(self.rt)?;
+        match all.told {
+            Ending::Report { over } => Some(self.reporter().combined(over, all.sums)),
+            Ending::Refused(_) => None,
+        }
     }
 }

@@ -4,6 +4,7 @@ ghost use Rattle.desk.specs.Statuses.{Status};
 
 use desk::{Outside, input};
 use orders::asked::Asked;
+use reports::Reporter;
 use wording::ends;
 use wording::ends::End;
 use wording::limits::{Limits, unlimited};
@@ -15,7 +16,14 @@ pub struct Job<'a, R> {
     pub edition: u32,
 }
 
-impl<R: Outside> Job<'_, R> {
+impl<'a, R: Outside> Job<'a, R> {
+    pub(crate) fn reporter(&self) -> Reporter<'a, R> {
+        Reporter {
+            rt: self.rt,
+            asked: self.asked,
+        }
+    }
+
     // Reads the sheet that the first plain word names; nothing where it cannot be read, which was told.
     pub(crate) fn sheet<'b>(&self, bytes: &'b mut [u8]) -> Option<&'b [u8]>
         ensures { IfSome result (λ sheet. length sheet.now ≤ length bytes.old) }
@@ -27,7 +35,7 @@ impl<R: Outside> Job<'_, R> {
     pub(crate) fn told(&self, sheet: &[u8], end: End) -> u32
         ensures { Status result }
     {
-        reports::report(self.rt, self.asked, sheet, b"", unlimited(), end)
+        self.reporter().report(sheet, b"", unlimited(), end)
     }
 
     // Tells what came of a run; what was printed stands first in `out`.
@@ -35,6 +43,6 @@ impl<R: Outside> Job<'_, R> {
         ensures { Status result }
     {
         let printed = input::within(ends::printed(end), out);
-        reports::report(self.rt, self.asked, sheet, printed, limits, end)
+        self.reporter().report(sheet, printed, limits, end)
     }
 }

@@ -9,7 +9,7 @@ ghost use Rattle.language.specs.Sizes.{BOX, TABLE};
 
 use crate::job::Job;
 use crate::serve;
-use answered::{called, whole};
+use answered::{alike, called};
 use desk::rooms::SHEET;
 use desk::{Outside, input, rooms};
 use grumpy::answers::Checked;
@@ -32,8 +32,8 @@ fn examine_called(edition: u32, sheet: &[u8], call: &[u8]) -> Checked<Spot>
 fn judge(edition: u32, sheet: &[u8], call: &[u8]) -> End {
     let answer = examine_called(edition, sheet, call);
     let end = called::of_check(answer);
-    if called::unread(answer) {
-        return ends::completed(end, whole::unread(serve::examine(edition, sheet)));
+    if alike::unread(answer) {
+        return ends::completed(end, alike::unread(serve::examine(edition, sheet)));
     }
     end
 }
@@ -56,7 +56,7 @@ impl<R: Outside> Job<'_, R> {
             &mut out,
             allowance,
         );
-        let most = called::known(grumpy::profile_pair(self.edition, sheet, call, &mut table));
+        let most = alike::known(grumpy::profile_pair(self.edition, sheet, call, &mut table));
         let end = called::of_run(sheet.len(), answer);
         self.ran(sheet, &out, Limits { allowance, most }, end)
     }

@@ -7,14 +7,14 @@ ghost use Rattle.language.specs.Answers.{CheckedUnder};
 ghost use Rattle.language.specs.Edition.{text_in};
 ghost use Rattle.language.specs.Sizes.{BOX, TABLE};
 
-use crate::combining;
 use crate::job::Job;
-use answered::whole;
+use answered::{alike, whole};
 use desk::rooms::SHEET;
 use desk::{Outside, arguments, help, input, output, rooms};
 use grumpy::answers::{Checked, Wrote};
 use language::{SOURCE, TABLE, WORK};
 use orders::asked::{Asked, Task, Unclear};
+use reports::Reporter;
 use wording::causes::Cause;
 use wording::ends::End;
 use wording::limits::{Limits, unlimited};
@@ -54,7 +54,7 @@ impl<R: Outside> Job<'_, R> {
             &mut out,
             allowance,
         );
-        let most = whole::known(grumpy::profile(self.edition, sheet, &mut table));
+        let most = alike::known(grumpy::profile(self.edition, sheet, &mut table));
         Some(self.ran(
             sheet,
             &out,
@@ -71,7 +71,7 @@ impl<R: Outside> Job<'_, R> {
             Ok(long) => {
                 let end = whole::of_check(examine(self.edition, sheet));
                 let written = input::within(long, out);
-                reports::report(self.rt, self.asked, sheet, written, unlimited(), end)
+                self.reporter().report(sheet, written, unlimited(), end)
             }
             Err(r) => self.told(sheet, End::Refused(Cause::Refused(r.why), r.place)),
         }
@@ -105,7 +105,7 @@ impl<R: Outside> Job<'_, R> {
             Task::Shift => self.shift(),
             Task::Profile => self.profile_rates(),
             Task::ProfileWhole => self.profile_whole(),
-            Task::Combine => combining::combine(self.rt, self.asked),
+            Task::Combine => self.combine(),
             Task::Help => Some(help::help(self.rt)),
             Task::Version => Some(help::version(self.rt)),
         }
@@ -163,13 +163,13 @@ pub fn serve(rt: &impl Outside, asked: Asked) -> u32
 {
     if let Some(i) = asked.strange {
         input::strange(rt, i);
-        return reports::failed(rt, asked);
+        return Reporter { rt, asked }.failed();
     }
     if is_read(rt, asked) {
         return 2;
     }
     match done(rt, asked) {
         Some(status) => status,
-        None => reports::failed(rt, asked),
+        None => Reporter { rt, asked }.failed(),
     }
 }

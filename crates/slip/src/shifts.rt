@@ -5,7 +5,7 @@ ghost use Rattle.desk.specs.Statuses.{Status};
 use crate::books;
 use crate::job::Job;
 use crate::serve::examine;
-use answered::whole;
+use answered::alike;
 use desk::arguments::word;
 use desk::rooms::SHEET;
 use desk::{Outside, input, output, rooms};
@@ -46,7 +46,7 @@ impl<R: Outside> Job<'_, R> {
     {
         let mut end = books::of_shift(why, spot);
         if books::unread_shift(why) {
-            end = ends::completed(end, whole::unread(examine(self.edition, book)));
+            end = ends::completed(end, alike::unread(examine(self.edition, book)));
         }
         self.told(book, end)
     }
@@ -121,9 +121,7 @@ impl<R: Outside> Job<'_, R> {
     {
         let finished = shift::finish(self.edition, state);
         match finished.told {
-            Ending::Report { over } => {
-                reports::shift(self.rt, self.asked, allowance, over, finished.sums)
-            }
+            Ending::Report { over } => { self.reporter().shift(allowance, over, finished.sums) }
             Ending::Refused(why) => self.refuse(book, Why::Sheet(why), pairs::front()),
         }
     }

@@ -55,7 +55,7 @@ impl<R: Outside> Job<'_, R> {
         let mut room = rooms::bytes::<STORED>();
         let stored = self.stored(&mut room)?;
         let end = whole::of_check(examine(self.edition, stored));
-        Some(reports::report_stored(self.rt, self.asked, b"", unlimited(), end))
+        Some(self.reporter().report_stored(b"", unlimited(), end))
     }
 
     // What was printed stands first in `out`.
@@ -80,6 +80,6 @@ impl<R: Outside> Job<'_, R> {
         let limits = Limits { allowance, most };
         let end = whole::of_run(answer);
         let printed = input::within(ends::printed(end), &out);
-        Some(reports::report_stored(self.rt, self.asked, printed, limits, end))
+        Some(self.reporter().report_stored(printed, limits, end))
     }
 }
