@@ -9,7 +9,7 @@ ghost use Rattle.language.specs.Sizes.{BOX, TABLE};
 
 use crate::job::Job;
 use answered::{alike, whole};
-use desk::rooms::SHEET;
+use desk::rooms::{SHEET, STORED};
 use desk::{Outside, arguments, help, input, output, rooms};
 use grumpy::answers::{Checked, Wrote};
 use language::{SOURCE, TABLE, WORK};
@@ -64,7 +64,7 @@ impl<R: Outside> Job<'_, R> {
     }
 
     // Tells what came of writing; what was written stands first in `out`.
-    pub fn wrote(&self, sheet: &[u8], out: &[u8], answer: Wrote) -> u32
+    fn wrote(&self, sheet: &[u8], out: &[u8], answer: Wrote) -> u32
         ensures { Status result }
     {
         match answer {
@@ -77,15 +77,18 @@ impl<R: Outside> Job<'_, R> {
         }
     }
 
-    // Writes a whole sheet out again, if it passes.
-    fn write(&self) -> Option<u32>
+    // What a service writes of a whole sheet, if it passes; there is room for so many bytes.
+    fn rewritten<const N: usize, F>(&self, service: F) -> Option<u32>
+    where
+        F: FnOnce(u32, &[u8], &mut [u32], &mut [u8]) -> Wrote,
+        requires { F.IsAlwaysCallable service }
         ensures { IfSome result Status }
     {
         let mut room = rooms::bytes::<SHEET>();
         let mut table = rooms::words::<TABLE>();
-        let mut out = rooms::bytes::<SOURCE>();
+        let mut out = rooms::bytes::<N>();
         let sheet = self.sheet(&mut room)?;
-        let answer = grumpy::write(self.edition, sheet, &mut table, &mut out);
+        let answer = service(self.edition, sheet, &mut table, &mut out);
         Some(self.wrote(sheet, &out, answer))
     }
 
@@ -98,8 +101,8 @@ impl<R: Outside> Job<'_, R> {
             Task::Check => self.check_rates(),
             Task::CheckWhole => self.check_whole(),
             Task::Run => self.run_whole(),
-            Task::Write => self.write(),
-            Task::Store => self.store(),
+            Task::Write => self.rewritten::<SOURCE, _>(grumpy::write),
+            Task::Store => self.rewritten::<STORED, _>(grumpy::store),
             Task::CheckStored => self.check_stored(),
             Task::RunStored => self.run_stored(),
             Task::Shift => self.shift(),

@@ -1,4 +1,4 @@
-// Stored sheets: a sheet's stored form is written, or one is checked or run in the sheet's stead.
+// Stored sheets, checked or run in the sheet's stead.
 ghost use Rattle.std.specs.Prelude.{◌≤◌, length, IfSome};
 ghost use Rattle.desk.specs.Statuses.{Status};
 ghost use Rattle.grumpy.specs.Reports.{checked_report};
@@ -8,7 +8,7 @@ ghost use Rattle.language.specs.Sizes.{BOX, TABLE};
 
 use crate::job::Job;
 use answered::whole;
-use desk::rooms::{SHEET, STORED};
+use desk::rooms::STORED;
 use desk::{Outside, input, output, rooms};
 use grumpy::answers::Checked;
 use language::{TABLE, WORK};
@@ -23,18 +23,6 @@ fn examine(edition: u32, stored: &[u8]) -> Checked<usize>
 }
 
 impl<R: Outside> Job<'_, R> {
-    // Writes the stored form of a whole sheet, if it passes. There is room for that of every sheet.
-    pub fn store(&self) -> Option<u32>
-        ensures { IfSome result Status }
-    {
-        let mut room = rooms::bytes::<SHEET>();
-        let mut table = rooms::words::<TABLE>();
-        let mut out = rooms::bytes::<STORED>();
-        let sheet = self.sheet(&mut room)?;
-        let answer = grumpy::store(self.edition, sheet, &mut table, &mut out);
-        Some(self.wrote(sheet, &out, answer))
-    }
-
     // Reads a stored sheet. What fills the bytes may go on behind them, and would be judged by a part of it; no sheet's
     // stored form has so many.
     fn stored<'b>(&self, bytes: &'b mut [u8; STORED]) -> Option<&'b [u8]> {
