@@ -1,7 +1,8 @@
 // Seq, Tail, Let and Item. These readers and those of `loops`, `tiers` and `names` call each other. Each call
 // goes to a later token, or to a lower rule at the same one. The token and the first free row go as two
 // numbers: as one struct with a method for what is further on they were tried, and took a quarter more stack
-// on x86-64 and half as much again on ARM.
+// on x86-64 and half as much again on ARM. The table is lent memory with a fixed layout, so it and the number of
+// its tokens go beside them, and each reader requires room in it.
 ghost use Rattle.std.specs.Prelude.{◌≡◌, ◌≤◌};
 ghost use Rattle.language.specs.Tokens.{LET, IF, WHILE};
 ghost use Rattle.layout.specs.Table.{kind_of};

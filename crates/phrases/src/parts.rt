@@ -104,7 +104,7 @@ pub fn node(
 
 // The functions below write a node behind the last of its parts, and hand on where that failed. They differ in
 // the links of its row and in the token behind it: as one function each call would give all of these, which the
-// names say.
+// names say. What they require is told of three things, the table, the token and the part, so no type holds it.
 
 // A node over one part.
 pub fn over(table: &mut [u32], kind: u32, own: usize, read: Read) -> Read

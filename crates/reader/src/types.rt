@@ -1,4 +1,5 @@
-// Types, which a row holds as their numbers.
+// Types, which a row holds as their numbers. What is required here is what `layout::token::kind` does of a table,
+// which is lent memory with a fixed layout.
 ghost use Rattle.std.specs.Prelude.{◌≡◌, ◌+◌, ◌*◌, ◌≤◌, length};
 ghost use Rattle.language.specs.Sizes.{TOKENS, TABLE};
 ghost use Rattle.layout.specs.Types.{REF, PLAIN};
