@@ -54,7 +54,7 @@ fn own_place(own: usize, spot: Spot) -> usize
     if spot.sheet == CALL { own } else { spot.at }
 }
 
-// What came of a program that ended.
+// What came of a program that ended. It is as in `whole` but for the place of a stop, which may lie in the call.
 fn told(own: usize, ended: Ended<Spot>) -> End
     ensures { result ≡ ended_under own ended.type_number ended.ending.units ended.ending.printed ended.ending.end }
 {

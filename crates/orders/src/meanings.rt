@@ -22,8 +22,8 @@ fn option(text: &[u8]) -> Word
     }
 }
 
-// The rows of commands. They are no rows of a `match`, as those of options are: that a word is none of them would have to
-// be shown again on each of fifty ways out of it, at which `grind` stops, and nothing shorter was found.
+// The rows of commands. They are no rows of a `match`, as those of options are: that a word is none of them would have
+// to be shown again on each of fifty ways out of it, at which `grind` stops, and nothing shorter was found.
 pub fn meaning(text: &[u8]) -> Word
     ensures { Means text.now result }
 {

@@ -175,8 +175,8 @@ impl<R: Outside> Reporter<'_, R> {
         self.keep(page.text())
     }
 
-    // What is to be said behind the report of a shift: nothing, or that its file has a line too many. True if that could
-    // be done.
+    // What is to be said behind the report of a shift: nothing, or that its file has a line too many. True if that
+    // could be done.
     fn warn(&self, over: bool) -> bool {
         if !over {
             return true;

@@ -92,7 +92,8 @@ impl<R: Outside> Job<'_, R> {
         Some(self.wrote(sheet, &out, answer))
     }
 
-    // An edition that is neither 1 nor 2 is refused by the box.
+    // A row for each task: it is chosen here and nowhere else, so a table of functions would say no more. An edition
+    // that is neither 1 nor 2 is refused by the box.
     fn perform(&self, task: Task) -> Option<u32>
         ensures { IfSome result Status }
     {
@@ -128,8 +129,8 @@ fn unclear(why: Unclear) -> &'static [u8] {
     }
 }
 
-// Is the file that is to be written one that is to be read? Then that is told. Where there is no sheet, the program's own
-// name stands for it.
+// Is the file that is to be written one that is to be read? Then that is told. Where there is no sheet, the program's
+// own name stands for it.
 fn is_read(rt: &impl Outside, asked: Asked) -> bool {
     if matches!(asked.task, Task::Combine) {
         let so = arguments::is_plain(rt, asked.report);
