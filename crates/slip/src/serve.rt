@@ -77,8 +77,8 @@ impl<R: Outside> Job<'_, R> {
         }
     }
 
-    // What a service writes of a whole sheet, if it passes; there is room for so many bytes.
-    fn rewritten<const N: usize, F>(&self, service: F) -> Option<u32>
+    // What a service writes of a whole sheet, if it passes.
+    fn rewritten<F>(&self, out: &mut [u8], service: F) -> Option<u32>
     where
         F: FnOnce(u32, &[u8], &mut [u32], &mut [u8]) -> Wrote,
         requires { F.IsAlwaysCallable service }
@@ -86,10 +86,23 @@ impl<R: Outside> Job<'_, R> {
     {
         let mut room = rooms::bytes::<SHEET>();
         let mut table = rooms::words::<TABLE>();
-        let mut out = rooms::bytes::<N>();
         let sheet = self.sheet(&mut room)?;
-        let answer = service(self.edition, sheet, &mut table, &mut out);
-        Some(self.wrote(sheet, &out, answer))
+        let answer = service(self.edition, sheet, &mut table, out);
+        Some(self.wrote(sheet, out, answer))
+    }
+
+    // Writes a whole sheet out again.
+    fn write(&self) -> Option<u32>
+        ensures { IfSome result Status }
+    {
+        self.rewritten(&mut rooms::bytes::<SOURCE>(), grumpy::write)
+    }
+
+    // Writes the stored form of a whole sheet. There is room for that of every sheet.
+    fn store(&self) -> Option<u32>
+        ensures { IfSome result Status }
+    {
+        self.rewritten(&mut rooms::bytes::<STORED>(), grumpy::store)
     }
 
     // A row for each task: it is chosen here and nowhere else, so a table of functions would say no more. An edition
@@ -102,8 +115,8 @@ impl<R: Outside> Job<'_, R> {
             Task::Check => self.check_rates(),
             Task::CheckWhole => self.check_whole(),
             Task::Run => self.run_whole(),
-            Task::Write => self.rewritten::<SOURCE, _>(grumpy::write),
-            Task::Store => self.rewritten::<STORED, _>(grumpy::store),
+            Task::Write => self.write(),
+            Task::Store => self.store(),
             Task::CheckStored => self.check_stored(),
             Task::RunStored => self.run_stored(),
             Task::Shift => self.shift(),
