@@ -9,7 +9,7 @@ use page::{Page, spot};
 use wording::causes::Cause;
 use wording::ends::End;
 use wording::limits::Limits;
-use wording::places::Places;
+use wording::places::{Places, Source};
 use wording::{causes, fields, words};
 
 // A number, where there is one, and what is meant.
@@ -27,11 +27,12 @@ fn meaning(page: &mut Page, why: Cause)
 }
 
 // File, line and column of a place in the sheet.
-pub fn position(page: &mut Page, file: &[u8], sheet: &[u8], place: usize)
-    ensures { Writes (position_words file.now (line_at sheet.now place) (column_at sheet.now place)) page.old page.new }
+pub fn position(page: &mut Page, source: Source, place: usize)
+    ensures { Writes (position_words source.entry.file.now (line_at source.entry.sheet.now place)
+        (column_at source.entry.sheet.now place)) page.old page.new }
 {
-    let spot = spot(sheet, place);
-    fields::name(page, file);
+    let spot = spot(source.sheet, place);
+    fields::name(page, source.file);
     page.put(b":");
     page.decimal(spot.line as u64);
     page.put(b":");
@@ -61,26 +62,28 @@ pub fn numbered(page: &mut Page, number: u32)
 fn marked(page: &mut Page, line: &[u8], before: &[u8], plain: bool)
     ensures { Writes (marked_lines plain line.now before.now) page.old page.new }
 {
-    let n = page::trimmed(line);
-    page.shown(&line[..n], plain);
+    page.shown(page::trimmed(line), plain);
     page.put(b"\n");
     page.blanks(before, plain);
     page.put(b"^\n");
 }
 
 // A cause at a place of the sheet.
-fn there(page: &mut Page, file: &[u8], sheet: &[u8], why: Cause, place: usize)
-    ensures { Writes (there_lines file.now sheet.now why place) page.old page.new }
+fn there(page: &mut Page, source: Source, why: Cause, place: usize)
+    ensures { Writes (there_lines source.entry.file.now source.entry.sheet.now why place) page.old page.new }
 {
+    let sheet = source.sheet;
     let spot = spot(sheet, place);
-    let from = spot.from;
-    let here = spot.here;
-    let to = spot.to;
-    position(page, file, sheet, place);
+    position(page, source, place);
     numbered(page, causes::number(why));
     words::words(page, why);
     page.put(b"\n");
-    marked(page, &sheet[from..to], &sheet[from..here], spot.plain);
+    marked(
+        page,
+        &sheet[spot.from..spot.to],
+        &sheet[spot.from..spot.here],
+        spot.plain,
+    );
 }
 
 // A cause at a line of a stored sheet, whose digits nobody is shown.
@@ -94,23 +97,25 @@ fn on_line(page: &mut Page, file: &[u8], why: Cause, place: usize)
 }
 
 #[tactic(auto, unfolding(crate::specs::Told::placed_lines))]
-fn placed(page: &mut Page, file: &[u8], sheet: &[u8], places: Places, why: Cause, place: usize)
-    ensures { Writes (placed_lines file.now sheet.now places why place) page.old page.new }
+fn placed(page: &mut Page, source: Source, why: Cause, place: usize)
+    ensures { Writes (placed_lines source.entry.file.now source.entry.sheet.now
+        source.entry.places why place) page.old page.new }
 {
-    match places {
-        Places::Bytes => there(page, file, sheet, why, place),
-        Places::Lines => on_line(page, file, why, place),
+    match source.places {
+        Places::Bytes => there(page, source, why, place),
+        Places::Lines => on_line(page, source.file, why, place),
     }
 }
 
 // A cause, with its place if it has one.
-fn cause(page: &mut Page, file: &[u8], sheet: &[u8], places: Places, why: Cause, place: usize)
-    ensures { Writes (cause_lines file.now sheet.now places why place) page.old page.new }
+fn cause(page: &mut Page, source: Source, why: Cause, place: usize)
+    ensures { Writes (cause_lines source.entry.file.now source.entry.sheet.now
+        source.entry.places why place) page.old page.new }
 {
     if causes::is_placed(why) {
-        placed(page, file, sheet, places, why, place);
+        placed(page, source, why, place);
     } else {
-        fields::name(page, file);
+        fields::name(page, source.file);
         page.put(b": ");
         meaning(page, why);
     }
@@ -155,9 +160,10 @@ fn counted(page: &mut Page, count: u32)
     page.put(b"\n");
 }
 
-// The whole report. `file` is the sheet's name.
-pub fn report(page: &mut Page, file: &[u8], sheet: &[u8], places: Places, limits: Limits, end: End)
-    ensures { Writes (report_text file.now sheet.now places limits end) page.old page.new }
+// The whole report.
+pub fn report(page: &mut Page, source: Source, limits: Limits, end: End)
+    ensures { Writes (report_text source.entry.file.now source.entry.sheet.now
+        source.entry.places limits end) page.old page.new }
 {
     match end {
         End::Passed(type_number) => {
@@ -180,7 +186,7 @@ pub fn report(page: &mut Page, file: &[u8], sheet: &[u8], places: Places, limits
             fields::value_lines(page, value);
             units(page, used, limits);
         }
-        End::Refused(why, place) => cause(page, file, sheet, places, why, place),
+        End::Refused(why, place) => cause(page, source, why, place),
         End::Stopped {
             why,
             place,
@@ -188,7 +194,7 @@ pub fn report(page: &mut Page, file: &[u8], sheet: &[u8], places: Places, limits
             units: used,
             printed: _,
         } => {
-            cause(page, file, sheet, places, why, place);
+            cause(page, source, why, place);
             fields::type_line(page, type_number);
             units(page, used, limits);
         }

@@ -24,6 +24,12 @@ pub record Begins (lent : MutBor (List ℕ)) (page : Page) : Type 0 where
   pub bytes : page.out.now ≡ lent.now
   pub starts : page.at ≡ 0
 
+-- a page on lent bytes, the first of which are text already
+pub record Continues (lent : MutBor (List ℕ)) (at : ℕ) (page : Page) : Type 0 where
+  pub same : page.out.ghost_name ≡ lent.ghost_name
+  pub bytes : page.out.now ≡ lent.now
+  pub starts : page.at ≡ min at (length lent.now)
+
 -- ---- numbers
 
 -- how many digits a number has in decimal, where it is at most `most`

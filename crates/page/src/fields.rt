@@ -16,7 +16,8 @@ fn is_here(text: &[u8], at: usize, name: &[u8], fresh: bool) -> bool
 
 // The value of the first line that begins with a name. The blank behind it is part of the name here.
 fn find<'a>(text: &'a [u8], name: &[u8]) -> Option<&'a [u8]>
-    ensures { MatchOption result (value_named name.now text.now ≡ none) (λ v. value_named name.now text.now ≡ some v.now) }
+    ensures { MatchOption result (value_named name.now text.now ≡ none)
+        (λ v. value_named name.now text.now ≡ some v.now) }
 {
     let mut fresh = true;
     for i in 0..text.len() {

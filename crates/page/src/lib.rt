@@ -1,5 +1,6 @@
 // What the program around the box does with bytes: it reads a number among its arguments, finds the line and the
-// column of a place, puts text behind text so that it can be seen, writes a float or pence for who reads it, and reads a value that has a name on its line.
+// column of a place, puts text behind text so that it can be seen, writes a float or pence for who reads it, and reads
+// a value that has a name on its line.
 #![tactic(auto)]
 
 ghost use Rattle.std.specs.Prelude.{min, length};

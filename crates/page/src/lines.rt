@@ -1,6 +1,5 @@
 // Lines of a text, and where in them a place lies.
 ghost use Rattle.std.specs.Prelude.{◌≡◌, ◌+◌, ◌≤◌, length, take, drop};
-ghost use Rattle.io.specs.Counts.{IsPrefixLen};
 ghost use Rattle.page.specs.Lines.{feeds, behind, ahead, columns_of, without_return};
 
 use crate::characters::characters;
@@ -57,17 +56,13 @@ pub fn columns(bytes: &[u8], plain: bool) -> usize
     bytes.len()
 }
 
-// How many bytes of a line are shown: a carriage return at its end is not.
-pub fn trimmed(line: &[u8]) -> usize
-    ensures prefix_len { IsPrefixLen result line.now }
-    ensures line_value { take result line.now ≡ without_return line.now }
+// A line as it is shown: without a carriage return at its end.
+pub fn trimmed(line: &[u8]) -> &[u8]
+    ensures { result.now ≡ without_return line.now }
 {
     let n = line.len();
-    if n == 0 {
-        return n;
+    if 0 < n && line[n - 1] == b'\r' {
+        return &line[..n - 1];
     }
-    if line[n - 1] == b'\r' {
-        return n - 1;
-    }
-    n
+    line
 }

@@ -10,13 +10,21 @@ pub struct Page<'a> {
 }
 
 impl<'a> Page<'a> {
-    ghost use Rattle.page.specs.Text.{Begins, Writes};
+    ghost use Rattle.page.specs.Text.{Begins, Continues, Writes};
 
     // A page with nothing on it.
     pub fn on(out: &'a mut [u8]) -> Page<'a>
         ensures { Begins out.entry result }
     {
         Page { out, at: 0 }
+    }
+
+    // A page whose first bytes are text already, up to a place; one past their end counts as the end.
+    pub fn after(out: &'a mut [u8], at: usize) -> Page<'a>
+        ensures { Continues out.entry at result }
+    {
+        let at = at.min(out.len());
+        Page { out, at }
     }
 
     // Puts a part behind what is there.

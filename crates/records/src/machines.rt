@@ -15,24 +15,17 @@ use wording::causes::Cause;
 use wording::ends::End;
 use wording::fields::field;
 use wording::limits::Limits;
-use wording::places::Places;
+use wording::places::Source;
 use wording::types;
 
 // The whole report, with the status that the program ends with.
-pub fn report(
-    page: &mut Page,
-    status: u32,
-    file: &[u8],
-    source: &[u8],
-    places: Places,
-    limits: Limits,
-    end: End,
-)
-    ensures { Writes (report_lines status file.now source.now places limits end) page.old page.new }
+pub fn report(page: &mut Page, status: u32, source: Source, limits: Limits, end: End)
+    ensures { Writes (report_lines status source.entry.file.now source.entry.sheet.now
+        source.entry.places limits end) page.old page.new }
 {
     field(page, b"status", status as u64);
-    sheet(page, file);
-    ended(page, source, places, limits, end);
+    sheet(page, source.file);
+    ended(page, source, limits, end);
 }
 
 // A name and a number that may be below 0.

@@ -8,7 +8,7 @@ use wording::causes::Cause;
 use wording::ends::End;
 use wording::fields::field;
 use wording::limits::Limits;
-use wording::places::Places;
+use wording::places::{Places, Source};
 use wording::{causes, fields, words};
 
 pub fn sheet(page: &mut Page, file: &[u8])
@@ -57,22 +57,22 @@ fn there(page: &mut Page, sheet: &[u8], place: usize)
 
 // A place of a stored sheet is a line, and nothing more.
 #[tactic(auto, unfolding(crate::specs::Told::placed_lines))]
-fn placed(page: &mut Page, sheet: &[u8], places: Places, place: usize)
-    ensures { Writes (placed_lines sheet.now places place) page.old page.new }
+fn placed(page: &mut Page, source: Source, place: usize)
+    ensures { Writes (placed_lines source.entry.sheet.now source.entry.places place) page.old page.new }
 {
-    match places {
-        Places::Bytes => there(page, sheet, place),
+    match source.places {
+        Places::Bytes => there(page, source.sheet, place),
         Places::Lines => field(page, b"line", place as u64),
     }
 }
 
 // A cause, with its place if it has one.
-fn cause(page: &mut Page, sheet: &[u8], places: Places, why: Cause, place: usize)
-    ensures { Writes (cause_lines sheet.now places why place) page.old page.new }
+fn cause(page: &mut Page, source: Source, why: Cause, place: usize)
+    ensures { Writes (cause_lines source.entry.sheet.now source.entry.places why place) page.old page.new }
 {
     meaning(page, why);
     if causes::is_placed(why) {
-        placed(page, sheet, places, place);
+        placed(page, source, place);
     }
 }
 
@@ -96,8 +96,8 @@ fn ran(page: &mut Page, units: u32, limits: Limits, printed: usize)
 }
 
 // What came of the sheet.
-pub fn ended(page: &mut Page, source: &[u8], places: Places, limits: Limits, end: End)
-    ensures { Writes (end_lines source.now places limits end) page.old page.new }
+pub fn ended(page: &mut Page, source: Source, limits: Limits, end: End)
+    ensures { Writes (end_lines source.entry.sheet.now source.entry.places limits end) page.old page.new }
 {
     match end {
         End::Passed(type_number) => {
@@ -120,7 +120,7 @@ pub fn ended(page: &mut Page, source: &[u8], places: Places, limits: Limits, end
             fields::value_lines(page, value);
             ran(page, units, limits, printed);
         }
-        End::Refused(why, place) => cause(page, source, places, why, place),
+        End::Refused(why, place) => cause(page, source, why, place),
         End::Stopped {
             why,
             place,
@@ -128,7 +128,7 @@ pub fn ended(page: &mut Page, source: &[u8], places: Places, limits: Limits, end
             units,
             printed,
         } => {
-            cause(page, source, places, why, place);
+            cause(page, source, why, place);
             fields::type_line(page, type_number);
             ran(page, units, limits, printed);
         }

@@ -20,14 +20,12 @@ use wording::causes::Cause;
 use wording::ends;
 use wording::ends::End;
 use wording::limits::{Limits, unlimited};
-use wording::places::Places;
+use wording::places::{Places, Source};
 
-// What came of a sheet: the name of its file, its bytes, how places in it are told, the limits of the run, and the end.
+// What came of a sheet: the sheet, the limits of the run, and the end.
 #[derive(Clone, Copy)]
 struct Outcome<'a> {
-    file: &'a [u8],
-    sheet: &'a [u8],
-    places: Places,
+    source: Source<'a>,
     limits: Limits,
     end: End,
 }
@@ -37,14 +35,7 @@ impl Outcome<'_> {
     fn tell(&self, rt: &impl Outside) -> bool {
         let mut text = rooms::bytes::<TEXT>();
         let mut page = Page::on(&mut text);
-        people::report(
-            &mut page,
-            self.file,
-            self.sheet,
-            self.places,
-            self.limits,
-            self.end,
-        );
+        people::report(&mut page, self.source, self.limits, self.end);
         output::tell(rt, page.text())
     }
 }
@@ -101,9 +92,7 @@ impl<R: Outside> Reporter<'_, R> {
         machines::report(
             &mut page,
             status,
-            outcome.file,
-            outcome.sheet,
-            outcome.places,
+            outcome.source,
             outcome.limits,
             outcome.end,
         );
@@ -132,9 +121,11 @@ impl<R: Outside> Reporter<'_, R> {
         self.told(
             printed,
             &Outcome {
-                file,
-                sheet,
-                places,
+                source: Source {
+                    file,
+                    sheet,
+                    places,
+                },
                 limits,
                 end,
             },
@@ -152,9 +143,11 @@ impl<R: Outside> Reporter<'_, R> {
         self.told(
             printed,
             &Outcome {
-                file,
-                sheet,
-                places,
+                source: Source {
+                    file,
+                    sheet,
+                    places,
+                },
                 limits,
                 end,
             },
@@ -186,9 +179,11 @@ impl<R: Outside> Reporter<'_, R> {
         let (sheet, places, limits) = (b"".as_slice(), Places::Bytes, unlimited());
         let end = End::Refused(Cause::ManyLines, 0);
         Outcome {
-            file,
-            sheet,
-            places,
+            source: Source {
+                file,
+                sheet,
+                places,
+            },
             limits,
             end,
         }

@@ -8,4 +8,4 @@ use Rattle.clerk.proofs.people.marked.Goals as goal
 pub returns : goal.returns
 unfolding marked_lines
 returns c =
-    being (ap (all_shown _) c.trimmed-n.ensures.line_value) c.shown.ensures ▸ c.put.ensures ▸ c.blanks.ensures ▸ c.put-2.ensures
+    being (ap (all_shown _) c.trimmed.ensures) c.shown.ensures ▸ c.put.ensures ▸ c.blanks.ensures ▸ c.put-2.ensures

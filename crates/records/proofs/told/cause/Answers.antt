@@ -7,11 +7,11 @@ use Rattle.records.proofs.told.cause.Goals as goal
 pub returns-then-is_placed : goal.returns-then-is_placed
 returns-then-is_placed c =
     let a = c.args in
-    being (placed_is _ a.places a.why a.place (sym c.is_placed.ensures ∙ c.if-is_placed.true))
+    being (placed_is _ a.source.places a.why a.place (sym c.is_placed.ensures ∙ c.if-is_placed.true))
     (c.meaning.ensures ▸ c.placed.ensures)
 
 pub returns-else-is_placed : goal.returns-else-is_placed
 returns-else-is_placed c =
     let a = c.args in
-    being (unplaced_is _ a.places a.why a.place (sym c.is_placed.ensures ∙ c.if-is_placed.false))
+    being (unplaced_is _ a.source.places a.why a.place (sym c.is_placed.ensures ∙ c.if-is_placed.false))
     (c.meaning.ensures ▸ nothing)
