@@ -29,7 +29,8 @@ use Rattle.resolver.specs.Resolves.{Resolvable, Resolves}
 use Rattle.runner.specs.Contract.{Loaded}
 use Rattle.sheets.specs.Sheets.{OfSource, Passing, Examined}
 use Rattle.numbers.specs.declared.Located.{Located}
-use Rattle.sheets.specs.declared.Seen.{Seen}
+use Rattle.sheets.specs.declared.Passed.{Passed}
+use Rattle.sheets.specs.Sheets.{Seen}
 use Rattle.grumpy.specs.Outcomes.{end_meant, ending_meant, Told, Executed}
 use Rattle.grumpy.specs.Calls.{Admissible, laid, HoldsCall, Prepared, Prepares, Callable, CallRan, Called}
 use Rattle.grumpy.specs.declared.answers.Ending.{Ending}
@@ -71,15 +72,15 @@ module _ (n : ℕ) (book : List ℕ) (x : Admissible n book) where
       }
 
   module _ (w w₁ : List ℕ) (s : Seen) (e : Examined (text_in n (joined book WRITTEN)) w w₁ s) where
-    pub never_refused : (r : Refusal) (i : ℕ) → s ≡ Seen.Refused r i → ⊥
-    never_refused r i q =
+    pub never_refused : (r : Located Refusal ℕ) → s ≡ Err r → ⊥
+    never_refused r q =
         not_both (text_in_lawful n (joined book WRITTEN)) (subst (OfSource (text_in n (joined book WRITTEN)) w₁) q e.told) read_so
 
-    module _ (P : Held) (t : ℕ) (q : s ≡ Seen.Passes P t) where
-      passing : Passing (text_in n (joined book WRITTEN)) w₁ P t
+    module _ (P : Passed) (q : s ≡ Ok P) where
+      passing : Passing (text_in n (joined book WRITTEN)) w₁ P.program P.type_number
       passing = subst (OfSource (text_in n (joined book WRITTEN)) w₁) q e.told
 
-      pub seen_resolvable : Resolvable w₁ P
+      pub seen_resolvable : Resolvable w₁ P.program
       seen_resolvable =
           record { ts = passing.tokens; program = passing.program; holds = passing.holds; reading = passing.passes.proper.reads }
 
@@ -92,14 +93,14 @@ module _ (n : ℕ) (book : List ℕ) (x : Admissible n book) where
       one_program : passing.program ≡ p₀
       one_program = let z = one in cc
 
-      held : Holds ts₀ w₁ P p₀
+      held : Holds ts₀ w₁ P.program p₀
       held =
-          subst (λ (p : Program). Holds ts₀ w₁ P p) one_program
-          (subst (λ (ts : List Token). Holds ts w₁ P passing.program) one_tokens passing.holds)
+          subst (λ (p : Program). Holds ts₀ w₁ P.program p) one_program
+          (subst (λ (ts : List Token). Holds ts w₁ P.program passing.program) one_tokens passing.holds)
 
-      pub seen_prepared : (w₂ : List ℕ) → Resolves w₁ w₂ P → Prepares n book w w₂ P
+      pub seen_prepared : (w₂ : List ℕ) → Resolves w₁ w₂ P.program → Prepares n book w w₂ P.program
       seen_prepared w₂ r = record {
-        prepared = prepared y w₂ P (r.holds ts₀ p₀ held) (r.resolved ts₀ p₀ held read_so.proper.reads);
+        prepared = prepared y w₂ P.program (r.holds ts₀ p₀ held) (r.resolved ts₀ p₀ held read_so.proper.reads);
         rest = resolved_rest r ∙ e.rest;
       }
 

@@ -1,3 +1,4 @@
+pub mod Handing
 pub mod Leaving
 pub mod Runs
 pub mod Resolving

@@ -27,7 +27,9 @@ use Rattle.profiles.specs.declared.Uncounted.TheVariants.{EndlessNode, ManyUnits
 use Rattle.sheets.specs.Forms.{origin_of, place_of}
 use Rattle.sheets.specs.Sheets.{OfSource, Examined}
 use Rattle.sheets.specs.declared.Form.{Form}
-use Rattle.sheets.specs.declared.Seen.{Seen}
+use Rattle.sheets.specs.Sheets.{Seen}
+use Rattle.numbers.specs.declared.Located.{Located}
+use Rattle.sheets.specs.declared.Passed.{Passed}
 use Rattle.sheets.proofs.FormLaws.{form_lawful, form_nowhere, form_place}
 use Rattle.grumpy.specs.Reports.{ProfiledAt, profiled_report}
 use Rattle.grumpy.specs.Profilings.{profiled_of, Payable, Profiling}
@@ -36,10 +38,10 @@ use Rattle.grumpy.proofs.Leaving.{profiled_left}
 -- ---- what comes of a sheet that was examined
 
 pub examined_payable : (o : Origin ℕ) (w w₁ : List ℕ) (s : Seen) → Examined o w w₁ s → Payable w₁ s
-examined_payable o w w₁ (Seen.Passes h t) x =
+examined_payable o w w₁ (Ok h) x =
     let p = x.told in
     record { tokens = p.tokens; program = p.program; holds = p.holds }
-examined_payable o w w₁ (Seen.Refused y i) x = tt
+examined_payable o w w₁ (Err e) x = tt
 
 module _ (first second : List ℕ) (f : Form) where
   -- what was counted is what is told
@@ -54,22 +56,21 @@ module _ (first second : List ℕ) (f : Form) where
       subst (λ (i : ℕ). Profile.Profiled (origin_of first second f edition) table (profile_report passed i n m)) (form_nowhere first second f edition)
       (rw (e, x.1) (profile_passed h a x.0 (subst (λ (k : ℕ). k ≤ PAY_COUNT) x.1 x.2)))
 
-  pub profiling_sheet : (w w' : List ℕ) (h : Held) (t : ℕ) (s : Seen) (c : Counted) (r : ProfiledAt ℕ) → profiles.Profiled w w' h c
-      → s ≡ Seen.Passes h t → r ≡ profiled_of first second f w' h.count t c → Profiling first second f w w' s r
-  profiling_sheet w w' h t s c r x z k = record {
+  pub profiling_sheet : (w w' : List ℕ) (q : Passed) (s : Seen) (c : Counted) (r : ProfiledAt ℕ) → profiles.Profiled w w' q.program c
+      → s ≡ Ok q → r ≡ profiled_of first second f w' q.program.count q.type_number c → Profiling first second f w w' s r
+  profiling_sheet w w' q s c r x z k = record {
     told = λ edition table l y.
         let p = subst (OfSource (origin_of first second f edition) w) z y in
-        let H = subst (λ (v : List ℕ). Holds p.tokens v h p.program) (sym x.table) (holds_without p.holds) in
+        let H = subst (λ (v : List ℕ). Holds p.tokens v q.program p.program) (sym x.table) (holds_without p.holds) in
         subst (λ (r : ProfiledAt ℕ). Profile.Profiled (origin_of first second f edition) table (profiled_report r)) (sym k)
-        (counted_told edition w' h.count t table c l p.passes H.stand p.numbered
+        (counted_told edition w' q.program.count q.type_number table c l p.passes H.stand p.numbered
         (x.right p.tokens p.program p.holds p.passes.proper.reads));
     rest = ap (λ (v : List ℕ). zeros v 0 TABLE) x.table ∙ wiped_without_variables w;
     long = ap length x.table ∙ length_without w;
   }
 
-  pub profiling_refused : (w : List ℕ) (y : Refusal) (i : ℕ) (s : Seen) → s ≡ Seen.Refused y i
-      → Profiling first second f w w s (Err (record { why = y; place = i }))
-  profiling_refused w y i s z = record {
+  pub profiling_refused : (w : List ℕ) (y : Located Refusal ℕ) (s : Seen) → s ≡ Err y → Profiling first second f w w s (Err y)
+  profiling_refused w y s z = record {
     told = λ edition table h a. profile_refused h (subst (OfSource (origin_of first second f edition) w) z a);
     rest = refl;
     long = refl;

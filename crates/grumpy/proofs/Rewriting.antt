@@ -17,13 +17,14 @@ use Rattle.language.proofs.Answers.Editions.{text_in_lawful}
 use Rattle.numbers.specs.Meanings.{refusal_meant}
 use Rattle.numbers.specs.declared.Refusal.{Refusal}
 use Rattle.layout.specs.Table.{zeros}
-use Rattle.layout.specs.declared.Held.{Held}
+use Rattle.numbers.specs.declared.Located.{Located}
+use Rattle.sheets.specs.declared.Passed.{Passed}
 use Rattle.layout.proofs.Wiped.{zeros_cleared}
 use Rattle.writer.specs.Texts.{Writable, WritesOut}
 use Rattle.writer.specs.Forms.{StoresOut}
 use Rattle.writer.specs.declared.Text.{Text}
 use Rattle.sheets.specs.Sheets.{OfSource, Examined}
-use Rattle.sheets.specs.declared.Seen.{Seen}
+use Rattle.sheets.specs.Sheets.{Seen}
 use Rattle.grumpy.specs.Reports.{Written, wrote_report}
 use Rattle.grumpy.specs.Writings.{Tells, Rewrote, Readable, Rewritten}
 use Rattle.grumpy.proofs.Leaving.{wrote_left, stores_left}
@@ -64,7 +65,7 @@ module _ (source w : List ℕ) (count : ℕ) (out out' : List ℕ) (a : Text) (x
 
 -- an examined sheet can be written
 pub examined_readable : (edition : ℕ) (source w w₁ : List ℕ) (s : Seen) → Examined (text_in edition source) w w₁ s → Readable source w₁ s
-examined_readable edition source w w₁ (Seen.Passes h t) x =
+examined_readable edition source w w₁ (Ok h) x =
     let p = x.told in
     record {
       words = p.passes.given.words;
@@ -74,12 +75,12 @@ examined_readable edition source w w₁ (Seen.Passes h t) x =
       short = p.passes.given.given.short;
       splits = p.passes.given.given.splits;
     }
-examined_readable edition source w w₁ (Seen.Refused y i) x = tt
+examined_readable edition source w w₁ (Err e) x = tt
 
 module _ (tells : Tells) where
-  pub rewritten_sheet : (source w out out' : List ℕ) (h : Held) (t : ℕ) (s : Seen) (r : Written) → Rewrote tells source w h.count out out' r
-      → s ≡ Seen.Passes h t → Rewritten tells source w out out' s r
-  rewritten_sheet source w out out' h t s r x z = record {
+  pub rewritten_sheet : (source w out out' : List ℕ) (h : Passed) (s : Seen) (r : Written) → Rewrote tells source w h.program.count out out' r
+      → s ≡ Ok h → Rewritten tells source w out out' s r
+  rewritten_sheet source w out out' h s r x z = record {
     told = λ edition table l y.
         let p = subst (OfSource (text_in edition source) w) z y in
         x.told edition p.tokens p.program p.type table l p.passes p.holds.stand;
@@ -90,20 +91,20 @@ module _ (tells : Tells) where
   Refuses = (edition table room : ℕ) (source : List ℕ) (y : Numbers.Refusal) (i : ℕ) → TABLE ≤ table → Refused (text_in edition source) y i
       → tells (text_in edition source) table room (write_report (refused y) i 0) []
 
-  rewritten_refused : Refuses → (source w out : List ℕ) (y : Refusal) (i : ℕ) (s : Seen) → s ≡ Seen.Refused y i
-      → Rewritten tells source w out out s (Err (record { why = y; place = i }))
-  rewritten_refused f source w out y i s z = record {
+  rewritten_refused : Refuses → (source w out : List ℕ) (y : Located Refusal ℕ) (s : Seen) → s ≡ Err y
+      → Rewritten tells source w out out s (Err y)
+  rewritten_refused f source w out y s z = record {
     told = λ edition table h a.
         let x = subst (OfSource (text_in edition source) w) z a in
-        record { text = []; wrote = f edition table (length out) source (refusal_meant y) i h x; output = refl };
+        record { text = []; wrote = f edition table (length out) source (refusal_meant y.why) y.place h x; output = refl };
   }
 
-pub write_refuses : (source w out : List ℕ) (y : Refusal) (i : ℕ) (s : Seen) → s ≡ Seen.Refused y i
-    → Rewritten Writing.Wrote source w out out s (Err (record { why = y; place = i }))
+pub write_refuses : (source w out : List ℕ) (y : Located Refusal ℕ) (s : Seen) → s ≡ Err y
+    → Rewritten Writing.Wrote source w out out s (Err y)
 write_refuses = rewritten_refused Writing.Wrote (λ edition table room source y i h a. write_refused h a)
 
-pub store_refuses : (source w out : List ℕ) (y : Refusal) (i : ℕ) (s : Seen) → s ≡ Seen.Refused y i
-    → Rewritten Writing.Stores source w out out s (Err (record { why = y; place = i }))
+pub store_refuses : (source w out : List ℕ) (y : Located Refusal ℕ) (s : Seen) → s ≡ Err y
+    → Rewritten Writing.Stores source w out out s (Err y)
 store_refuses = rewritten_refused Writing.Stores (λ edition table room source y i h a. store_refused h a)
 
 -- ---- write

@@ -17,7 +17,7 @@ use Rattle.language.specs.Answers.{Origin, Passes, ending, left, cleared, check_
 use Rattle.language.specs.Answers.{check_passed, Check, Lent, Enough, RunReport, refusal, run_short, run_large, run_refused, run_ended, Run}
 use Rattle.numbers.specs.declared.Refusal.{Refusal}
 use Rattle.numbers.specs.declared.Stop.{Stop}
-use Rattle.layout.specs.declared.Held.{Held}
+use Rattle.sheets.specs.declared.Passed.{Passed}
 use Rattle.layout.specs.declared.values.Value.{Value}
 use Rattle.layout.specs.Values.{meant}
 use Rattle.layout.specs.Table.{zeros}
@@ -28,7 +28,7 @@ use Rattle.sheets.specs.Forms.{origin_of, place_of}
 use Rattle.sheets.specs.Sheets.{OfSource, Examined}
 use Rattle.sheets.specs.declared.Form.{Form}
 use Rattle.numbers.specs.declared.Located.{Located}
-use Rattle.sheets.specs.declared.Seen.{Seen}
+use Rattle.sheets.specs.Sheets.{Seen}
 use Rattle.sheets.proofs.FormLaws.{form_lawful, form_nowhere, form_place}
 use Rattle.grumpy.specs.Reports.{RanAt, same, end_told, checked_report, ran_report}
 use Rattle.grumpy.specs.Outcomes.{end_meant, ending_meant, end_at, Executed, ran_of, Ready, Runnable, Reported, Answered}
@@ -58,23 +58,21 @@ module _ (first second : List ℕ) (f : Form) (edition : ℕ) where
     check_is : (r : CheckReport ℕ) → Checked o (length w) r → Check o w r w₂
     check_is r a = record { answer = a; table_left = cleared_table ∙ sym (checked_left (form_lawful first second f edition) h a TABLE w) }
 
-    pub check_is_passed : (P : Held) (t : ℕ) → s ≡ Seen.Passes P t
-        → Check (origin_of first second f edition) w (checked_report (Ok t)) w₂
-    check_is_passed P t q =
+    pub check_is_passed : (P : Passed) → s ≡ Ok P → Check (origin_of first second f edition) w (checked_report (Ok P.type_number)) w₂
+    check_is_passed P q =
         let p = subst (OfSource o w₁) q x.told in
         let a = subst (λ (n : ℕ). Checked o (length w) (check_report passed o.nowhere n)) (sym p.numbered) (check_passed h p.passes) in
-        check_is _ (subst (λ (i : ℕ). Checked o (length w) (check_report passed i t)) (form_nowhere first second f edition) a)
+        check_is _ (subst (λ (i : ℕ). Checked o (length w) (check_report passed i P.type_number)) (form_nowhere first second f edition) a)
 
-    pub check_is_refused : (y : Refusal) (i : ℕ) → s ≡ Seen.Refused y i
-        → Check (origin_of first second f edition) w (checked_report (Err (record { why = y; place = i }))) w₂
-    check_is_refused y i q = check_is _ (check_refused h (subst (OfSource o w₁) q x.told))
+    pub check_is_refused : (y : Located Refusal ℕ) → s ≡ Err y → Check (origin_of first second f edition) w (checked_report (Err y)) w₂
+    check_is_refused y q = check_is _ (check_refused h (subst (OfSource o w₁) q x.told))
 
 -- ---- what comes of a sheet that was examined
 
 -- an examined sheet can be run
 pub examined_runnable : (first second : List ℕ) (f : Form) (edition : ℕ) (w w₁ work : List ℕ) (allowance : ℕ) (s : Seen)
     → Examined (origin_of first second f edition) w w₁ s → WORK ≤ length work → allowance ≤ ALLOWANCE → Runnable w₁ work allowance s
-examined_runnable first second f edition w w₁ work allowance (Seen.Passes P t) x h k =
+examined_runnable first second f edition w w₁ work allowance (Ok P) x h k =
     let p = x.told in
     record {
       tokens = p.tokens;
@@ -85,7 +83,7 @@ examined_runnable first second f edition w w₁ work allowance (Seen.Passes P t)
       long = h;
       allowed = k;
     }
-examined_runnable first second f edition w w₁ work allowance (Seen.Refused y i) x h k = h
+examined_runnable first second f edition w w₁ work allowance (Err e) x h k = h
 
 module _ (first second : List ℕ) (f : Form) where
   -- what is reported of a value
@@ -106,10 +104,11 @@ module _ (first second : List ℕ) (f : Form) where
           (form_nowhere first second f edition) (rw (a, b) (run_ended g h passes x))
       go (Err y) x = rw (a, b, form_place first second f edition s y.place) (run_ended g h passes x)
 
-  pub answered_sheet : (w w' work out work' out' : List ℕ) (P : Held) (t allowance : ℕ) (s : Seen) (e : Ending ℕ) (r : RanAt ℕ)
-      → Resolves w w' P → Executed w' work out work' out' P allowance e → s ≡ Seen.Passes P t → r ≡ ran_of first second f w' P.count t e
+  pub answered_sheet : (w w' work out work' out' : List ℕ) (P : Passed) (allowance : ℕ) (s : Seen) (e : Ending ℕ) (r : RanAt ℕ)
+      → Resolves w w' P.program → Executed w' work out work' out' P.program allowance e → s ≡ Ok P
+      → r ≡ ran_of first second f w' P.program.count P.type_number e
       → Answered first second f w w' work out work' out' allowance s r
-  answered_sheet w w' work out work' out' P t allowance s e r n x z k = record {
+  answered_sheet w w' work out work' out' P allowance s e r n x z k = record {
     told = λ edition l y g o m h.
         let p = subst (OfSource (origin_of first second f edition) w) z y in
         let H = n.holds p.tokens p.program p.holds in
@@ -119,7 +118,7 @@ module _ (first second : List ℕ) (f : Form) where
           printed = b.printed;
           ran =
               rw k
-              (ended_ran edition w' l P.count t b.printed e g (rw m h) p.passes (rw (m, o) b.ends) H.stand p.numbered
+              (ended_ran edition w' l P.program.count P.type_number b.printed e g (rw m h) p.passes (rw (m, o) b.ends) H.stand p.numbered
               b.counted);
           output = b.output;
         };
@@ -127,10 +126,10 @@ module _ (first second : List ℕ) (f : Form) where
     cleared = x.cleared;
   }
 
-  pub answered_refused : (w work out work' out' : List ℕ) (allowance : ℕ) (s : Seen) (y : Refusal) (i : ℕ) (r : RanAt ℕ)
-      → r ≡ Err (record { why = y; place = i }) → work' ≡ zeros work 0 WORK → out' ≡ out → s ≡ Seen.Refused y i
+  pub answered_refused : (w work out work' out' : List ℕ) (allowance : ℕ) (s : Seen) (y : Located Refusal ℕ) (r : RanAt ℕ)
+      → r ≡ Err y → work' ≡ zeros work 0 WORK → out' ≡ out → s ≡ Err y
       → Answered first second f w w work out work' out' allowance s r
-  answered_refused w work out work' out' allowance s y i r q x k z = record {
+  answered_refused w work out work' out' allowance s y r q x k z = record {
     told = λ edition l a e o m h.
         let p = subst (OfSource (origin_of first second f edition) w) z a in
         subst (Reported (origin_of first second f edition) l out out') (sym q) record { printed = []; ran = run_refused e (rw m h) p; output = k };

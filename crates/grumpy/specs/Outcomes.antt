@@ -21,7 +21,7 @@ use Rattle.layout.specs.declared.Held.{Held}
 use Rattle.sheets.specs.Forms.{origin_of, place_of}
 use Rattle.sheets.specs.Sheets.{OfSource}
 use Rattle.sheets.specs.declared.Form.{Form}
-use Rattle.sheets.specs.declared.Seen.{Seen}
+use Rattle.sheets.specs.Sheets.{Seen}
 use Rattle.numbers.specs.declared.Located.{Located}
 use Rattle.grumpy.specs.Reports.{RanAt, ran_report}
 use Rattle.grumpy.specs.declared.answers.Ending.{Ending}
@@ -83,8 +83,8 @@ pub record Ready (table work : List ℕ) (P : Held) (allowance : ℕ) : Type 0 w
   pub allowed : allowance ≤ ALLOWANCE
 
 abbrev pub Runnable : List ℕ → List ℕ → ℕ → Seen → Type 0
-Runnable table work allowance (Seen.Passes P t) = Ready table work P allowance
-Runnable table work allowance (Seen.Refused y i) = WORK ≤ length work
+Runnable table work allowance (Ok p) = Ready table work p.program allowance
+Runnable table work allowance (Err e) = WORK ≤ length work
 
 -- the report and the output are those of the written run of an origin
 pub record Reported (o : Origin ℕ) (l : Lent) (out out' : List ℕ) (r : RanAt ℕ) : Type 0 where

@@ -9,7 +9,7 @@ use Rattle.profiles.specs.declared.Uncounted.TheVariants.{EndlessNode, ManyUnits
 use Rattle.sheets.specs.Forms.{origin_of, place_of}
 use Rattle.sheets.specs.Sheets.{OfSource}
 use Rattle.sheets.specs.declared.Form.{Form}
-use Rattle.sheets.specs.declared.Seen.{Seen}
+use Rattle.sheets.specs.Sheets.{Seen}
 use Rattle.grumpy.specs.Reports.{ProfiledAt, profiled_report}
 
 -- the answer for a program whose type has the number t, from the words of a table that stands for so many tokens of a
@@ -22,8 +22,8 @@ profiled_of first second f w count t (Ok n) = Ok (record { type_number = t; coun
 
 -- a sheet that passes can be counted
 abbrev pub Payable : List ℕ → Seen → Type 0
-Payable w (Seen.Passes p t) = Countable w p
-Payable w (Seen.Refused y i) = Unit {0}
+Payable w (Ok p) = Countable w p.program
+Payable w (Err e) = Unit {0}
 
 -- in whatever edition the source was examined; all but the variables' words is as it was
 pub record Profiling (first second : List ℕ) (f : Form) (w w' : List ℕ) (s : Seen) (r : ProfiledAt ℕ) : Type 0 where

@@ -1,6 +1,6 @@
 -- What is written of a sheet that was examined: the contracts of `writings`. They are the same for a sheet that is
 -- written out again and for one that is stored.
-use Rattle.std.specs.Prelude.{List, ◌++◌, ◌≡◌, ℕ, ◌≤◌, length, drop}
+use Rattle.std.specs.Prelude.{List, ◌++◌, ◌≡◌, ℕ, ◌≤◌, length, drop, Ok, Err}
 use Rattle.language.specs.Sizes.{TABLE}
 use Rattle.language.specs.Tokens.{Token}
 use Rattle.language.specs.Trees.{Ty, Program}
@@ -10,7 +10,7 @@ use Rattle.language.specs.Writing.{WriteReport}
 use Rattle.layout.specs.Names.{Stand}
 use Rattle.writer.specs.Texts.{Writable}
 use Rattle.sheets.specs.Sheets.{OfSource}
-use Rattle.sheets.specs.declared.Seen.{Seen}
+use Rattle.sheets.specs.Sheets.{Seen}
 use Rattle.grumpy.specs.Reports.{Written, wrote_report}
 
 -- what a service may tell of an origin, lent so many words of table memory and bytes of output: the report, and the
@@ -32,8 +32,8 @@ pub record Rewrote (tells : Tells) (source w : List ℕ) (count : ℕ) (out out'
 
 -- a sheet that passes can be written from its table
 abbrev pub Readable : List ℕ → List ℕ → Seen → Type 0
-Readable source w (Seen.Passes p t) = Writable source w p.count
-Readable source w (Seen.Refused y i) = Unit {0}
+Readable source w (Ok p) = Writable source w p.program.count
+Readable source w (Err e) = Unit {0}
 
 -- of any sheet
 pub record Rewritten (tells : Tells) (source w out out' : List ℕ) (s : Seen) (r : Written) : Type 0 where

@@ -10,7 +10,7 @@ ghost use Rattle.grumpy.specs.Calls.{Preparable, Prepares, Callable, Called};
 use crate::answers::Ending;
 use crate::outcomes;
 use layout::Held;
-use sheets::{Form, Seen};
+use sheets::Form;
 use tokens::view::View;
 
 // The book with the call of two noughts under it: the table holds it, its names and calls resolved. A book that was
@@ -21,14 +21,11 @@ pub fn prepare(edition: u32, book: &[u8], table: &mut [u32]) -> Held
 {
     let form = Form::Text(View::Joined);
     match sheets::examine_form(edition, book, b"pay(0,0)", form, table) {
-        Seen::Passes {
-            program,
-            type_number: _,
-        } => {
-            resolver::resolve(table, program);
-            program
+        Ok(passed) => {
+            resolver::resolve(table, passed.program);
+            passed.program
         }
-        Seen::Refused(_, _) => Held {
+        Err(_) => Held {
             count: 0,
             functions: 0,
             root: 0,

@@ -12,7 +12,7 @@ ghost use Rattle.language.specs.Edition.{text_in, stored_in, pair_in, is_known};
 ghost use Rattle.language.specs.Outline.{Outline};
 ghost use Rattle.language.specs.Profile.{Profile};
 ghost use Rattle.language.specs.Writing.{Write, Store};
-ghost use Rattle.outlines.specs.Reports.{wanted, outlined_report};
+ghost use Rattle.outlines.specs.Reports.{wanted_by, outlined_report};
 ghost use Rattle.pairs.specs.Spots.{Shows};
 ghost use Rattle.sheets.specs.Forms.{origin_of};
 ghost use Rattle.grumpy.specs.Reports.{checked_report, ran_report, wrote_report, profiled_report};
@@ -30,18 +30,11 @@ use crate::answers::{Checked, Profiled, Ran, Wrote};
 use language::{ALLOWANCE, TABLE, WORK};
 use layout::memory;
 use numbers::Refusal;
-use outlines::Outlined;
+use outlines::{Found, Sought};
 use pairs::Spot;
-use sheets::{Form, Refused, Seen};
+use sheets::{Form, nowhere};
 use tokens::edition::named;
 use tokens::view::View;
-
-// A refusal that has no place is told at the front.
-fn nowhere(why: Refusal) -> Refused<usize>
-    ensures { result ≡ record { why = why; place = 0 } }
-{
-    Refused { why, place: 0 }
-}
 
 // What check answers for a source of either form.
 fn check_form(
@@ -59,13 +52,8 @@ fn check_form(
     }
     let seen = sheets::examine_form(edition, first, second, form, table);
     memory::clear(table, 0, TABLE);
-    match seen {
-        Seen::Passes {
-            program: _,
-            type_number,
-        } => Ok(type_number),
-        Seen::Refused(why, place) => Err(Refused { why, place }),
-    }
+    let passed = seen?;
+    Ok(passed.type_number)
 }
 
 pub fn check(edition: u32, source: &[u8], table: &mut [u32]) -> Checked<usize>
@@ -261,21 +249,18 @@ pub fn knows(edition: u32) -> bool
 }
 
 // What two sheets have, without running them: whether their last expression is a number alone, and whether
-// there is a function of this name that takes and gives these types, told by their numbers.
+// there is a function that is wanted.
 pub fn outline(
     edition: u32,
     first: &[u8],
     second: &[u8],
     table: &mut [u32],
-    name: &[u8],
-    takes: &[u32],
-    gives: u32,
-) -> Outlined
-    ensures { Outline (pair_in edition first.now second.now)
-        (wanted name.now takes.now gives) table.old (outlined_report result)
-        table.new }
+    sought: &Sought,
+) -> Result<Found, Refusal>
+    ensures { Outline (pair_in edition first.now second.now) (wanted_by sought.now)
+        table.old (outlined_report result) table.new }
 {
-    outlines::outline(edition, first, second, table, name, takes, gives)
+    outlines::outline(edition, first, second, table, sought)
 }
 
 // The line that a spot shows, as a part of its sheet.

@@ -8,8 +8,7 @@ ghost use Rattle.grumpy.specs.Outcomes.{Executed, ran_of, Runnable, Answered};
 use crate::answers::{Ended, Ending, Ran};
 use language::WORK;
 use layout::{Held, memory};
-use numbers::Refusal;
-use sheets::{Form, Refused, Seen};
+use sheets::{Form, Refused, Verdict};
 
 // Runs the program that the table holds.
 pub fn execute(
@@ -52,14 +51,14 @@ fn answer(
 }
 
 // A sheet that is not run: work memory is cleared, the output stays.
-fn refuse(work: &mut [u32], out: &mut [u8], why: Refusal, place: usize) -> Ran<usize>
+fn refuse(work: &mut [u32], out: &mut [u8], refused: Refused<usize>) -> Ran<usize>
     requires { WORK ≤ length work.old }
-    ensures value { result ≡ Err (record { why = why; place = place }) }
+    ensures value { result ≡ Err refused }
     ensures work_after { work.new ≡ zeros work.old 0 WORK }
     ensures out_unchanged { out.new ≡ out.old }
 {
     memory::clear(work, 0, WORK);
-    Err(Refused { why, place })
+    Err(refused)
 }
 
 // What comes of a sheet that was examined: its names and calls are resolved and it runs, or it is refused.
@@ -70,7 +69,7 @@ pub fn run_or_refuse(
     table: &mut [u32],
     work: &mut [u32],
     out: &mut [u8],
-    seen: Seen,
+    seen: Verdict,
     allowance: u32,
 ) -> Ran<usize>
     requires { Runnable table.old work.old allowance seen }
@@ -78,10 +77,8 @@ pub fn run_or_refuse(
         work.old out.old work.new out.new allowance seen result }
 {
     match seen {
-        Seen::Passes {
-            program,
-            type_number,
-        } => {
+        Ok(passed) => {
+            let program = passed.program;
             resolver::resolve(table, program);
             let ending = execute(table, work, out, program, allowance);
             answer(
@@ -90,10 +87,10 @@ pub fn run_or_refuse(
                 form,
                 table,
                 program.count,
-                type_number,
+                passed.type_number,
                 ending,
             )
         }
-        Seen::Refused(why, place) => refuse(work, out, why, place),
+        Err(refused) => refuse(work, out, refused),
     }
 }

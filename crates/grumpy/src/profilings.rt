@@ -11,7 +11,7 @@ use language::TABLE;
 use layout::memory;
 use numbers::Refusal;
 use profiles::Uncounted;
-use sheets::{Form, Refused, Seen};
+use sheets::{Form, Refused, Verdict, nowhere};
 
 // The answer for a program of this type, in a source whose tokens the table holds.
 fn answer(
@@ -35,7 +35,7 @@ fn answer(
                 place,
             })
         }
-        Err(Uncounted::ManyUnits) => Err(crate::nowhere(Refusal::ManyUnits)),
+        Err(Uncounted::ManyUnits) => Err(nowhere(Refusal::ManyUnits)),
         Ok(count) => Ok(Costs { type_number, count }),
     }
 }
@@ -46,30 +46,24 @@ fn profile_or_refuse(
     second: &[u8],
     form: Form,
     table: &mut [u32],
-    seen: Seen,
+    seen: Verdict,
 ) -> Profiled<usize>
     requires { Payable table.old seen }
     ensures { Profiling first.now second.now form table.old table.new
         seen result }
 {
-    match seen {
-        Seen::Passes {
-            program,
-            type_number,
-        } => {
-            let counted = profiles::profile(table, program);
-            answer(
-                first,
-                second,
-                form,
-                table,
-                program.count,
-                type_number,
-                counted,
-            )
-        }
-        Seen::Refused(why, place) => Err(Refused { why, place }),
-    }
+    let passed = seen?;
+    let program = passed.program;
+    let counted = profiles::profile(table, program);
+    answer(
+        first,
+        second,
+        form,
+        table,
+        program.count,
+        passed.type_number,
+        counted,
+    )
 }
 
 // What profile answers for a source of either form.
@@ -84,7 +78,7 @@ pub fn profile_form(
         (profiled_report result) table.new }
 {
     if table.len() < TABLE {
-        return Err(crate::nowhere(Refusal::ShortMemory));
+        return Err(nowhere(Refusal::ShortMemory));
     }
     let seen = sheets::examine_form(edition, first, second, form, table);
     let answer = profile_or_refuse(first, second, form, table, seen);

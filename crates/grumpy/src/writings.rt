@@ -5,7 +5,7 @@ ghost use Rattle.grumpy.specs.Writings.{Rewrote, Readable, Rewritten};
 
 use crate::answers::Wrote;
 use numbers::Refusal;
-use sheets::{Refused, Seen};
+use sheets::{Verdict, nowhere};
 use writer::Text;
 
 // The text of a sheet that passes.
@@ -16,21 +16,16 @@ fn rewrite(source: &[u8], table: &[u32], count: usize, out: &mut [u8]) -> Wrote
 {
     match writer::write(source, table, count, out) {
         Text::Written(long) => Ok(long),
-        Text::TooLong => Err(crate::nowhere(Refusal::LongText)),
+        Text::TooLong => Err(nowhere(Refusal::LongText)),
     }
 }
 
 // What comes of a sheet that was examined: it is written out, or it is refused and the output stays.
-pub fn write_or_refuse(source: &[u8], table: &[u32], out: &mut [u8], seen: Seen) -> Wrote
+pub fn write_or_refuse(source: &[u8], table: &[u32], out: &mut [u8], seen: Verdict) -> Wrote
     requires { Readable source.now table.now seen }
     ensures { Rewritten writing.Wrote source.now table.now out.old out.new
         seen result }
 {
-    match seen {
-        Seen::Passes {
-            program,
-            type_number: _,
-        } => rewrite(source, table, program.count, out),
-        Seen::Refused(why, place) => Err(Refused { why, place }),
-    }
+    let passed = seen?;
+    rewrite(source, table, passed.program.count, out)
 }

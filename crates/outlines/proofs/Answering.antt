@@ -4,6 +4,7 @@ use lib.Dec.{eqb}
 use mathlib.Core.Bool.{Bool}
 use mathlib.Core.List.{List}
 use mathlib.Core.Path.{◌≡◌, refl, sym, ap, ap₂, subst, ◌∙◌}
+use Rattle.std.proofs.Common.{Result, Ok, Err}
 use Prim.Native.Nat.{ℕ, ◌≤◌, ◌<◌}
 use Rattle.language.specs.Sizes.{TABLE}
 use Rattle.language.specs.Tokens.{NUMBER}
@@ -20,26 +21,11 @@ use Rattle.numbers.specs.declared.Refusal.{Refusal}
 use Rattle.layout.specs.Table.{KIND, zeros, row_word}
 use Rattle.layout.specs.declared.Held.{Held}
 use Rattle.layout.proofs.Wiped.{zeros_cleared}
-use Rattle.sheets.specs.Sheets.{Examined}
-use Rattle.sheets.specs.declared.Seen.{Seen}
+use Rattle.sheets.specs.Sheets.{Seen, Examined}
 use Rattle.outlines.specs.Reports.{outlined_report}
 use Rattle.outlines.specs.Words.{any_from, Rows, Rooted, Drawn}
-use Rattle.outlines.specs.declared.Outlined as outlined
+use Rattle.outlines.specs.declared.Found.{Found}
 use Rattle.outlines.proofs.Drawing.{held_rows, held_told}
-
--- ---- what is told of a sheet that was examined
-
-pub passes_rows : (w : List ℕ) (s : Seen) (P : Held) (n : ℕ) → Rooted w s → s ≡ Seen.Passes P n → Rows w P.root P.functions
-passes_rows w s P n r e = subst (Rooted w) e r
-
-pub passes_drawn : (t w : List ℕ) (s : Seen) (x : Wanted) (P : Held) (n k : ℕ) (b : Bool) → s ≡ Seen.Passes P n → k ≡ row_word w P.root KIND
-    → b ≡ any_from t w x 0 P.functions → Drawn t w s x (outlined.Outlined.Passed (eqb k NUMBER) b)
-passes_drawn t w s x P n k b e f g =
-    subst (λ (s : Seen). Drawn t w s x (outlined.Outlined.Passed (eqb k NUMBER) b)) (sym e)
-    (ap₂ (λ (k : ℕ) (b : Bool). outlined.Outlined.Passed (eqb k NUMBER) b) f g)
-
-pub refused_drawn : (t w : List ℕ) (s : Seen) (x : Wanted) (y : Refusal) (i : ℕ) → s ≡ Seen.Refused y i → Drawn t w s x (outlined.Outlined.Refused y)
-refused_drawn t w s x y i e = subst (λ (s : Seen). Drawn t w s x (outlined.Outlined.Refused y)) (sym e) refl
 
 -- ---- the service
 
@@ -49,8 +35,8 @@ unfolding left
 outline_is_short edition first second w x h = record { answer = outline_short h; table_left = refl }
 
 pub examined_rooted : (o : Origin ℕ) (w w₁ : List ℕ) (s : Seen) → Examined o w w₁ s → Rooted w₁ s
-examined_rooted o w w₁ (Seen.Passes P n) e = held_rows e.told.holds
-examined_rooted o w w₁ (Seen.Refused y i) e = tt
+examined_rooted o w w₁ (Ok P) e = held_rows e.told.holds
+examined_rooted o w w₁ (Err y) e = tt
 
 module _ (edition : ℕ) (first second w w₁ w₂ : List ℕ) (x : Wanted) (h : TABLE ≤ length w) (e : w₂ ≡ zeros w₁ 0 TABLE) where
   -- what was examined is the joined text; its answer is that of the two sheets
@@ -60,17 +46,17 @@ module _ (edition : ℕ) (first second w w₁ w₂ : List ℕ) (x : Wanted) (h :
   cleared_table : (s : Seen) → Examined (text_in edition text) w w₁ s → w₂ ≡ cleared TABLE w
   cleared_table s a = e ∙ a.rest ∙ zeros_cleared TABLE w h
 
-  pub outline_is : (s : Seen) (r : outlined.Outlined) → Examined (text_in edition text) w w₁ s → Drawn text w₁ s x r
+  pub outline_is : (s : Seen) (r : Result Found Refusal) → Examined (text_in edition text) w w₁ s → Drawn text w₁ s x r
       → Outline (pair_in edition first second) x w (outlined_report r) w₂
   unfolding left
-  outline_is (Seen.Passes P n) r a d =
+  outline_is (Ok P) r a d =
       let p = a.told in
       let z = held_told edition text x p.passes p.holds in
       let k : OutlineReport = record { told = passed; alone = is_number p.program.main; there = has_function x p.program.defs } in
       let f : outlined_report r ≡ k = ap outlined_report d ∙ ap₂ (λ (a b : Bool). record { told = passed; alone = a; there = b }) z.0 z.1 in
       subst (λ (q : OutlineReport). Outline (pair_in edition first second) x w q w₂) (sym f)
-      record { answer = outline_passed h (passes_joined edition first second p.passes); table_left = cleared_table (Seen.Passes P n) a }
-  outline_is (Seen.Refused y i) r a d =
+      record { answer = outline_passed h (passes_joined edition first second p.passes); table_left = cleared_table (Ok P) a }
+  outline_is (Err y) r a d =
       let c = refused_clears (text_in_lawful edition text) a.told in
-      subst (λ (q : outlined.Outlined). Outline (pair_in edition first second) x w (outlined_report q) w₂) (sym d)
-      record { answer = outline_refused h (refused_joined edition first second a.told); table_left = rw c (cleared_table (Seen.Refused y i) a) }
+      subst (λ (q : Result Found Refusal). Outline (pair_in edition first second) x w (outlined_report q) w₂) (sym d)
+      record { answer = outline_refused h (refused_joined edition first second a.told); table_left = rw c (cleared_table (Err y) a) }

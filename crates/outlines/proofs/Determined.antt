@@ -2,6 +2,7 @@
 -- function. An answer can be told from its report.
 use mathlib.Core.List.{List}
 use mathlib.Core.Path.{◌≡◌, refl, sym, ap, ◌∙◌}
+use Rattle.std.proofs.Common.{Result, Ok, Err}
 use Prim.Native.Nat.{ℕ, ◌≤◌, ◌<◌}
 use native.Mathlib.Decide.{dec_le}
 use native.Mathlib.Omega.{arith}
@@ -16,7 +17,8 @@ use Rattle.language.proofs.Answers.Editions.{pair_in_lawful}
 use Rattle.language.proofs.Answers.Origins.{Lawful, Fate, fails, passes, fate, passes_is, refused_is}
 use Rattle.numbers.proofs.Apart.{refusal_of, refusal_back}
 use Rattle.outlines.specs.Reports.{outlined_report}
-use Rattle.outlines.specs.declared.Outlined as outlined
+use Rattle.numbers.specs.declared.Refusal.{Refusal}
+use Rattle.outlines.specs.declared.Found.{Found}
 
 -- ---- one report
 
@@ -51,19 +53,19 @@ one_outline law x {table} a b =
 -- ---- one answer
 
 -- an outline tells no stop
-abbrev outlined_by : Told → OutlineReport → outlined.Outlined
-outlined_by passed r = outlined.Outlined.Passed r.alone r.there
-outlined_by (refused y) r = outlined.Outlined.Refused (refusal_of y)
-outlined_by (stopped w) r = outlined.Outlined.Passed r.alone r.there
+abbrev outlined_by : Told → OutlineReport → Result Found Refusal
+outlined_by passed r = Ok (record { alone = r.alone; there = r.there })
+outlined_by (refused y) r = Err (refusal_of y)
+outlined_by (stopped w) r = Ok (record { alone = r.alone; there = r.there })
 
-abbrev outlined_of : OutlineReport → outlined.Outlined
+abbrev outlined_of : OutlineReport → Result Found Refusal
 outlined_of r = outlined_by r.told r
 
-outlined_back : (r : outlined.Outlined) → outlined_of (outlined_report r) ≡ r
-outlined_back (outlined.Outlined.Passed a b) = refl
-outlined_back (outlined.Outlined.Refused y) = ap outlined.Outlined.Refused (refusal_back y)
+outlined_back : (r : Result Found Refusal) → outlined_of (outlined_report r) ≡ r
+outlined_back (Ok x) = refl
+outlined_back (Err y) = ap (λ (y : Refusal). Err y) (refusal_back y)
 
-pub outline_determined : {edition : ℕ} {first second table t' u' : List ℕ} (x : Wanted) (r q : outlined.Outlined)
+pub outline_determined : {edition : ℕ} {first second table t' u' : List ℕ} (x : Wanted) (r q : Result Found Refusal)
     → Outline (pair_in edition first second) x table (outlined_report r) t' → Outline (pair_in edition first second) x table (outlined_report q) u'
     → (r ≡ q) × (t' ≡ u')
 outline_determined {edition} {first} {second} x r q a b =

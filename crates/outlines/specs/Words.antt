@@ -1,13 +1,14 @@
 -- An outline by the words of a table and the bytes of a text: the contracts inside this crate.
-use Rattle.std.specs.Prelude.{Bool, true, false, cond, List, [], ◌∷◌, ◌≡◌, ℕ, zero, suc, ◌+◌, ◌-◌, ◌≤◌, ◌<◌, eqb, ltb, length}
+use Rattle.std.specs.Prelude.{Bool, true, false, cond, List, [], ◌∷◌, ◌≡◌, ℕ, zero, suc, ◌+◌, ◌-◌, ◌≤◌, ◌<◌, eqb, ltb, length, Result, Ok, Err}
 use Rattle.language.specs.Sizes.{TABLE, NODES}
 use Rattle.language.specs.Tokens.{NUMBER}
 use Rattle.language.specs.Text.{byte}
 use Rattle.language.specs.Outline.{Wanted}
 use Rattle.layout.specs.Table.{KIND, OWN, TYPE, ARITY, RESULT, token_place, token_end, row_word, function_row}
 use Rattle.layout.specs.Functions.{Headed}
-use Rattle.sheets.specs.declared.Seen.{Seen}
-use Rattle.outlines.specs.declared.Outlined.{Outlined}
+use Rattle.sheets.specs.Sheets.{Seen}
+use Rattle.numbers.specs.declared.Refusal.{Refusal}
+use Rattle.outlines.specs.declared.Found.{Found}
 
 -- numbers that are found one after the other, from p on
 unfoldable pub matches : (ℕ → ℕ) → ℕ → List ℕ → Bool
@@ -58,9 +59,10 @@ pub record Rows (w : List ℕ) (root functions : ℕ) : Type 0 where
   pub all : (k : ℕ) → k < functions → Whole w k
 
 abbrev pub Rooted : List ℕ → Seen → Type 0
-Rooted w (Seen.Passes p t) = Rows w p.root p.functions
-Rooted w (Seen.Refused y i) = Unit {0}
+Rooted w (Ok p) = Rows w p.program.root p.program.functions
+Rooted w (Err e) = Unit {0}
 
-abbrev pub Drawn : List ℕ → List ℕ → Seen → Wanted → Outlined → Type 0
-Drawn t w (Seen.Passes p n) x r = r ≡ Outlined.Passed (alone_in w p.root) (any_from t w x 0 p.functions)
-Drawn t w (Seen.Refused y i) x r = r ≡ Outlined.Refused y
+abbrev pub Drawn : List ℕ → List ℕ → Seen → Wanted → Result Found Refusal → Type 0
+Drawn t w (Ok p) x r =
+    r ≡ Ok (record { alone = alone_in w p.program.root; there = any_from t w x 0 p.program.functions })
+Drawn t w (Err e) x r = r ≡ Err e.why

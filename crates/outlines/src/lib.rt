@@ -6,27 +6,35 @@ ghost use Rattle.std.specs.Prelude.{◌≡◌, ℕ, ◌+◌, ◌≤◌, ◌<◌,
 ghost use Rattle.language.specs.Sizes.{TABLE, NODES};
 ghost use Rattle.language.specs.Edition.{pair_in};
 ghost use Rattle.language.specs.Outline.{Outline};
-ghost use Rattle.language.specs.Pairs.{joined};
 ghost use Rattle.layout.specs.Table.{ARITY, row_word};
-ghost use Rattle.outlines.specs.Reports.{wanted, outlined_report};
+ghost use Rattle.tokens.specs.Shown.{text_of};
+ghost use Rattle.outlines.specs.Reports.{wanted_by, outlined_report};
 ghost use Rattle.outlines.specs.Words.{spelled_in, takes_in, Whole, suits_in, any_from, Rooted, Drawn};
 
 use language::{TABLE, kinds};
 use layout::{functions, memory, rows, token};
 use numbers::Refusal;
-use sheets::Seen;
+use sheets::Verdict;
 use tokens::view::{Text, View};
 
-// What is told of a sheet; where a refusal has its place is told by check.
+// What a sheet has: a last expression that is a number alone, and a function that was wanted.
 #[derive(Clone, Copy)]
-pub enum Outlined {
-    Passed { alone: bool, there: bool },
-    Refused(Refusal),
+pub struct Found {
+    pub alone: bool,
+    pub there: bool,
 }
 
-// The bytes of the joined text from one place up to another are these.
-fn spelled(first: &[u8], second: &[u8], at: usize, end: usize, name: &[u8]) -> bool
-    ensures { result ≡ spelled_in (joined first.now second.now) at end name.now }
+// A function that is wanted: its name, the numbers of the types that it takes, and that of the one it gives.
+#[derive(Clone, Copy)]
+pub struct Sought<'a> {
+    pub name: &'a [u8],
+    pub takes: &'a [u32],
+    pub gives: u32,
+}
+
+// The bytes of a text from one place up to another are these.
+fn spelled(text: &Text, at: usize, end: usize, name: &[u8]) -> bool
+    ensures { result ≡ spelled_in (text_of text.now) at end name.now }
 {
     if end < at {
         return false;
@@ -34,17 +42,10 @@ fn spelled(first: &[u8], second: &[u8], at: usize, end: usize, name: &[u8]) -> b
     if end - at != name.len() {
         return false;
     }
-    let text = Text {
-        first,
-        second,
-        view: View::Joined,
-    };
-    let mut i = 0;
-    while i < name.len() {
-        if text.byte(at + i) != name[i] {
+    for (i, b) in name.iter().enumerate() {
+        if text.byte(at + i) != *b {
             return false;
         }
-        i += 1;
     }
     true
 }
@@ -57,115 +58,76 @@ fn takes_these(table: &[u32], row: usize, takes: &[u32]) -> bool
     if rows::link(table, row, rows::ARITY) != takes.len() {
         return false;
     }
-    let mut i = 0;
-    while i < takes.len() {
-        if rows::word(table, row + 1 + i, rows::TYPE) != takes[i] {
+    for (i, kind) in takes.iter().enumerate() {
+        if rows::word(table, row + 1 + i, rows::TYPE) != *kind {
             return false;
         }
-        i += 1;
     }
     true
 }
 
 // Function k is the one that is wanted.
-fn suits(
-    first: &[u8],
-    second: &[u8],
-    table: &[u32],
-    k: usize,
-    name: &[u8],
-    takes: &[u32],
-    gives: u32,
-) -> bool
+fn suits(text: &Text, table: &[u32], k: usize, sought: &Sought) -> bool
     requires { (TABLE ≤ length table.now) × Whole table.now k }
-    ensures { result ≡ suits_in (joined first.now second.now) table.now k
-        (wanted name.now takes.now gives) }
+    ensures { result ≡ suits_in (text_of text.now) table.now k (wanted_by sought.now) }
 {
     let row = functions::row(table, k);
     let named = rows::link(table, row, rows::OWN) + 1;
     let at = token::place(table, named) as usize;
     let end = token::end(table, named) as usize;
-    if spelled(first, second, at, end, name) {
-        if takes_these(table, row, takes) {
-            return rows::word(table, row, rows::RESULT) == gives;
-        }
-    }
-    false
+    spelled(text, at, end, sought.name)
+        && takes_these(table, row, sought.takes)
+        && rows::word(table, row, rows::RESULT) == sought.gives
 }
 
 // One of the first `seen` functions is.
-fn any_suits(
-    first: &[u8],
-    second: &[u8],
-    table: &[u32],
-    seen: usize,
-    name: &[u8],
-    takes: &[u32],
-    gives: u32,
-) -> bool
+fn any_suits(text: &Text, table: &[u32], seen: usize, sought: &Sought) -> bool
     requires { (TABLE ≤ length table.now) × ((k : ℕ) → k < seen → Whole table.now k) }
-    ensures { result ≡ any_from (joined first.now second.now) table.now
-        (wanted name.now takes.now gives) 0 seen }
+    ensures { result ≡ any_from (text_of text.now) table.now (wanted_by sought.now) 0 seen }
 {
-    let mut k = 0;
-    while k < seen {
-        if suits(first, second, table, k, name, takes, gives) {
+    for k in 0..seen {
+        if suits(text, table, k, sought) {
             return true;
         }
-        k += 1;
     }
     false
 }
 
-// What is told of a sheet that was examined.
-fn drawn(
-    first: &[u8],
-    second: &[u8],
-    table: &[u32],
-    seen: Seen,
-    name: &[u8],
-    takes: &[u32],
-    gives: u32,
-) -> Outlined
+// What is told of a sheet that was examined; where a refusal has its place is told by check.
+fn drawn(text: &Text, table: &[u32], seen: Verdict, sought: &Sought) -> Result<Found, Refusal>
     requires { Rooted table.now seen }
-    ensures { Drawn (joined first.now second.now) table.now seen
-        (wanted name.now takes.now gives) result }
+    ensures { Drawn (text_of text.now) table.now seen (wanted_by sought.now) result }
 {
-    match seen {
-        Seen::Passes {
-            program,
-            type_number: _,
-        } => {
-            let root = program.root;
-            let count = program.functions;
-            let alone = rows::word(table, root, rows::KIND) == kinds::NUMBER;
-            let there = any_suits(first, second, table, count, name, takes, gives);
-            Outlined::Passed { alone, there }
-        }
-        Seen::Refused(why, _) => Outlined::Refused(why),
-    }
+    let program = seen.map_err(|r| r.why)?.program;
+    Ok(Found {
+        alone: rows::word(table, program.root, rows::KIND) == kinds::NUMBER,
+        there: any_suits(text, table, program.functions, sought),
+    })
 }
 
 // What is told of two sheets that are read as one, in the edition that a number names, with a function that
-// is wanted: its name, the numbers of the types that it takes, and that of the one it gives.
+// is wanted.
 pub fn outline(
     edition: u32,
     first: &[u8],
     second: &[u8],
     table: &mut [u32],
-    name: &[u8],
-    takes: &[u32],
-    gives: u32,
-) -> Outlined
-    ensures { Outline (pair_in edition first.now second.now)
-        (wanted name.now takes.now gives) table.old (outlined_report result)
-        table.new }
+    sought: &Sought,
+) -> Result<Found, Refusal>
+    ensures { Outline (pair_in edition first.now second.now) (wanted_by sought.now)
+        table.old (outlined_report result) table.new }
 {
     if table.len() < TABLE {
-        return Outlined::Refused(Refusal::ShortMemory);
+        return Err(Refusal::ShortMemory);
     }
-    let seen = sheets::examine(edition, first, second, View::Joined, table);
-    let answer = drawn(first, second, table, seen, name, takes, gives);
+    let view = View::Joined;
+    let seen = sheets::examine(edition, first, second, view, table);
+    let text = Text {
+        first,
+        second,
+        view,
+    };
+    let answer = drawn(&text, table, seen, sought);
     memory::clear(table, 0, TABLE);
     answer
 }

@@ -12,7 +12,7 @@ use Rattle.sheets.specs.Forms.{origin_of, place_of}
 use Rattle.sheets.specs.Sheets.{Examined}
 use Rattle.sheets.specs.declared.Form as form
 use Rattle.sheets.specs.declared.Form.TheVariants.{Text, Lines}
-use Rattle.sheets.specs.declared.Seen.{Seen}
+use Rattle.sheets.specs.Sheets.{Seen}
 use Rattle.sheets.proofs.Layers.{byte_stands}
 
 module _ (first second : List ℕ) where

@@ -37,9 +37,7 @@ use Rattle.checker.specs.Checked as Checker
 use Rattle.rules.specs.Asked.{Typing}
 use Rattle.rules.specs.declared.Fault.{Fault}
 use Rattle.std.specs.Prelude.{Ok, Err}
-use Rattle.sheets.specs.Sheets.{wiped, byte_of, OfProgram, Typed, OfTokens, Read, Placed, OfSource, Examined}
-use Rattle.sheets.specs.declared.Verdict.{Verdict}
-use Rattle.sheets.specs.declared.Seen.{Seen}
+use Rattle.sheets.specs.Sheets.{Seen, wiped, byte_of, OfProgram, Typed, OfTokens, Read, told_at, OfSource, Examined}
 
 -- ---- places
 
@@ -75,7 +73,7 @@ module _ (w w' : List ℕ) (P : Held) where
   checked_long e = ap length e ∙ length_without w
 
   pub typed_type : (r : Typing) (n : ℕ) → Checker.Checked w w' P r → r ≡ Ok n
-      → Typed w w' P (Verdict.Proper P n)
+      → Typed w w' P (Ok (record { program = P; type_number = n }))
   typed_type r n c q = record {
     told = λ ts p h. (refl, subst (λ (r : Typing). Checker.Answers r p) q (c.right ts p h));
     holds = checked_holds c.table;
@@ -84,7 +82,7 @@ module _ (w w' : List ℕ) (P : Held) where
   }
 
   pub typed_fault : (r : Typing) (e : Fault) → Checker.Checked w w' P r → r ≡ Err e
-      → Typed w w' P (Verdict.Denied (Refusal.Types e.reason) e.at)
+      → Typed w w' P (Err (record { why = Refusal.Types e.reason; place = e.at }))
   typed_fault r e c q = record {
     told = λ ts p h. (reason_meant e.reason, subst (λ (r : Typing). Checker.Answers r p) q (c.right ts p h), refl);
     holds = checked_holds c.table;
@@ -118,18 +116,18 @@ module _ (w w₁ : List ℕ) (count : ℕ) (st : Standing w count) where
       let k = few_defs r.program.defs in
       ap wiped r.laid ∙ wiped_program r.program w (omega (arith, st.stand.few, st.stand.long)) (omega (arith, st.stand.few, st.stand.long))
 
-  of_program : {P : Held} {ts : List Token} {w₂ : List ℕ} (v : Verdict) (r : Reader.Read ts w P w₁)
+  of_program : {P : Held} {ts : List Token} {w₂ : List ℕ} (v : Seen) (r : Reader.Read ts w P w₁)
       → OfProgram r.program P v → Holds ts w₂ P r.program → OfTokens ts w₂ v
-  of_program (Verdict.Proper Q n) r (e, x) h = record {
+  of_program (Ok Q) r (e, x) h = record {
     program = r.program;
     type = x.0;
     proper = record { reads = r.reading; typed = x.1 };
     numbered = x.2;
     holds = rw e h;
   }
-  of_program (Verdict.Denied y i) r (v, f, e) h = rw e (faulty r.reading f)
+  of_program (Err y) r (v, f, e) h = rw e (faulty r.reading f)
 
-  pub read_program : (w₂ : List ℕ) (P : Held) (v : Verdict) → Reads P → Typed w₁ w₂ P v → Read w w₂ count v
+  pub read_program : (w₂ : List ℕ) (P : Held) (v : Seen) → Reads P → Typed w₁ w₂ P v → Read w w₂ count v
   read_program w₂ P v g t = record {
     told = λ ts x.
         let r = g ts x in
@@ -144,7 +142,7 @@ module _ (w w₁ : List ℕ) (count : ℕ) (st : Standing w count) where
 
   -- where there is no program the rows are cleared
   read_denied : (y : Refusal) (i : ℕ) → w₁ ≡ without_rows w → ((ts : List Token) → Stand w count ts → Denied ts (refusal_meant y) (at i))
-      → Read w w₁ count (Verdict.Denied y i)
+      → Read w w₁ count (Err (record { why = y; place = i }))
   read_denied y i e d = record {
     told = d;
     stands = λ ts x. rw e (stand_same (without_rows w) w count ts (λ j h. zeros_before _ w _ j h) x);
@@ -153,17 +151,10 @@ module _ (w w₁ : List ℕ) (count : ℕ) (st : Standing w count) where
   }
 
   pub read_none : (i : ℕ) → ((ts : List Token) → Stand w count ts → Reader.Unread ts w i w₁)
-      → Read w w₁ count (Verdict.Denied Refusal.NoReading i)
+      → Read w w₁ count (Err (record { why = Refusal.NoReading; place = i }))
   read_none i g = read_denied Refusal.NoReading i (g st.tokens st.stand).clear λ ts x. unread (g ts x).at
 
 -- ---- a source
-
-pub placed_proper : (w : List ℕ) (count end : ℕ) (P : Held) (n : ℕ) (v : Verdict) → v ≡ Verdict.Proper P n → Placed w count end v (Seen.Passes P n)
-placed_proper w count end P n v e = subst (λ (v : Verdict). Placed w count end v (Seen.Passes P n)) (sym e) refl
-
-pub placed_denied : (w : List ℕ) (count end x : ℕ) (y : Refusal) (i : ℕ) (v : Verdict) → v ≡ Verdict.Denied y i → x ≡ byte_of w count end i
-    → Placed w count end v (Seen.Refused y x)
-placed_denied w count end x y i v e f = subst (λ (v : Verdict). Placed w count end v (Seen.Refused y x)) (sym e) (ap (Seen.Refused y) f)
 
 module _ {voc : Vocabulary} (laws : Laws voc) (source w w₁ : List ℕ) (long : TABLE ≤ length w) where
   whole_stands : {n : ℕ} (x : Tokens.Whole voc source w w₁ n) → Stand w₁ n x.tokens
@@ -182,16 +173,16 @@ module _ {voc : Vocabulary} (laws : Laws voc) (source w w₁ : List ℕ) (long :
       record { tokens = x.tokens; stand = whole_stands x; long = rw (laid_long x.tokens x.laid) long }
 
   -- and what the reader leaves can be read for a place
-  pub whole_read : (r : Result ℕ unsplit.Unsplit) (n : ℕ) (w₂ : List ℕ) (v : Verdict) → Tokens.IsSplit voc source w w₁ r → r ≡ Ok n
+  pub whole_read : (r : Result ℕ unsplit.Unsplit) (n : ℕ) (w₂ : List ℕ) (v : Seen) → Tokens.IsSplit voc source w w₁ r → r ≡ Ok n
       → Read w₁ w₂ n v → (TABLE ≤ length w₂) × (n ≤ TOKENS)
   whole_read r n w₂ v y e z = let s = whole_standing r n y e in (rw z.long s.long, s.stand.few)
 
   given : {n : ℕ} (x : Tokens.Whole voc source w w₁ n) → TextGives voc source x.tokens
   given x = record { short = x.short; splits = x.splits }
 
-  of_tokens : {n : ℕ} (x : Tokens.Whole voc source w w₁ n) (w₂ : List ℕ) → Stand w₂ n x.tokens → (v : Verdict) (s : Seen) → OfTokens x.tokens w₂ v
-      → Placed w₂ n (length source) v s → OfSource (from_text voc source) w₂ s
-  of_tokens {n} x w₂ st (Verdict.Proper P k) s a e = subst (OfSource (from_text voc source) w₂) (sym e) record {
+  of_tokens : {n : ℕ} (x : Tokens.Whole voc source w w₁ n) (w₂ : List ℕ) → Stand w₂ n x.tokens → (v : Seen) (s : Seen) → OfTokens x.tokens w₂ v
+      → s ≡ told_at (byte_of w₂ n (length source)) v → OfSource (from_text voc source) w₂ s
+  of_tokens {n} x w₂ st (Ok p) s a e = subst (OfSource (from_text voc source) w₂) (sym e) record {
     tokens = x.tokens;
     program = a.program;
     type = a.type;
@@ -199,22 +190,22 @@ module _ {voc : Vocabulary} (laws : Laws voc) (source w w₁ : List ℕ) (long :
     numbered = a.numbered;
     holds = a.holds;
   }
-  of_tokens x w₂ st (Verdict.Denied y i) s a e =
+  of_tokens x w₂ st (Err y) s a e =
       subst (OfSource (from_text voc source) w₂) (sym e)
-      (subst (Refused (from_text voc source) (refusal_meant y)) (sym (byte_stands voc source st i)) (by_tokens (given x) a))
+      (subst (Refused (from_text voc source) (refusal_meant y.why)) (sym (byte_stands voc source st y.place)) (by_tokens (given x) a))
 
-  pub examined_tokens : (r : Result ℕ unsplit.Unsplit) (n end : ℕ) (w₂ : List ℕ) (v : Verdict) (s : Seen) → Tokens.IsSplit voc source w w₁ r
-      → r ≡ Ok n → Read w₁ w₂ n v → end ≡ length source → Placed w₂ n end v s → Examined (from_text voc source) w w₂ s
+  pub examined_tokens : (r : Result ℕ unsplit.Unsplit) (n end : ℕ) (w₂ : List ℕ) (v : Seen) (s : Seen) → Tokens.IsSplit voc source w w₁ r
+      → r ≡ Ok n → Read w₁ w₂ n v → end ≡ length source → s ≡ told_at (byte_of w₂ n end) v → Examined (from_text voc source) w w₂ s
   examined_tokens q n end w₂ v s y e r l z = let x = subst (Tokens.IsSplit voc source w w₁) e y in record {
     told =
         of_tokens x w₂ (r.stands x.tokens (whole_stands x)) v s (r.told x.tokens (whole_stands x))
-        (subst (λ (k : ℕ). Placed w₂ n k v s) l z);
+        (subst (λ (k : ℕ). s ≡ told_at (byte_of w₂ n k) v) l z);
     rest = r.rest ∙ laid_rest x.tokens x.splits.few x.laid;
     long = r.long ∙ laid_long x.tokens x.laid;
   }
 
   pub examined_flaw : (r : Result ℕ unsplit.Unsplit) (f : Flaw) (i : ℕ) → Tokens.IsSplit voc source w w₁ r → r ≡ Err (unsplit.TheVariants.Stopped f i)
-      → Examined (from_text voc source) w w₁ (Seen.Refused (Refusal.Text f) i)
+      → Examined (from_text voc source) w w₁ (Err (record { why = Refusal.Text f; place = i }))
   examined_flaw r f i y e = let x = subst (Tokens.IsSplit voc source w w₁) e y in record {
     told = by_origin (flawed x.short x.flawed);
     rest = laid_rest x.flawed.tokens x.flawed.few x.laid;
@@ -222,7 +213,7 @@ module _ {voc : Vocabulary} (laws : Laws voc) (source w w₁ : List ℕ) (long :
   }
 
   pub examined_long : (r : Result ℕ unsplit.Unsplit) → Tokens.IsSplit voc source w w₁ r → r ≡ Err unsplit.TheVariants.TooLong
-      → Examined (from_text voc source) w w₁ (Seen.Refused Refusal.LongSource 0)
+      → Examined (from_text voc source) w w₁ (Err (record { why = Refusal.LongSource; place = 0 }))
   examined_long r y e =
       let x = subst (Tokens.IsSplit voc source w w₁) e y in
       record { told = by_origin (too_long x.long); rest = ap wiped x.kept; long = ap length x.kept }

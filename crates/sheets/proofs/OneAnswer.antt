@@ -4,6 +4,7 @@ use mathlib.Core.List.{List}
 use mathlib.Core.Path.{◌≡◌, refl, sym, subst, ◌∙◌}
 use Prim.Native.Nat.{ℕ}
 use native.Mathlib.Nat.{le_refl}
+use Rattle.std.proofs.Common.{Ok, Err}
 use Rattle.language.specs.Sizes.{TABLE}
 use Rattle.language.specs.Numbers.{passed, refused}
 use Rattle.language.specs.Answers.{Origin, CheckReport, check_report, Checked, check_refused, check_passed}
@@ -16,20 +17,20 @@ use Rattle.numbers.specs.Meanings.{refusal_meant}
 use Rattle.sheets.specs.Forms.{origin_of}
 use Rattle.sheets.specs.Sheets.{wiped, OfSource, Examined}
 use Rattle.sheets.specs.declared.Form.{Form}
-use Rattle.sheets.specs.declared.Seen.{Seen}
+use Rattle.sheets.specs.Sheets.{Seen}
 use Rattle.sheets.proofs.FormLaws.{form_lawful, form_nowhere}
 
 abbrev pub seen_report : Seen → CheckReport ℕ
-seen_report (Seen.Passes P n) = check_report passed 0 n
-seen_report (Seen.Refused y i) = check_report (refused (refusal_meant y)) i 0
+seen_report (Ok p) = check_report passed 0 p.type_number
+seen_report (Err e) = check_report (refused (refusal_meant e.why)) e.place 0
 
 module _ (o : Origin ℕ) (law : Lawful o) (zero : o.nowhere ≡ 0) where
   -- it is what check says where the table is long enough
   seen_checked : (w : List ℕ) (s : Seen) → OfSource o w s → Checked o TABLE (seen_report s)
-  seen_checked w (Seen.Passes P n) p =
-      subst (λ (i : ℕ). Checked o TABLE (check_report passed i n)) zero
+  seen_checked w (Ok q) p =
+      subst (λ (i : ℕ). Checked o TABLE (check_report passed i q.type_number)) zero
       (subst (λ (n : ℕ). Checked o TABLE (check_report passed o.nowhere n)) (sym p.numbered) (check_passed (le_refl TABLE) p.passes))
-  seen_checked w (Seen.Refused y i) p = check_refused (le_refl TABLE) p
+  seen_checked w (Err e) p = check_refused (le_refl TABLE) p
 
   once : {w w₁ w₂ : List ℕ} (s q : Seen) → Examined o w w₁ s → Examined o w w₂ q
       → (seen_report s ≡ seen_report q) × (wiped w₁ ≡ wiped w₂)

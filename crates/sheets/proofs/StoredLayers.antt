@@ -3,6 +3,7 @@ use mathlib.Core.List.{List}
 use mathlib.Core.Path.{◌≡◌, sym, ap, subst, ◌∙◌}
 use Prim.Native.Nat.{ℕ, ◌≤◌}
 use native.Mathlib.Omega.{arith}
+use Rattle.std.proofs.Common.{Ok, Err}
 use lib.ListN.{length}
 use Rattle.language.specs.Sizes.{TOKENS, TABLE}
 use Rattle.language.specs.Tokens.{Vocabulary, Token}
@@ -22,10 +23,9 @@ use Rattle.std.specs.Prelude.{Result, Ok, Err}
 use Rattle.stored.specs.declared.Denied as denied
 use Rattle.tokens.proofs.Agreeing.{but_cleared}
 use Rattle.tokens.specs.Answer.{Laid}
-use Rattle.sheets.specs.Sheets.{wiped, OfTokens, Read, Near, lined_of, OfSource, Examined}
+use Rattle.sheets.specs.Sheets.{wiped, OfTokens, Read, Near, told_at, line_of, OfSource, Examined}
 use Rattle.reader.specs.Findings.{Standing}
-use Rattle.sheets.specs.declared.Verdict.{Verdict}
-use Rattle.sheets.specs.declared.Seen.{Seen}
+use Rattle.sheets.specs.Sheets.{Seen}
 
 -- ---- places
 
@@ -35,12 +35,9 @@ denied_near (unread (wrong_token h a b)) = omega arith
 denied_near (unread (wrong_end a b)) = omega arith
 denied_near {ts} (faulty {p = p} {r = r} {i = i} a f) = omega (arith, fault_inside ts p r i a f)
 
-tokens_near : (ts : List Token) (w : List ℕ) (v : Verdict) → length ts ≤ TOKENS → OfTokens ts w v → Near v
-tokens_near ts w (Verdict.Proper P n) h a = tt
-tokens_near ts w (Verdict.Denied y i) h a = omega (arith, denied_near a)
-
-pub lined_proper : (v : Verdict) (s : Seen) {w : Verdict} → v ≡ w → s ≡ lined_of w → s ≡ lined_of v
-lined_proper v s e f = f ∙ ap lined_of (sym e)
+tokens_near : (ts : List Token) (w : List ℕ) (v : Seen) → length ts ≤ TOKENS → OfTokens ts w v → Near v
+tokens_near ts w (Ok p) h a = tt
+tokens_near ts w (Err e) h a = omega (arith, denied_near a)
 
 -- ---- a stored sheet
 
@@ -62,13 +59,13 @@ module _ {voc : Vocabulary} (laws : Laws voc) (input w w₁ : List ℕ) (long : 
     pub stored_standing : Standing w₁ n
     stored_standing = record { tokens = whole.tokens; stand = stands; long = rw (laid_long whole.tokens whole.laid) long }
 
-    module _ (w₂ : List ℕ) (v : Verdict) (x : Read w₁ w₂ n v) where
+    module _ (w₂ : List ℕ) (v : Seen) (x : Read w₁ w₂ n v) where
       -- and what the reader tells has a line
       pub stored_near : Near v
       stored_near = tokens_near whole.tokens w₂ v whole.gives.few (x.told whole.tokens stands)
 
-      of_lines : (v : Verdict) → OfTokens whole.tokens w₂ v → OfSource (from_stored voc input) w₂ (lined_of v)
-      of_lines (Verdict.Proper P k) a = record {
+      of_lines : (v : Seen) → OfTokens whole.tokens w₂ v → OfSource (from_stored voc input) w₂ (told_at line_of v)
+      of_lines (Ok p) a = record {
         tokens = whole.tokens;
         program = a.program;
         type = a.type;
@@ -76,9 +73,9 @@ module _ {voc : Vocabulary} (laws : Laws voc) (input w w₁ : List ℕ) (long : 
         numbered = a.numbered;
         holds = a.holds;
       }
-      of_lines (Verdict.Denied z i) a = by_tokens whole.gives a
+      of_lines (Err e) a = by_tokens whole.gives a
 
-      pub examined_lines : (s : Seen) → s ≡ lined_of v → Examined (from_stored voc input) w w₂ s
+      pub examined_lines : (s : Seen) → s ≡ told_at line_of v → Examined (from_stored voc input) w w₂ s
       examined_lines s z = record {
         told = subst (OfSource (from_stored voc input) w₂) (sym z) (of_lines v (x.told whole.tokens stands));
         rest = x.rest ∙ laid_rest whole.tokens whole.gives.few whole.laid;
@@ -86,7 +83,7 @@ module _ {voc : Vocabulary} (laws : Laws voc) (input w w₁ : List ℕ) (long : 
       }
 
   pub examined_denied : (r : Result ℕ denied.Denied) (z : Refusal) (i : ℕ) → Stored.IsStored voc input w w₁ r → r ≡ Err (record { why = z; line = i })
-      → Examined (from_stored voc input) w w₁ (Seen.Refused z i)
+      → Examined (from_stored voc input) w w₁ (Err (record { why = z; place = i }))
   examined_denied r z i y e = let x = subst (Stored.IsStored voc input w w₁) e y in record {
     told = by_origin x.denies;
     rest = laid_rest x.tokens x.few x.laid;

@@ -1,5 +1,5 @@
 -- What becomes of a source on its way through the layers: the contracts of this crate.
-use Rattle.std.specs.Prelude.{cond, List, ◌≡◌, ℕ, ◌+◌, ◌≤◌, ltb, length}
+use Rattle.std.specs.Prelude.{cond, List, ◌≡◌, ℕ, ◌+◌, ◌≤◌, ltb, length, Result, Ok, Err}
 use Rattle.language.specs.Sizes.{TOKENS, TABLE}
 use Rattle.language.specs.Tokens.{Token}
 use Rattle.language.specs.Trees.{Ty, Program}
@@ -13,8 +13,13 @@ use Rattle.layout.specs.Table.{token_place, zeros}
 use Rattle.layout.specs.Names.{Stand}
 use Rattle.layout.specs.Decode.{Holds}
 use Rattle.layout.specs.declared.Held.{Held}
-use Rattle.sheets.specs.declared.Verdict.{Verdict}
-use Rattle.sheets.specs.declared.Seen.{Seen}
+use Rattle.numbers.specs.declared.Refusal.{Refusal}
+use Rattle.numbers.specs.declared.Located.{Located}
+use Rattle.sheets.specs.declared.Passed.{Passed}
+
+-- what becomes of tokens, or of a source
+abbrev pub Seen : Type 0
+Seen = Result Passed (Located Refusal ℕ)
 
 -- the required words of a table, cleared: what the layers change lies among them
 abbrev pub wiped : List ℕ → List ℕ
@@ -29,11 +34,11 @@ byte_of w count end i = cond (ltb i count) (token_place w i) end
 -- ---- a program that the table holds
 
 -- the type of p, or its fault
-abbrev pub OfProgram : Program → Held → Verdict → Type 0
-OfProgram p P (Verdict.Proper Q n) = (Q ≡ P) × ((t : Ty) × HasType p t × (n ≡ type_number t))
-OfProgram p P (Verdict.Denied y i) = (r : Reason) × HasFault p r i × (refusal_meant y ≡ types r)
+abbrev pub OfProgram : Program → Held → Seen → Type 0
+OfProgram p P (Ok q) = (q.program ≡ P) × ((t : Ty) × HasType p t × (q.type_number ≡ type_number t))
+OfProgram p P (Err e) = (r : Reason) × HasFault p r e.place × (refusal_meant e.why ≡ types r)
 
-pub record Typed (w w' : List ℕ) (P : Held) (v : Verdict) : Type 0 where
+pub record Typed (w w' : List ℕ) (P : Held) (v : Seen) : Type 0 where
   pub told : (ts : List Token) (p : Program) → Holds ts w P p → OfProgram p P v
   pub holds : (ts : List Token) (p : Program) → Holds ts w P p → Holds ts w' P p
   pub rest : wiped w' ≡ wiped w
@@ -49,11 +54,11 @@ pub record Allowed (ts : List Token) (w : List ℕ) (P : Held) (n : ℕ) : Type 
   pub numbered : n ≡ type_number type
   pub holds : Holds ts w P program
 
-abbrev pub OfTokens : List Token → List ℕ → Verdict → Type 0
-OfTokens ts w (Verdict.Proper P n) = Allowed ts w P n
-OfTokens ts w (Verdict.Denied y i) = Denied ts (refusal_meant y) (at i)
+abbrev pub OfTokens : List Token → List ℕ → Seen → Type 0
+OfTokens ts w (Ok p) = Allowed ts w p.program p.type_number
+OfTokens ts w (Err e) = Denied ts (refusal_meant e.why) (at e.place)
 
-pub record Read (w w' : List ℕ) (count : ℕ) (v : Verdict) : Type 0 where
+pub record Read (w w' : List ℕ) (count : ℕ) (v : Seen) : Type 0 where
   pub told : (ts : List Token) → Stand w count ts → OfTokens ts w' v
   pub stands : (ts : List Token) → Stand w count ts → Stand w' count ts
   pub rest : wiped w' ≡ wiped w
@@ -61,20 +66,19 @@ pub record Read (w w' : List ℕ) (count : ℕ) (v : Verdict) : Type 0 where
 
 -- ---- a source
 
--- what is seen of a source that ends at `end`, from what becomes of its tokens
-abbrev pub Placed : List ℕ → ℕ → ℕ → Verdict → Seen → Type 0
-Placed w count end (Verdict.Proper P n) s = s ≡ Seen.Passes P n
-Placed w count end (Verdict.Denied y i) s = s ≡ Seen.Refused y (byte_of w count end i)
+-- what is seen of a source, from what becomes of its tokens: a refusal is told where m finds an ordinal
+abbrev pub told_at : (ℕ → ℕ) → Seen → Seen
+told_at m (Ok p) = Ok p
+told_at m (Err e) = Err (record { why = e.why; place = m e.place })
 
 -- the ordinal that is told is one of tokens that a table holds, or that of their end
-abbrev pub Near : Verdict → Type 0
-Near (Verdict.Proper P n) = Unit {0}
-Near (Verdict.Denied y i) = i ≤ TOKENS
+abbrev pub Near : Seen → Type 0
+Near (Ok p) = Unit {0}
+Near (Err e) = e.place ≤ TOKENS
 
--- what is seen of a stored sheet, whose places are lines (R09.9)
-abbrev pub lined_of : Verdict → Seen
-lined_of (Verdict.Proper P n) = Seen.Passes P n
-lined_of (Verdict.Denied y i) = Seen.Refused y (i + 2)
+-- the places of a stored sheet are lines (R09.9)
+abbrev pub line_of : ℕ → ℕ
+line_of i = i + 2
 
 -- as an origin of tokens it passes, and the table holds its program
 pub record Passing (o : Origin ℕ) (w : List ℕ) (P : Held) (n : ℕ) : Type 0 where
@@ -86,8 +90,8 @@ pub record Passing (o : Origin ℕ) (w : List ℕ) (P : Held) (n : ℕ) : Type 0
   pub holds : Holds tokens w P program
 
 abbrev pub OfSource : Origin ℕ → List ℕ → Seen → Type 0
-OfSource o w (Seen.Passes P n) = Passing o w P n
-OfSource o w (Seen.Refused y i) = Refused o (refusal_meant y) i
+OfSource o w (Ok p) = Passing o w p.program p.type_number
+OfSource o w (Err e) = Refused o (refusal_meant e.why) e.place
 
 pub record Examined (o : Origin ℕ) (w w' : List ℕ) (s : Seen) : Type 0 where
   pub told : OfSource o w' s

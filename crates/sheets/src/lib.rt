@@ -12,11 +12,12 @@ ghost use Rattle.checker.specs.Checked.{Checkable};
 ghost use Rattle.reader.specs.Findings.{Standing};
 ghost use Rattle.tokens.specs.Editions.{meant};
 ghost use Rattle.tokens.specs.Shown.{shown};
-ghost use Rattle.sheets.specs.Sheets.{byte_of, Typed, Read, Placed, Near, lined_of, Examined};
+ghost use Rattle.sheets.specs.Sheets.{byte_of, Typed, Read, told_at, line_of, Near, Examined};
 ghost use Rattle.sheets.specs.Forms.{origin_of, place_of};
 
 use layout::Held;
 use numbers::{Located, Refusal};
+use rules::Fault;
 use stored::Denied;
 use tokens::answer::Unsplit;
 use tokens::edition::{Edition, named};
@@ -24,26 +25,29 @@ use tokens::view::{Text, View};
 
 pub type Refused<P> = Located<Refusal, P>;
 
-// What becomes of tokens: a program, as the table holds it, with its type's number; or why they are none,
-// and the ordinal of the token at which this is told.
+// A program, as the table holds it, and its type's number.
 #[derive(Clone, Copy)]
-pub enum Verdict {
-    Proper { program: Held, type_number: u32 },
-    Denied(Refusal, usize),
+pub struct Passed {
+    pub program: Held,
+    pub type_number: u32,
 }
 
-// What becomes of a source: the same, with a byte for a place.
-#[derive(Clone, Copy)]
-pub enum Seen {
-    Passes { program: Held, type_number: u32 },
-    Refused(Refusal, usize),
-}
+// What becomes of tokens, or of a source: a program, or why it is none. That is told at the ordinal of a token; of a
+// source at a byte or a line.
+pub type Verdict = Result<Passed, Refused<usize>>;
 
 // What a source is: the text that a view shows of two sheets, or the first of them as a stored sheet.
 #[derive(Clone, Copy)]
 pub enum Form {
     Text(View),
     Lines,
+}
+
+// A refusal that has no place is told at 0.
+pub fn nowhere(why: Refusal) -> Refused<usize>
+    ensures { result ≡ record { why = why; place = 0 } }
+{
+    Refused { why, place: 0 }
 }
 
 // The byte of the token with this ordinal; past the last token, the end of the source.
@@ -57,17 +61,27 @@ pub fn place(table: &[u32], count: usize, end: usize, at: usize) -> usize
     end
 }
 
+// Why a reading has no type.
+fn faulty(fault: Fault) -> Refused<usize>
+    ensures { result ≡ record { why = Refusal.Types fault.reason; place = fault.at } }
+{
+    Refused {
+        why: Refusal::Types(fault.reason),
+        place: fault.at as usize,
+    }
+}
+
 // The type of the program that the table holds.
 fn typed(table: &mut [u32], program: Held) -> Verdict
     requires { Checkable table.old program }
     ensures { Typed table.old table.new program result }
 {
     match checker::type_of(table, program) {
-        Ok(type_number) => Verdict::Proper {
+        Ok(type_number) => Ok(Passed {
             program,
             type_number,
-        },
-        Err(fault) => Verdict::Denied(Refusal::Types(fault.reason), fault.at as usize),
+        }),
+        Err(fault) => Err(faulty(fault)),
     }
 }
 
@@ -78,29 +92,32 @@ fn read(table: &mut [u32], count: usize) -> Verdict
 {
     match reader::read(table, count) {
         Ok(program) => typed(table, program),
-        Err(failed) => Verdict::Denied(Refusal::NoReading, failed.at),
+        Err(failed) => Err(Refused {
+            why: Refusal::NoReading,
+            place: failed.at,
+        }),
     }
 }
 
 // What becomes of a source that ends at this byte, once its tokens are read.
-fn placed(table: &[u32], count: usize, end: usize, verdict: Verdict) -> Seen
+fn placed(table: &[u32], count: usize, end: usize, verdict: Verdict) -> Verdict
     requires { (TABLE ≤ length table.now) × (count ≤ TOKENS) }
-    ensures { Placed table.now count end verdict result }
+    ensures { result ≡ told_at (byte_of table.now count end) verdict }
 {
-    match verdict {
-        Verdict::Proper {
-            program,
-            type_number,
-        } => Seen::Passes {
-            program,
-            type_number,
-        },
-        Verdict::Denied(why, at) => Seen::Refused(why, place(table, count, end, at)),
-    }
+    verdict.map_err(|r| Refused {
+        why: r.why,
+        place: place(table, count, end, r.place),
+    })
 }
 
 // What becomes of the source that a view shows, in an edition.
-fn examine_in(edition: Edition, first: &[u8], second: &[u8], view: View, table: &mut [u32]) -> Seen
+fn examine_in(
+    edition: Edition,
+    first: &[u8],
+    second: &[u8],
+    view: View,
+    table: &mut [u32],
+) -> Verdict
     requires { TABLE ≤ length table.old }
     ensures { Examined (from_text (meant edition) (shown first.now second.now view)) table.old
         table.new result }
@@ -116,43 +133,40 @@ fn examine_in(edition: Edition, first: &[u8], second: &[u8], view: View, table: 
             let end = text.len();
             placed(table, count, end, verdict)
         }
-        Err(Unsplit::Stopped(flaw, at)) => Seen::Refused(Refusal::Text(flaw), at),
-        Err(Unsplit::TooLong) => Seen::Refused(Refusal::LongSource, 0),
+        Err(Unsplit::Stopped(flaw, place)) => Err(Refused {
+            why: Refusal::Text(flaw),
+            place,
+        }),
+        Err(Unsplit::TooLong) => Err(nowhere(Refusal::LongSource)),
     }
 }
 
 // In the edition that a number names; where it names none, that is told before all else.
-pub fn examine(edition: u32, first: &[u8], second: &[u8], view: View, table: &mut [u32]) -> Seen
+pub fn examine(edition: u32, first: &[u8], second: &[u8], view: View, table: &mut [u32]) -> Verdict
     requires { TABLE ≤ length table.old }
     ensures { Examined (text_in edition (shown first.now second.now view)) table.old
         table.new result }
 {
     match named(edition) {
         Some(known) => examine_in(known, first, second, view, table),
-        None => Seen::Refused(Refusal::NoEdition, 0),
+        None => Err(nowhere(Refusal::NoEdition)),
     }
 }
 
 // What becomes of a stored sheet, once its tokens are read. The first line is the count, so the line of a token is
 // two behind its ordinal, and the end is told at the line behind the last.
-fn lined(verdict: Verdict) -> Seen
+fn lined(verdict: Verdict) -> Verdict
     requires { Near verdict }
-    ensures { result ≡ lined_of verdict }
+    ensures { result ≡ told_at line_of verdict }
 {
-    match verdict {
-        Verdict::Proper {
-            program,
-            type_number,
-        } => Seen::Passes {
-            program,
-            type_number,
-        },
-        Verdict::Denied(why, at) => Seen::Refused(why, at + 2),
-    }
+    verdict.map_err(|r| Refused {
+        why: r.why,
+        place: r.place + 2,
+    })
 }
 
 // What becomes of a stored sheet in an edition.
-fn examine_stored_in(edition: Edition, input: &[u8], table: &mut [u32]) -> Seen
+fn examine_stored_in(edition: Edition, input: &[u8], table: &mut [u32]) -> Verdict
     requires { TABLE ≤ length table.old }
     ensures { Examined (from_stored (meant edition) input.now) table.old table.new result }
 {
@@ -161,18 +175,18 @@ fn examine_stored_in(edition: Edition, input: &[u8], table: &mut [u32]) -> Seen
             let verdict = read(table, count);
             lined(verdict)
         }
-        Err(Denied { why, line }) => Seen::Refused(why, line),
+        Err(Denied { why, line }) => Err(Refused { why, place: line }),
     }
 }
 
 // In the edition that a number names.
-pub fn examine_stored(edition: u32, input: &[u8], table: &mut [u32]) -> Seen
+pub fn examine_stored(edition: u32, input: &[u8], table: &mut [u32]) -> Verdict
     requires { TABLE ≤ length table.old }
     ensures { Examined (stored_in edition input.now) table.old table.new result }
 {
     match named(edition) {
         Some(known) => examine_stored_in(known, input, table),
-        None => Seen::Refused(Refusal::NoEdition, 0),
+        None => Err(nowhere(Refusal::NoEdition)),
     }
 }
 
@@ -183,7 +197,7 @@ pub fn examine_form(
     second: &[u8],
     form: Form,
     table: &mut [u32],
-) -> Seen
+) -> Verdict
     requires { TABLE ≤ length table.old }
     ensures { Examined (origin_of first.now second.now form edition) table.old
         table.new result }

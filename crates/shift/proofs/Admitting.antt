@@ -6,7 +6,7 @@ use mathlib.Core.List.{List, ◌++◌}
 use mathlib.Core.Logic.{◌⊎◌, inl, inr}
 use mathlib.Core.Path.{◌≡◌, refl, sym, ap, subst, ◌∙◌}
 use native.Mathlib.Omega.{arith}
-use Rattle.std.proofs.Common.{Ok, Err}
+use Rattle.std.proofs.Common.{Result, Ok, Err}
 use Prim.Native.Nat.{ℕ, ◌≤◌, ◌<◌}
 use Rattle.language.specs.Sizes.{ALLOWANCE, TABLE, WORK}
 use Rattle.language.specs.Tokens.{Token}
@@ -30,7 +30,7 @@ use Rattle.pairs.specs.Spots.{meant}
 use Rattle.pairs.specs.declared.Spot.{Spot}
 use Rattle.grumpy.specs.Reports.{CheckedAt, pair_checked_report}
 use Rattle.grumpy.proofs.Leaving.{checked_left}
-use Rattle.outlines.specs.declared.Outlined as Found
+use Rattle.outlines.specs.declared.Found.{Found}
 use Rattle.outlines.specs.Reports.{outlined_report}
 use Rattle.shift.specs.declared.Why.{Why}
 use Rattle.shift.specs.declared.Admission.{Admission}
@@ -111,7 +111,7 @@ module _ (ed : ℕ) (book table table' : List ℕ) (long : TABLE ≤ length tabl
 -- ---- a book that passes
 
 module _ (ed : ℕ) (book table table₁ : List ℕ) (long : TABLE ≤ length table) where
-  abbrev Drawn : Found.Outlined → Type 0
+  abbrev Drawn : Result Found Code.Refusal → Type 0
   Drawn r = Outline (pair_in ed book ZERO) PAY_WANTED table (outlined_report r) table₁
 
   outline_left : {r : OutlineReport} → Outlined (pair_in ed book ZERO) PAY_WANTED (length table) r → left r.told TABLE table ≡ cleared TABLE table
@@ -120,7 +120,7 @@ module _ (ed : ℕ) (book table table₁ : List ℕ) (long : TABLE ≤ length ta
   outline_left (outline_refused h x) = rw (refused_clears (pair_in_lawful ed book ZERO) x) refl
   outline_left (outline_passed h x) = refl
 
-  drawn_left : (r : Found.Outlined) → Drawn r → table₁ ≡ cleared TABLE table
+  drawn_left : (r : Result Found Code.Refusal) → Drawn r → table₁ ≡ cleared TABLE table
   drawn_left r c = c.table_left ∙ outline_left c.answer
 
   module _ (a b : Bool) {ts : List Token} {p : Program} {t : Ty} (x : Passes (pair_in ed book ZERO) ts p t) where
@@ -146,28 +146,28 @@ module _ (ed : ℕ) (book table table₁ : List ℕ) (long : TABLE ≤ length ta
         by (inr e) = false≢true (sym e ∙ (found c).1 ∙ (is_book p k).1)
 
   -- it has the function and nothing outside: its room is asked next
-  pub book_found : (a b : Bool) (r : Admission) (table' : List ℕ) → Drawn (Found.Outlined.Passed a b) → a ≡ true → b ≡ true
+  pub book_found : (a b : Bool) (r : Admission) (table' : List ℕ) → Drawn (Ok (record { alone = a; there = b })) → a ≡ true → b ≡ true
       → AskedOfRoom ed book table₁ r table' → AskedOfBook ed book table r table'
   book_found a b r table' c e f q = record {
     told = λ l g h x. q.told l g h x (found_book a b x c.answer e f);
-    left = q.left ∙ ap (cleared TABLE) (drawn_left (Found.Outlined.Passed a b) c) ∙ cleared_again TABLE table;
+    left = q.left ∙ ap (cleared TABLE) (drawn_left (Ok (record { alone = a; there = b })) c) ∙ cleared_again TABLE table;
   }
 
-  pub no_book_found : (a b : Bool) (x : Spot) → Drawn (Found.Outlined.Passed a b) → (a ≡ false) ⊎ (b ≡ false) → meant x ≡ front
+  pub no_book_found : (a b : Bool) (x : Spot) → Drawn (Ok (record { alone = a; there = b })) → (a ≡ false) ⊎ (b ≡ false) → meant x ≡ front
       → AskedOfBook ed book table (Admission.Refused Why.NoBook x) table₁
   no_book_found a b x c e f = record {
     told = λ l g h y. subst (λ (z : Place). Admits ed book l (turned_away no_book z)) (sym f) (admit_no_book g h y (found_none a b y c.answer e));
-    left = drawn_left (Found.Outlined.Passed a b) c;
+    left = drawn_left (Ok (record { alone = a; there = b })) c;
   }
 
   -- it can't be refused, since it passes
-  pub book_refused : (y : Code.Refusal) (x : Spot) → Drawn (Found.Outlined.Refused y)
+  pub book_refused : (y : Code.Refusal) (x : Spot) → Drawn (Err y)
       → AskedOfBook ed book table (Admission.Refused (Why.Sheet y) x) table₁
   book_refused y x c = record {
     told = λ l g h p.
         let z = outlined_refused (pair_in ed book ZERO) (length table) PAY_WANTED _ long c.answer refl in
         absurd (not_both (pair_in_lawful ed book ZERO) z.1 p);
-    left = drawn_left (Found.Outlined.Refused y) c;
+    left = drawn_left (Err y) c;
   }
 
 -- ---- any book

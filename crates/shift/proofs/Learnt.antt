@@ -5,7 +5,7 @@ use mathlib.Core.List.{List}
 use mathlib.Core.Logic.{◌⊎◌}
 use mathlib.Core.Path.{◌≡◌, refl, subst}
 use native.Mathlib.Omega.{arith}
-use Rattle.std.proofs.Common.{Ok, Err}
+use Rattle.std.proofs.Common.{Result, Ok, Err}
 use Prim.Native.Nat.{ℕ, ◌≤◌}
 use Rattle.language.specs.Sizes.{TABLE}
 use Rattle.language.specs.Tokens.{spell}
@@ -19,7 +19,7 @@ use Rattle.numbers.specs.declared.Refusal as Code
 use Rattle.pairs.specs.Spots.{meant}
 use Rattle.pairs.specs.declared.Spot.{Spot}
 use Rattle.grumpy.specs.Reports.{CheckedAt, pair_checked_report}
-use Rattle.outlines.specs.declared.Outlined.{Outlined}
+use Rattle.outlines.specs.declared.Found.{Found}
 use Rattle.outlines.specs.Reports.{outlined_report}
 use Rattle.shift.specs.declared.Why.{Why}
 use Rattle.shift.specs.declared.Admission.{Admission}
@@ -57,18 +57,18 @@ module _ (ed : ℕ) (book table table₁ : List ℕ) (long : TABLE ≤ length ta
       → AskedOfText ed book table (Admission.Refused (Why.Sheet y) x) table₁
   text_is_refused k y x c e = text_refused ed book table table₁ long y x (subst (Answers ZERO) e c)
 
-  abbrev Draws : Outlined → Type 0
+  abbrev Draws : Result Found Code.Refusal → Type 0
   Draws k = Outline (pair_in ed book ZERO) PAY_WANTED table (outlined_report k) table₁
 
-  pub book_is_found : (k : Outlined) (a b : Bool) (r : Admission) (table' : List ℕ) → Draws k → k ≡ Outlined.Passed a b → a ≡ true → b ≡ true
+  pub book_is_found : (k : Result Found Code.Refusal) (a b : Bool) (r : Admission) (table' : List ℕ) → Draws k → k ≡ Ok (record { alone = a; there = b }) → a ≡ true → b ≡ true
       → AskedOfRoom ed book table₁ r table' → AskedOfBook ed book table r table'
   book_is_found k a b r table' c e f g q = book_found ed book table table₁ long a b r table' (subst Draws e c) f g q
 
-  pub no_book_is_found : (k : Outlined) (a b : Bool) (x : Spot) → Draws k → k ≡ Outlined.Passed a b → (a ≡ false) ⊎ (b ≡ false)
+  pub no_book_is_found : (k : Result Found Code.Refusal) (a b : Bool) (x : Spot) → Draws k → k ≡ Ok (record { alone = a; there = b }) → (a ≡ false) ⊎ (b ≡ false)
       → meant x ≡ front → AskedOfBook ed book table (Admission.Refused Why.NoBook x) table₁
   no_book_is_found k a b x c e f g = no_book_found ed book table table₁ long a b x (subst Draws e c) f g
 
-  pub book_is_refused : (k : Outlined) (y : Code.Refusal) (x : Spot) → Draws k → k ≡ Outlined.Refused y
+  pub book_is_refused : (k : Result Found Code.Refusal) (y : Code.Refusal) (x : Spot) → Draws k → k ≡ Err y
       → AskedOfBook ed book table (Admission.Refused (Why.Sheet y) x) table₁
   book_is_refused k y x c e = book_refused ed book table table₁ long y x (subst Draws e c)
 

@@ -8,7 +8,7 @@ use crate::{Admission, Why};
 use language::{ALLOWANCE, TABLE, WORK};
 use layout::memory;
 use numbers::Refusal;
-use outlines::Outlined;
+use outlines::{Found, Sought};
 use pairs::front;
 
 // The call with the largest numbers under the book.
@@ -27,14 +27,19 @@ fn functions(edition: u32, book: &[u8], table: &mut [u32]) -> Admission
     requires { TABLE ≤ length table.old }
     ensures { AskedOfBook edition book.now table.old result table.new }
 {
-    match grumpy::outline(edition, book, b"0", table, b"pay", &[1, 1], 1) {
-        Outlined::Passed { alone, there } => {
+    let pay = Sought {
+        name: b"pay",
+        takes: &[1, 1],
+        gives: 1,
+    };
+    match grumpy::outline(edition, book, b"0", table, &pay) {
+        Ok(Found { alone, there }) => {
             if alone && there {
                 return room(edition, book, table);
             }
             Admission::Refused(Why::NoBook, front())
         }
-        Outlined::Refused(why) => Admission::Refused(Why::Sheet(why), front()),
+        Err(why) => Admission::Refused(Why::Sheet(why), front()),
     }
 }
 

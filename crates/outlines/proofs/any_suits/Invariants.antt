@@ -2,15 +2,12 @@
 use mathlib.Core.Bool.{Bool}
 use mathlib.Core.Path.{◌≡◌}
 use Prim.Native.Nat.{ℕ, ◌-◌, ◌≤◌}
-use Rattle.language.specs.Pairs.{joined}
-use Rattle.outlines.specs.Reports.{wanted}
+use Rattle.tokens.specs.Shown.{text_of}
+use Rattle.outlines.specs.Reports.{wanted_by}
 use Rattle.outlines.specs.Words.{any_from}
 use Rattle.outlines.proofs.any_suits.Given as goal
 
 abbrev pub invariant-loop-k : goal.invariant-loop-k
 invariant-loop-k l =
-    let any : ℕ → ℕ → Bool = any_from (joined l.first l.second) l.table (wanted l.name l.takes l.gives) in
+    let any : ℕ → ℕ → Bool = any_from (text_of l.text) l.table (wanted_by l.sought) in
     (l.k ≤ l.seen) × (any 0 l.seen ≡ any l.k (l.seen - l.k))
-
-abbrev pub decreases-loop-k : goal.decreases-loop-k
-decreases-loop-k l = l.seen - l.k

@@ -19,10 +19,10 @@ loop-i-init c = (
   spelled_is _ _ _ _ c.if-end-at.false c.if-end-at-2.false ∙ sym (match_start _ _ _),
 )
 
-pub returns-then-byte-name : goal.returns-then-byte-name
-returns-then-byte-name c =
+pub returns-then-byte-b : goal.returns-then-byte-b
+returns-then-byte-b c =
     let byte = c.byte in
-    sym (c.loop-i.invariant.2 ∙ match_none _ _ _ _ c.loop-i-test.true (λ e. c.if-byte-name.true (byte.ensures ∙ e)))
+    sym (c.loop-i.invariant.2 ∙ match_none _ _ _ _ c.loop-i-test.true (λ e. c.if-byte-b.true (byte.ensures ∙ e)))
 
 pub loop-i-preserved : goal.loop-i-preserved
 loop-i-preserved c =
@@ -30,7 +30,7 @@ loop-i-preserved c =
     let inv = c.loop-i.invariant in (
       omega (arith, c.loop-i-test.true),
       inv.1,
-      inv.2 ∙ match_step _ _ _ _ c.loop-i-test.true (sym byte.ensures ∙ c.if-byte-name.false),
+      inv.2 ∙ match_step _ _ _ _ c.loop-i-test.true (sym byte.ensures ∙ c.if-byte-b.false),
     )
 
 pub returns : goal.returns

@@ -13,10 +13,10 @@ loop-i-init c =
     let e = sym c.link.ensures ∙ c.if-link-takes.false in
     (omega arith, e, takes_is _ _ _ e ∙ sym (match_start _ _ _))
 
-pub returns-then-word-takes : goal.returns-then-word-takes
-returns-then-word-takes c =
+pub returns-then-word-kind : goal.returns-then-word-kind
+returns-then-word-kind c =
     let word = c.word in
-    sym (c.loop-i.invariant.2 ∙ match_none _ _ _ _ c.loop-i-test.true (λ e. c.if-word-takes.true (word.ensures ∙ e)))
+    sym (c.loop-i.invariant.2 ∙ match_none _ _ _ _ c.loop-i-test.true (λ e. c.if-word-kind.true (word.ensures ∙ e)))
 
 pub loop-i-preserved : goal.loop-i-preserved
 loop-i-preserved c =
@@ -24,7 +24,7 @@ loop-i-preserved c =
     let inv = c.loop-i.invariant in (
       omega (arith, c.loop-i-test.true),
       inv.1,
-      inv.2 ∙ match_step _ _ _ _ c.loop-i-test.true (sym word.ensures ∙ c.if-word-takes.false),
+      inv.2 ∙ match_step _ _ _ _ c.loop-i-test.true (sym word.ensures ∙ c.if-word-kind.false),
     )
 
 pub returns : goal.returns

@@ -9,6 +9,3 @@ use Rattle.outlines.proofs.takes_these.Given as goal
 abbrev pub invariant-loop-i : goal.invariant-loop-i
 invariant-loop-i l = (l.i ≤ length l.takes) × (row_word l.table l.row ARITY ≡ length l.takes)
     × (takes_in l.table l.row l.takes ≡ matches (type_of l.table) (l.row + 1 + l.i) (drop l.i l.takes))
-
-abbrev pub decreases-loop-i : goal.decreases-loop-i
-decreases-loop-i l = length l.takes - l.i

@@ -18,4 +18,5 @@ pub returns-in-None : goal.returns-in-None
 returns-in-None c =
     let a = c.args in
     let source = shown a.first.now a.second.now a.view in
-    examined_unknown a.edition (λ (v : Vocabulary). from_text v source) _ c.named.result c.named.ensures c.in-None.is
+    rw c.nowhere.ensures
+    (examined_unknown a.edition (λ (v : Vocabulary). from_text v source) _ c.named.result c.named.ensures c.in-None.is)

@@ -19,4 +19,5 @@ returns-in-Err-Stopped c =
 
 pub returns-in-Err-TooLong : goal.returns-in-Err-TooLong
 returns-in-Err-TooLong c =
-    examined_long (laws_of c.args.edition) _ _ _ c.requires _ c.split.ensures (c.in-Err-TooLong.is ∙ ap Err c.in-Err-TooLong.field-0-is)
+    rw c.nowhere.ensures
+    (examined_long (laws_of c.args.edition) _ _ _ c.requires _ c.split.ensures (c.in-Err-TooLong.is ∙ ap Err c.in-Err-TooLong.field-0-is))

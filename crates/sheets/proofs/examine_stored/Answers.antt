@@ -15,5 +15,5 @@ returns-in-Some c =
 pub returns-in-None : goal.returns-in-None
 returns-in-None c =
     let a = c.args in
-    examined_unknown a.edition (λ (v : Vocabulary). from_stored v a.input.now) _ c.named.result
-    c.named.ensures c.in-None.is
+    rw c.nowhere.ensures
+    (examined_unknown a.edition (λ (v : Vocabulary). from_stored v a.input.now) _ c.named.result c.named.ensures c.in-None.is)
