@@ -2,7 +2,7 @@
 use mathlib.Core.List.{List, []}
 use mathlib.Core.Path.{◌≡◌, refl, sym, subst, ◌∙◌}
 use Prim.Native.Nat.{ℕ, ◌≤◌, ◌<◌}
-use Rattle.std.proofs.Common.{Ok, Err}
+use Rattle.std.proofs.Common.{Ok, Err, Option, Some, None}
 use lib.ListN.{length}
 use Rattle.language.specs.Sizes.{TABLE}
 use Rattle.language.specs.Numbers.{refused, short_memory}
@@ -22,7 +22,6 @@ use Rattle.sheets.specs.declared.Passed.{Passed}
 use Rattle.layout.proofs.Wiped.{zeros_cleared}
 use Rattle.writer.specs.Texts.{Writable, WritesOut}
 use Rattle.writer.specs.Forms.{StoresOut}
-use Rattle.writer.specs.declared.Text.{Text}
 use Rattle.sheets.specs.Sheets.{OfSource, Examined}
 use Rattle.sheets.specs.Sheets.{Seen}
 use Rattle.grumpy.specs.Reports.{Written, wrote_report}
@@ -31,30 +30,30 @@ use Rattle.grumpy.proofs.Leaving.{wrote_left, stores_left}
 
 -- ---- a sheet that passes
 
-module _ (source w : List ℕ) (count : ℕ) (out out' : List ℕ) (a : Text) (x : WritesOut source w count out out' a) where
-  pub rewrote_written : (n : ℕ) → a ≡ Text.Written n → Rewrote Writing.Wrote source w count out out' (Ok n)
+module _ (source w : List ℕ) (count : ℕ) (out out' : List ℕ) (a : Option ℕ) (x : WritesOut source w count out out' a) where
+  pub rewrote_written : (n : ℕ) → a ≡ Some n → Rewrote Writing.Wrote source w count out out' (Ok n)
   rewrote_written n e = record {
     told = λ edition ts p t table h y d.
         let z = (subst (WritesOut source w count out out') e x).told ts d y.given.given.splits in
         record { text = written_out ts; wrote = rw z.1 (write_passed h y z.0); output = z.2 };
   }
 
-  pub rewrote_long : a ≡ Text.TooLong → Rewrote Writing.Wrote source w count out out' (Err (record { why = Refusal.LongText; place = 0 }))
+  pub rewrote_long : a ≡ None → Rewrote Writing.Wrote source w count out out' (Err (record { why = Refusal.LongText; place = 0 }))
   rewrote_long e = record {
     told = λ edition ts p t table h y d.
         let z = (subst (WritesOut source w count out out') e x).told ts d y.given.given.splits in
         record { text = []; wrote = write_long h y z.0; output = z.1 };
   }
 
-module _ (source w : List ℕ) (count : ℕ) (out out' : List ℕ) (a : Text) (x : StoresOut source w count out out' a) where
-  pub restated_written : (n : ℕ) → a ≡ Text.Written n → Rewrote Writing.Stores source w count out out' (Ok n)
+module _ (source w : List ℕ) (count : ℕ) (out out' : List ℕ) (a : Option ℕ) (x : StoresOut source w count out out' a) where
+  pub restated_written : (n : ℕ) → a ≡ Some n → Rewrote Writing.Stores source w count out out' (Ok n)
   restated_written n e = record {
     told = λ edition ts p t table h y d.
         let z = (subst (StoresOut source w count out out') e x).told ts d y.given.given.splits in
         record { text = stored ts; wrote = rw z.1 (store_passed h y z.0); output = z.2 };
   }
 
-  pub restated_long : a ≡ Text.TooLong → Rewrote Writing.Stores source w count out out' (Err (record { why = Refusal.LongText; place = 0 }))
+  pub restated_long : a ≡ None → Rewrote Writing.Stores source w count out out' (Err (record { why = Refusal.LongText; place = 0 }))
   restated_long e = record {
     told = λ edition ts p t table h y d.
         let z = (subst (StoresOut source w count out out') e x).told ts d y.given.given.splits in

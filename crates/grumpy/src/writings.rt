@@ -6,7 +6,6 @@ ghost use Rattle.grumpy.specs.Writings.{Rewrote, Readable, Rewritten};
 use crate::answers::Wrote;
 use numbers::Refusal;
 use sheets::{Verdict, nowhere};
-use writer::Text;
 
 // The text of a sheet that passes.
 fn rewrite(source: &[u8], table: &[u32], count: usize, out: &mut [u8]) -> Wrote
@@ -15,8 +14,8 @@ fn rewrite(source: &[u8], table: &[u32], count: usize, out: &mut [u8]) -> Wrote
         out.new result }
 {
     match writer::write(source, table, count, out) {
-        Text::Written(long) => Ok(long),
-        Text::TooLong => Err(nowhere(Refusal::LongText)),
+        Some(long) => Ok(long),
+        None => Err(nowhere(Refusal::LongText)),
     }
 }
 

@@ -5,6 +5,7 @@ use lib.Seq.{slice, length-slice}
 use mathlib.Core.List.{List, [], ◌∷◌, ◌++◌, append-nil, append_assoc}
 use mathlib.Core.Path.{◌≡◌, refl, sym, ap, subst, ◌∙◌}
 use native.Mathlib.Omega.{arith}
+use Rattle.std.proofs.Common.{Some, None}
 use Prim.Native.Nat.{ℕ, zero, suc, ◌+◌, ◌*◌, ◌-◌, ◌/◌, ◌%◌, ◌≤◌, ◌<◌}
 use Rattle.language.specs.Sizes.{SOURCE, TOKENS}
 use Rattle.language.specs.Tokens.{Vocabulary, Token, past, spelling_at, place_at}
@@ -14,7 +15,6 @@ use Rattle.layout.specs.Table.{token_place, token_end}
 use Rattle.layout.specs.Names.{Stand}
 use Rattle.writer.specs.Texts.{Put, Front, Spanned, size_of, text_long, Writable}
 use Rattle.writer.specs.Forms.{HexRoom, LineRoom, token_line, lines_from, form_of, form_long, StoresOut}
-use Rattle.writer.specs.declared.Text.{Text}
 use Rattle.writer.proofs.Words.{sized, stands_here, writable_spans, spans_source}
 use Rattle.writer.proofs.Digits.{hex_slice_long, line_put, line_length, put_none, put_long, put_append, put_front}
 
@@ -193,10 +193,10 @@ module _ {source w : List ℕ} {count : ℕ} (x : Writable source w count) (n m 
   long_is : {voc : Vocabulary} (ts : List Token) → Stand w count ts → Splits voc source ts → n ≡ length (stored ts)
   long_is ts d s = form_long_is ∙ sym (form_length source (writable_spans x)) ∙ ap length (form_stored d s)
 
-  pub over_output : (out : List ℕ) → length out < n → StoresOut source w count out out Text.TooLong
+  pub over_output : (out : List ℕ) → length out < n → StoresOut source w count out out None
   over_output out h = record { told = λ ts d s. (omega (arith, long_is ts d s), refl) }
 
-  pub all_stored : (out out' : List ℕ) → n ≤ length out → Front (form_of source w count) out out' → StoresOut source w count out out' (Text.Written n)
+  pub all_stored : (out out' : List ℕ) → n ≤ length out → Front (form_of source w count) out out' → StoresOut source w count out out' (Some n)
   all_stored out out' h f = record {
     told = λ ts d s.
         let l = long_is ts d s in

@@ -4,6 +4,7 @@ use mathlib.Core.List.{List}
 use mathlib.Core.Logic.{inl, inr}
 use mathlib.Core.Path.{◌≡◌, refl, sym, ap, subst, ◌∙◌}
 use native.Mathlib.Omega.{arith}
+use Rattle.std.proofs.Common.{Some, None}
 use Prim.Native.Nat.{ℕ, ◌≤◌, ◌<◌}
 use Rattle.language.specs.Sizes.{SOURCE}
 use Rattle.language.specs.Tokens.{Vocabulary, Token}
@@ -11,7 +12,6 @@ use Rattle.language.specs.Text.{Splits}
 use Rattle.language.specs.Writing.{written_out}
 use Rattle.layout.specs.Names.{Stand}
 use Rattle.writer.specs.Texts.{Front, text_from, text_long, Writable, WritesOut}
-use Rattle.writer.specs.declared.Text.{Text}
 use Rattle.writer.proofs.Words.{text_length, text_written, writable_spans}
 
 -- a length that was measured is within what it was found to be within
@@ -23,14 +23,14 @@ module _ {source w : List ℕ} {count : ℕ} (x : Writable source w count) (n : 
   long_is : {voc : Vocabulary} (ts : List Token) → Stand w count ts → Splits voc source ts → n ≡ length (written_out ts)
   long_is ts d s = e ∙ sym (text_length source (writable_spans x) count 0 (omega arith)) ∙ ap length (text_written d s)
 
-  pub over_source : (out : List ℕ) → SOURCE < n → WritesOut source w count out out Text.TooLong
+  pub over_source : (out : List ℕ) → SOURCE < n → WritesOut source w count out out None
   over_source out h = record { told = λ ts d s. (inr (omega (arith, long_is ts d s)), refl) }
 
-  pub over_output : (out : List ℕ) → length out < n → WritesOut source w count out out Text.TooLong
+  pub over_output : (out : List ℕ) → length out < n → WritesOut source w count out out None
   over_output out h = record { told = λ ts d s. (inl (omega (arith, long_is ts d s)), refl) }
 
   pub all_written : (out out' : List ℕ) → n ≤ SOURCE → n ≤ length out → Front (text_from source w 0 count) out out'
-      → WritesOut source w count out out' (Text.Written n)
+      → WritesOut source w count out out' (Some n)
   all_written out out' h k f = record {
     told = λ ts d s.
         let l = long_is ts d s in

@@ -40,25 +40,6 @@ pub begun_front : {done entry now : List ℕ} {at : ℕ} (all : List ℕ) → Be
 begun_front {done} {entry} all g e =
     g.held ∙ ap (λ (k : ℕ). done ++ drop k entry) g.ends ∙ ap (λ (s : List ℕ). s ++ drop (length s) entry) e
 
--- ---- a part byte for byte
-
--- of the bytes from `from` up to `to` of a source, one more
-pub copied_one : (entry source : List ℕ) (from to at i : ℕ) {now : List ℕ} → at + i < length entry → to ≤ length source → i < to - from
-    → now ≡ paste entry at (slice from to source) i
-    → set now (at + i) (get_or source (from + i) 0) ≡ paste entry at (slice from to source) (i + 1)
-copied_one entry source from to at i h k l e =
-    let s = slice from to source in
-    let b : get_or s i 0 ≡ get_or source (from + i) 0 = get_or-drop from (take to source) i 0 ∙ get_or-take to source (from + i) 0 (omega arith) in
-    rw (e, ← b, add-one i) (paste-suc entry at s i 0 h (omega (arith, length-slice from to source k)))
-
--- all of them
-pub copied_all : (entry source now : List ℕ) (from to at i : ℕ) → to ≤ length source → i ≤ to - from → to - from ≤ i
-    → now ≡ paste entry at (slice from to source) i → Put entry now (slice from to source) at (at + (to - from))
-copied_all entry source now from to at i h k l e =
-    let n = length-slice from to source h in
-    let z : i ≡ length (slice from to source) = omega arith in
-    (omega arith, e ∙ ap (λ (j : ℕ). paste entry at (slice from to source) j) z)
-
 -- the byte behind a part
 pub put_mark : (entry s : List ℕ) (b at end : ℕ) {now : List ℕ} → at + length s < length entry → Put entry now s at end
     → Put entry (set now end b) (s ++ (b ∷ [])) at (end + 1)

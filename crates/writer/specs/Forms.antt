@@ -1,6 +1,6 @@
 -- What the functions that store a sheet promise. Its form is said once more here, by the words of a table, for those
 -- that know words alone; `store` promises what the language says.
-use Rattle.std.specs.Prelude.{List, [], ◌++◌, ◌≡◌, ℕ, zero, suc, ◌+◌, ◌*◌, ◌-◌, ◌≤◌, ◌<◌, length}
+use Rattle.std.specs.Prelude.{List, [], ◌++◌, ◌≡◌, ℕ, zero, suc, ◌+◌, ◌*◌, ◌-◌, ◌≤◌, ◌<◌, length, Option, Some, None}
 use Rattle.std.proofs.Math.Seq.{slice}
 use Rattle.language.specs.Tokens.{Vocabulary, Token}
 use Rattle.language.specs.Text.{Splits}
@@ -8,7 +8,6 @@ use Rattle.language.specs.Stored.{line, count_line, stored}
 use Rattle.layout.specs.Table.{token_place, token_end}
 use Rattle.layout.specs.Names.{Stand}
 use Rattle.writer.specs.Texts.{Front, Spanned, size_of, text_long}
-use Rattle.writer.specs.declared.Text.{Text}
 
 -- the digits of the bytes from `from` up to `to` of a source of `long` bytes have room in `out` bytes from `at` on
 pub record HexRoom (long from to out at : ℕ) : Type 0 where
@@ -44,10 +43,10 @@ form_long w count = text_long w 0 count * 2 - count + 5
 -- ---- the form of a source
 
 -- what is told of a stored form and left in the output
-abbrev pub Told : List Token → List ℕ → List ℕ → Text → Type 0
-Told ts out out' (Text.Written n) = (length (stored ts) ≤ length out) × (n ≡ length (stored ts))
+abbrev pub Told : List Token → List ℕ → List ℕ → Option ℕ → Type 0
+Told ts out out' (Some n) = (length (stored ts) ≤ length out) × (n ≡ length (stored ts))
     × Front (stored ts) out out'
-Told ts out out' Text.TooLong = (length out < length (stored ts)) × (out' ≡ out)
+Told ts out out' None = (length out < length (stored ts)) × (out' ≡ out)
 
-pub record StoresOut (source w : List ℕ) (count : ℕ) (out out' : List ℕ) (r : Text) : Type 0 where
+pub record StoresOut (source w : List ℕ) (count : ℕ) (out out' : List ℕ) (r : Option ℕ) : Type 0 where
   pub told : {voc : Vocabulary} (ts : List Token) → Stand w count ts → Splits voc source ts → Told ts out out' r

@@ -1,6 +1,6 @@
 -- What the functions of this crate promise. The text of tokens is said once more here, by the words of a table, for
 -- those that know words alone; `write` promises what the language says.
-use Rattle.std.specs.Prelude.{List, [], ◌∷◌, ◌++◌, ◌≡◌, ℕ, zero, suc, ◌+◌, ◌-◌, ◌≤◌, ◌<◌, length, drop}
+use Rattle.std.specs.Prelude.{List, [], ◌∷◌, ◌++◌, ◌≡◌, ℕ, zero, suc, ◌+◌, ◌-◌, ◌≤◌, ◌<◌, length, drop, Option, Some, None}
 use Prim.Native.Char.{code}
 use Rattle.std.proofs.Math.Seq.{slice, paste}
 use Rattle.language.specs.Sizes.{SOURCE, TOKENS, TABLE}
@@ -10,7 +10,6 @@ use Rattle.language.specs.Writing as Writing
 use Rattle.language.specs.Writing.{written_out, Fits}
 use Rattle.layout.specs.Table.{token_place, token_end}
 use Rattle.layout.specs.Names.{Stand}
-use Rattle.writer.specs.declared.Text.{Text}
 
 -- ---- bytes put into lent ones
 
@@ -79,10 +78,10 @@ pub record Writable (source w : List ℕ) (count : ℕ) : Type 0 where
   pub splits : Splits words source tokens
 
 -- what is told of a text and left in the output
-abbrev pub Told : List Token → List ℕ → List ℕ → Text → Type 0
-Told ts out out' (Text.Written n) = Fits ts (length out) × (n ≡ length (written_out ts))
+abbrev pub Told : List Token → List ℕ → List ℕ → Option ℕ → Type 0
+Told ts out out' (Some n) = Fits ts (length out) × (n ≡ length (written_out ts))
     × Front (written_out ts) out out'
-Told ts out out' Text.TooLong = Writing.TooLong ts (length out) × (out' ≡ out)
+Told ts out out' None = Writing.TooLong ts (length out) × (out' ≡ out)
 
-pub record WritesOut (source w : List ℕ) (count : ℕ) (out out' : List ℕ) (r : Text) : Type 0 where
+pub record WritesOut (source w : List ℕ) (count : ℕ) (out out' : List ℕ) (r : Option ℕ) : Type 0 where
   pub told : {voc : Vocabulary} (ts : List Token) → Stand w count ts → Splits voc source ts → Told ts out out' r

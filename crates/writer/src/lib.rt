@@ -14,26 +14,14 @@ pub mod storing;
 use language::SOURCE;
 use layout::token;
 
-#[derive(Clone, Copy)]
-pub enum Text {
-    // It was written, with so many bytes.
-    Written(usize),
-    // It is longer than it may be, and nothing was written.
-    TooLong,
-}
-
 // Puts the bytes of the source from one place up to another into `out`, and answers where they end there.
 fn copy(source: &[u8], from: usize, to: usize, out: &mut [u8], at: usize) -> usize
     requires { Room (length source.now) from to (length out.old) at }
     ensures { Put out.old out.new (slice from to source.now) at result }
 {
-    let size = to - from;
-    let mut i = 0;
-    while i < size {
-        out[at + i] = source[from + i];
-        i += 1;
-    }
-    at + size
+    let end = at + (to - from);
+    out[at..end].copy_from_slice(&source[from..to]);
+    end
 }
 
 // The byte behind token i of so many.
@@ -64,10 +52,8 @@ fn put_all(source: &[u8], table: &[u32], count: usize, out: &mut [u8])
     ensures { Front (text_from source.now table.now 0 count) out.old out.new }
 {
     let mut at = 0;
-    let mut i = 0;
-    while i < count {
+    for i in 0..count {
         at = put(source, table, count, i, out, at);
-        i += 1;
     }
 }
 
@@ -77,29 +63,28 @@ fn measure(table: &[u32], count: usize) -> usize
     ensures { result ≡ text_long table.now 0 count }
 {
     let mut long: usize = 0;
-    let mut i = 0;
-    while i < count {
+    for i in 0..count {
         let begin = token::place(table, i) as usize;
         let end = token::end(table, i) as usize;
         let size = end - begin;
         long = long + size + 1;
-        i += 1;
     }
     long
 }
 
-// The text of the source's tokens, at the front of `out`.
-pub fn write(source: &[u8], table: &[u32], count: usize, out: &mut [u8]) -> Text
+// The text of the source's tokens, at the front of `out`, and how many bytes it has; none where it is longer than it may
+// be, and nothing was written.
+pub fn write(source: &[u8], table: &[u32], count: usize, out: &mut [u8]) -> Option<usize>
     requires { Writable source.now table.now count }
     ensures { WritesOut source.now table.now count out.old out.new result }
 {
     let long = measure(table, count);
     if SOURCE < long {
-        return Text::TooLong;
+        return None;
     }
     if out.len() < long {
-        return Text::TooLong;
+        return None;
     }
     put_all(source, table, count, out);
-    Text::Written(long)
+    Some(long)
 }

@@ -8,7 +8,6 @@ ghost use Rattle.language.specs.Stored.{hex, COUNT, count_line};
 ghost use Rattle.writer.specs.Texts.{Put, Front, Spanned, Writable};
 ghost use Rattle.writer.specs.Forms.{HexRoom, LineRoom, token_line, form_of, form_long, StoresOut};
 
-use crate::Text;
 use layout::token;
 
 // The digit that is worth so much.
@@ -39,10 +38,8 @@ fn put_hex(source: &[u8], from: usize, to: usize, out: &mut [u8], at: usize) -> 
     ensures { Put out.old out.new (hex (slice from to source.now)) at result }
 {
     let mut end = at;
-    let mut i = from;
-    while i < to {
+    for i in from..to {
         end = put_byte(source[i], out, end);
-        i += 1;
     }
     end
 }
@@ -83,23 +80,22 @@ fn put_form(source: &[u8], table: &[u32], count: usize, out: &mut [u8])
     ensures { Front (form_of source.now table.now count) out.old out.new }
 {
     let mut at = put_count(count, out);
-    let mut i = 0;
-    while i < count {
+    for i in 0..count {
         at = put_line(source, table, count, i, out, at);
-        i += 1;
     }
 }
 
 // The stored form of the source's tokens, at the front of `out`. A token has twice its bytes there and LF, where
-// the text that is written has its bytes and one behind them.
-pub fn store(source: &[u8], table: &[u32], count: usize, out: &mut [u8]) -> Text
+// the text that is written has its bytes and one behind them. None where it is longer than it may be, and nothing was
+// written.
+pub fn store(source: &[u8], table: &[u32], count: usize, out: &mut [u8]) -> Option<usize>
     requires { Writable source.now table.now count }
     ensures { StoresOut source.now table.now count out.old out.new result }
 {
     let long = crate::measure(table, count) * 2 - count + 5;
     if out.len() < long {
-        return Text::TooLong;
+        return None;
     }
     put_form(source, table, count, out);
-    Text::Written(long)
+    Some(long)
 }

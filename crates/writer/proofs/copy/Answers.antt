@@ -1,13 +1,18 @@
--- `copy` goes byte by byte: so far the first ones are put.
-use borrow.Author.Rules.{rules}
+use mathlib.Core.Path.{refl, sym, ap, ◌≡◌, ◌∙◌}
+use mathlib.Core.List.{List}
 use native.Mathlib.Omega.{arith}
-use Rattle.writer.proofs.Parts.{copied_one}
+use Prim.Native.Nat.{ℕ, ◌+◌, ◌-◌}
+use lib.ListN.{take, drop}
+use lib.Seq.{slice, length-slice}
+use Rattle.std.proofs.lemmas.List.{drop-take}
+use Rattle.std.proofs.lemmas.Slice.{put_mid-paste}
 use Rattle.writer.proofs.copy.Goals as goal
 
-pub loop-i-preserved : goal.loop-i-preserved
-loop-i-preserved c =
-    let v = c.loop-i.invariant in
+pub returns : goal.returns
+returns c =
     let a = c.args in
-    let i = c.loop-i.i in
-    let next = copied_one a.out.now a.source.now a.from a.to a.at i (omega arith) c.requires.inside (omega arith) v.2 in
-    (omega arith, search rules, next)
+    let n = length-slice a.from a.to a.source.now c.requires.inside in
+    let e : a.to ≡ a.from + (a.to - a.from) = omega (arith, c.requires.order) in
+    let s : slice a.from a.to a.source.now ≡ take (a.to - a.from) (drop a.from a.source.now) =
+    ap (λ (k : ℕ). slice a.from k a.source.now) e ∙ drop-take a.from (a.to - a.from) a.source.now in
+    (omega (arith, n), put_mid-paste _ _ _ _ _ _ (c.copy_from_slice.ensures.after ∙ sym s) (omega (arith, n, c.requires.order)) refl)

@@ -1,10 +1,6 @@
 -- `measure` adds up the tokens: so far the first ones.
-use Prim.Native.Nat.{◌-◌}
 use Rattle.writer.proofs.Steps.{Measured}
 use Rattle.writer.proofs.measure.Given as goal
 
 abbrev pub invariant-loop-i : goal.invariant-loop-i
 invariant-loop-i l = Measured l.table l.count l.i l.long
-
-abbrev pub decreases-loop-i : goal.decreases-loop-i
-decreases-loop-i l = l.count - l.i
