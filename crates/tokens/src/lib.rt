@@ -30,7 +30,7 @@ mod worth;
 use crate::answer::Unsplit;
 use crate::edition::Edition;
 use crate::pieces::Piece;
-use crate::view::{Part, Text};
+use crate::view::{Part, Place, Text};
 use language::{SOURCE, TOKENS, kinds};
 use numbers::Flaw;
 
@@ -62,12 +62,16 @@ pub fn split(edition: Edition, text: &Text, table: &mut [u32]) -> Result<usize, 
     let mut at = 0;
     let mut count = 0;
     while at < size {
-        let here = text.byte(at);
-        if bytes::is_blank(here) {
+        let place = Place {
+            text: &*text,
+            at,
+            here: text.byte(at),
+        };
+        if bytes::is_blank(place.here) {
             at += 1;
             continue;
         }
-        match pieces::piece_of(edition, text, at, here) {
+        match pieces::piece_of(edition, &place) {
             Ok(Piece::Space(end)) => {
                 at = end;
             }

@@ -9,7 +9,7 @@ ghost use Rattle.tokens.specs.Found.{Gives, IsMark, POINT};
 ghost use Rattle.tokens.specs.Shown.{text_of};
 
 use crate::edition::Edition;
-use crate::view::Text;
+use crate::view::Place;
 use language::kinds;
 
 // A mark's kind, and the number of its bytes.
@@ -19,44 +19,41 @@ pub struct Mark {
     pub size: usize,
 }
 
-// The mark at a place where no blank, name, number or comment begins, and this byte stands: of those that stand there
-// the longest. Only with a point begin marks that edition 1 has not.
-pub fn mark_at(edition: Edition, text: &Text, at: usize, here: u8) -> Option<Mark>
-    requires { (at < length (text_of text.now)) × Begins (text_of text.now) at others
-        × (here ≡ byte (text_of text.now) at) }
-    ensures { IsMark (meant edition) (text_of text.now) at result }
+// The mark at a place where no blank, name, number or comment begins: of those that stand there the longest. Only with
+// a point begin marks that edition 1 has not.
+pub fn mark_at(edition: Edition, place: &Place) -> Option<Mark>
+    requires { Begins (text_of place.now.text.now) place.now.at others }
+    ensures { IsMark (meant edition) (text_of place.now.text.now) place.now.at result }
 {
-    if here == b'.' {
-        return pointed(edition, text, at);
+    if place.here == b'.' {
+        return pointed(edition, place);
     }
-    plain(text, at, here)
+    plain(place)
 }
 
 // With a point begins no mark of edition 1.
-fn pointed(edition: Edition, text: &Text, at: usize) -> Option<Mark>
-    requires { (at < length (text_of text.now)) × Begins (text_of text.now) at others
-        × (byte (text_of text.now) at ≡ POINT) }
-    ensures { IsMark (meant edition) (text_of text.now) at result }
+fn pointed(edition: Edition, place: &Place) -> Option<Mark>
+    requires { Begins (text_of place.now.text.now) place.now.at others × (place.now.here ≡ POINT) }
+    ensures { IsMark (meant edition) (text_of place.now.text.now) place.now.at result }
 {
     match edition {
         Edition::One => None,
-        Edition::Two => points(text, at),
+        Edition::Two => points(place),
     }
 }
 
 // Edition 2 has two, of two points and of three bytes.
-fn points(text: &Text, at: usize) -> Option<Mark>
-    requires { (at < length (text_of text.now)) × Begins (text_of text.now) at others
-        × (byte (text_of text.now) at ≡ POINT) }
-    ensures { IsMark EDITION_2 (text_of text.now) at result }
+fn points(place: &Place) -> Option<Mark>
+    requires { Begins (text_of place.now.text.now) place.now.at others × (place.now.here ≡ POINT) }
+    ensures { IsMark EDITION_2 (text_of place.now.text.now) place.now.at result }
 {
-    if text.stands_at(at, b"..=") {
+    if place.text.stands_at(place.at, b"..=") {
         return Some(Mark {
             kind: kinds::THROUGH,
             size: 3,
         });
     }
-    if text.stands_at(at, b"..") {
+    if place.text.stands_at(place.at, b"..") {
         return Some(Mark {
             kind: kinds::UPTO,
             size: 2,
@@ -66,26 +63,25 @@ fn points(text: &Text, at: usize) -> Option<Mark>
 }
 
 // The mark of edition 1 that begins with this byte.
-fn plain(text: &Text, at: usize, here: u8) -> Option<Mark>
-    requires { (at < length (text_of text.now)) × Begins (text_of text.now) at others
-        × (here ≡ byte (text_of text.now) at) }
-    ensures { IsMark EDITION_1 (text_of text.now) at result }
+fn plain(place: &Place) -> Option<Mark>
+    requires { Begins (text_of place.now.text.now) place.now.at others }
+    ensures { IsMark EDITION_1 (text_of place.now.text.now) place.now.at result }
 {
-    if let Some(kind) = doubled(text, at, here) {
+    if let Some(kind) = doubled(place) {
         return Some(Mark { kind, size: 2 });
     }
-    let kind = single(here)?;
+    let kind = single(place.here)?;
     Some(Mark { kind, size: 1 })
 }
 
-// The kind of the mark of this byte and the one behind a place, if they are one. That byte is read only where
-// some mark of two bytes begins so.
-fn doubled(text: &Text, at: usize, here: u8) -> Option<u32>
-    requires { at < length (text_of text.now) }
-    ensures { Gives (spelled marks (here ∷ byte (text_of text.now) (at + 1) ∷ [])) result }
+// The kind of the mark of this byte and the one behind it, if they are one. That byte is read only where some mark of
+// two bytes begins so.
+fn doubled(place: &Place) -> Option<u32>
+    ensures { Gives (spelled marks
+        (place.now.here ∷ byte (text_of place.now.text.now) (place.now.at + 1) ∷ [])) result }
 {
-    match here {
-        b'=' | b':' | b'&' | b'|' => double(here, text.byte(at + 1)),
+    match place.here {
+        b'=' | b':' | b'&' | b'|' => double(place.here, place.text.byte(place.at + 1)),
         _ => None,
     }
 }

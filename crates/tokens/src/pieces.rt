@@ -11,7 +11,7 @@ use crate::bytes::{InLine, NameByte, is_blank, is_digit, is_letter};
 use crate::comments::comment_end;
 use crate::edition::Edition;
 use crate::marks::mark_at;
-use crate::view::{Part, Text};
+use crate::view::{Part, Place, Text};
 use crate::words::word;
 use crate::worth::number;
 use language::kinds;
@@ -31,62 +31,64 @@ pub fn piece_at(edition: Edition, text: &Text, at: usize) -> Result<Piece, Flaw>
     requires { at < length (text_of text.now) }
     ensures { IsPiece (meant edition) (text_of text.now) at result }
 {
-    let here = text.byte(at);
-    if is_blank(here) {
+    let place = Place {
+        text: &*text,
+        at,
+        here: text.byte(at),
+    };
+    if is_blank(place.here) {
         return Ok(Piece::Space(at + 1));
     }
-    piece_of(edition, text, at, here)
+    piece_of(edition, &place)
 }
 
-// The same where this byte stands, which is no blank.
-pub fn piece_of(edition: Edition, text: &Text, at: usize, here: u8) -> Result<Piece, Flaw>
-    requires { (at < length (text_of text.now)) × (here ≡ byte (text_of text.now) at)
-        × (is_blank here ≡ false) }
-    ensures { IsPiece (meant edition) (text_of text.now) at result }
+// The same where no blank stands.
+pub fn piece_of(edition: Edition, place: &Place) -> Result<Piece, Flaw>
+    requires { is_blank place.now.here ≡ false }
+    ensures { IsPiece (meant edition) (text_of place.now.text.now) place.now.at result }
 {
-    if is_letter(here) {
-        let end = text.run_end(at, &NameByte);
+    if is_letter(place.here) {
         let name = Part {
-            text,
-            from: at,
-            to: end,
+            text: place.text,
+            from: place.at,
+            to: place.text.run_end(place.at, &NameByte),
         };
         return Ok(Piece::Token {
             kind: word(edition, &name),
-            end,
+            end: name.to,
             worth: 0,
         });
     }
-    if is_digit(here) {
-        return number(edition, text, at, here);
+    if is_digit(place.here) {
+        return number(edition, place);
     }
-    if here == b'/' {
-        return slash(text, at);
+    if place.here == b'/' {
+        return slash(place);
     }
-    let Some(mark) = mark_at(edition, text, at, here) else {
+    let Some(mark) = mark_at(edition, place) else {
         return Err(Flaw::StrangeByte);
     };
     Ok(Piece::Token {
         kind: mark.kind,
-        end: at + mark.size,
+        end: place.at + mark.size,
         worth: 0,
     })
 }
 
 // The same where a `/` stands, in either edition: a comment or a mark.
-fn slash(text: &Text, at: usize) -> Result<Piece, Flaw>
-    requires { byte (text_of text.now) at ≡ STROKE }
-    ensures { (e : Edition) → IsPiece (meant e) (text_of text.now) at result }
+fn slash(place: &Place) -> Result<Piece, Flaw>
+    requires { place.now.here ≡ STROKE }
+    ensures { (e : Edition) → IsPiece (meant e) (text_of place.now.text.now) place.now.at result }
 {
-    match text.byte(at + 1) {
-        b'/' => Ok(Piece::Space(text.run_end(at + 2, &InLine))),
-        b'*' => match comment_end(text, at) {
+    match place.text.byte(place.at + 1) {
+        b'/' => Ok(Piece::Space(place.text.run_end(place.at + 2, &InLine))),
+        b'*' => match comment_end(place.text, place.at) {
             Some(end) => Ok(Piece::Space(end)),
             None => Err(Flaw::OpenComment),
         },
         _ => Ok(Piece::Token {
             kind: kinds::SLASH,
-            end: at + 1,
+            end: place.at + 1,
             worth: 0,
         }),
     }

@@ -1,7 +1,7 @@
 // What a text is read from: one sheet, two that are read as one, or a line of hexadecimal. Every other
 // function reads its text through these, so how it lies in memory changes nothing else: two sheets need not be
 // put together, nor the bytes of a line written out.
-ghost use Rattle.std.specs.Prelude.{◌∷◌, ◌≡◌, ◌+◌, ◌-◌, ◌/◌, ◌≤◌, ltb, length};
+ghost use Rattle.std.specs.Prelude.{◌^◌, ◌<◌, ◌∷◌, ◌≡◌, ◌+◌, ◌-◌, ◌/◌, ◌≤◌, ltb, length};
 ghost use Rattle.std.proofs.Math.Seq.{slice};
 ghost use Rattle.language.specs.Pairs.{joined};
 ghost use Rattle.language.specs.Text.{byte};
@@ -25,6 +25,17 @@ pub struct Text<'a> {
     pub first: &'a [u8],
     pub second: &'a [u8],
     pub view: View,
+}
+
+// A place of a text, before its end, and the byte there.
+#[derive(Clone, Copy)]
+pub struct Place<'a> {
+    pub text: &'a Text<'a>,
+    pub at: usize,
+    pub here: u8,
+    ghost inside: { at < length (text_of text.now) },
+    ghost is: { here ≡ byte (text_of text.now) at },
+    ghost near: { length (text_of text.now) < 2 ^ 64 },
 }
 
 // A part of a text: the bytes from one place up to another.

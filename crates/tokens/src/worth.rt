@@ -13,7 +13,7 @@ use crate::bytes::{Digit, DigitOf, is_digit_of, worth};
 use crate::edition::Edition;
 use crate::floats;
 use crate::pieces::Piece;
-use crate::view::Text;
+use crate::view::{Place, Text};
 use language::{DIGITS, LARGEST, kinds};
 use numbers::Flaw;
 
@@ -38,29 +38,32 @@ fn base_of(a: u8, b: u8) -> Option<u64>
 
 // How the number that begins with the digit at a place is written. Without a digit of its own a base is
 // none, and the number is the digits that stand there.
-fn based_at(edition: Edition, text: &Text, at: usize) -> Digits
-    requires { (at < length (text_of text.now))
-        × (is_digit (byte (text_of text.now) at) ≡ true) }
-    ensures { Bases.Digits (meant edition) (text_of text.now) at result.from result.base
-        × (result.from ≡ at → result.base ≡ 10) }
+fn based_at(edition: Edition, place: &Place) -> Digits
+    requires { is_digit place.now.here ≡ true }
+    ensures { Bases.Digits (meant edition) (text_of place.now.text.now) place.now.at result.from result.base
+        × (result.from ≡ place.now.at → result.base ≡ 10) }
 {
-    match base_of(text.byte(at), text.ahead(at, 1)) {
+    let text = place.text;
+    let at = place.at;
+    match base_of(place.here, text.ahead(at, 1)) {
         Some(base) if is_digit_of(base, text.ahead(at, 2)) => Digits { from: at + 2, base },
         _ => Digits { from: at, base: 10 },
     }
 }
 
-// The same where that digit is known: only a 0 begins a base.
-fn digits_at(edition: Edition, text: &Text, at: usize, here: u8) -> Digits
-    requires { (at < length (text_of text.now)) × (is_digit here ≡ true)
-        × (here ≡ byte (text_of text.now) at) }
-    ensures { Bases.Digits (meant edition) (text_of text.now) at result.from result.base
-        × (result.from ≡ at → result.base ≡ 10) }
+// The same, where only a 0 begins a base.
+fn digits_at(edition: Edition, place: &Place) -> Digits
+    requires { is_digit place.now.here ≡ true }
+    ensures { Bases.Digits (meant edition) (text_of place.now.text.now) place.now.at result.from result.base
+        × (result.from ≡ place.now.at → result.base ≡ 10) }
 {
-    if here == b'0' {
-        return based_at(edition, text, at);
+    if place.here == b'0' {
+        return based_at(edition, place);
     }
-    Digits { from: at, base: 10 }
+    Digits {
+        from: place.at,
+        base: 10,
+    }
 }
 
 // Where the digits of a base that go on at a place end.
@@ -113,16 +116,15 @@ fn float_number(edition: Edition, text: &Text, at: usize, point: usize) -> Resul
     })
 }
 
-// The number that begins with this digit at a place. No digit is read once the value is too large, and
+// The number that begins with the digit at a place. No digit is read once the value is too large, and
 // so no product can wrap.
-pub fn number(edition: Edition, text: &Text, at: usize, here: u8) -> Result<Piece, Flaw>
-    requires { (at < length (text_of text.now)) × (is_digit here ≡ true)
-        × (here ≡ byte (text_of text.now) at) }
-    ensures { IsPiece (meant edition) (text_of text.now) at result }
+pub fn number(edition: Edition, place: &Place) -> Result<Piece, Flaw>
+    requires { is_digit place.now.here ≡ true }
+    ensures { IsPiece (meant edition) (text_of place.now.text.now) place.now.at result }
 {
-    let digits = digits_at(edition, text, at, here);
-    let from = digits.from;
-    let base = digits.base;
+    let text = place.text;
+    let at = place.at;
+    let Digits { from, base } = digits_at(edition, place);
     let end = ends(text, from, base);
     if takes_point(edition, text, at, from, end) {
         return float_number(edition, text, at, end);

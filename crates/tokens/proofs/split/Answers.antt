@@ -13,6 +13,7 @@ use Rattle.language.specs.Text.Flaw.{many_tokens}
 use Rattle.language.specs.Text.WrongUnder.{many}
 use Rattle.tokens.proofs.Splitting.{reached_none, reached_skip}
 use Rattle.tokens.proofs.Splitting.{reached_broken, reached_whole, reached_searchable, reached_next}
+use Rattle.tokens.proofs.Views.{text_long}
 use Rattle.tokens.proofs.Editions.{laws_of}
 use Rattle.tokens.specs.Shown.{text_of}
 use Rattle.tokens.proofs.split.Goals as goal
@@ -28,7 +29,7 @@ loop-at-preserved-then-is_blank c =
     let a = c.args in
     let text = text_of a.text.now in
     let inside = subst (λ n. c.loop-at.at < n) c.len-size.ensures c.loop-at-test.true in
-    let seen = sym (c.is_blank.ensures ∙ ap is_blank c.byte-here.ensures) ∙ c.if-is_blank.true in
+    let seen = sym (c.is_blank.ensures ∙ ap is_blank c.byte.ensures) ∙ c.if-is_blank.true in
     reached_skip c.loop-at.invariant (blank_piece (laws_of c.args.edition) text c.loop-at.at inside seen)
 
 pub loop-at-smaller-in-Ok-Space : goal.loop-at-smaller-in-Ok-Space
@@ -112,3 +113,7 @@ returns c =
     let l = c.loop-at in
     reached_whole l.invariant c.begin.ensures.rest short
     (omega (arith, reached_inside l.invariant.reaches, c.loop-at-test.false, c.len-size.ensures))
+
+pub invariant_of-place-clause-near : goal.invariant_of-place-clause-near
+invariant_of-place-clause-near c =
+    omega (arith, text_long c.args.text.now, c.well_formed)

@@ -6,13 +6,11 @@ use native.Mathlib.Omega.{arith}
 use Rattle.language.proofs.Text.Tables.{every}
 use Rattle.language.specs.Tokens.{spell, marks}
 use Rattle.tokens.proofs.FirstBytes.{begins_so, other_first}
-use Rattle.tokens.proofs.Views.{text_long}
 use Rattle.tokens.proofs.marks.doubled.Goals as goal
 
-pub overflow_add-at : goal.overflow_add-at
-overflow_add-at c =
-    let a = c.args in
-    omega (arith, c.requires, text_long a.text.now, c.well_formed)
+pub overflow_add-place : goal.overflow_add-place
+overflow_add-place c =
+    omega (arith, c.args.place.now.inside, c.args.place.now.near)
 
 pub returns-in_default : goal.returns-in_default
 unfolding every begins_so

@@ -18,5 +18,9 @@ pub returns-then-is_blank : goal.returns-then-is_blank
 returns-then-is_blank c =
     let a = c.args in
     let t = text_of a.text.now in
-    let seen = sym (c.is_blank.ensures ∙ ap is_blank c.byte-here.ensures) ∙ c.if-is_blank.true in
+    let seen = sym (c.is_blank.ensures ∙ ap is_blank c.byte.ensures) ∙ c.if-is_blank.true in
     blank_piece (laws_of a.edition) t a.at c.requires seen
+
+pub invariant_of-place-clause-near : goal.invariant_of-place-clause-near
+invariant_of-place-clause-near c =
+    omega (arith, text_long c.args.text.now, c.well_formed)

@@ -8,5 +8,5 @@ use Rattle.tokens.proofs.worth.digits_at.Goals as goal
 pub returns : goal.returns
 returns c =
     let a = c.args in
-    let t = text_of a.text.now in
-    (no_base a.edition t a.at c.requires.0 (sym (ap is_digit c.requires.2) ∙ c.requires.1) (λ e. c.if-here-eq48.false (c.requires.2 ∙ e)), λ e. refl)
+    let t = text_of a.place.now.text.now in
+    (no_base a.edition t a.place.now.at a.place.now.inside (sym (ap is_digit a.place.now.is) ∙ c.requires) (λ e. c.if-place-eq48.false (a.place.now.is ∙ e)), λ e. refl)

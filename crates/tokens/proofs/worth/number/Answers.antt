@@ -12,9 +12,9 @@ use Rattle.tokens.proofs.worth.number.Goals as goal
 
 pub float_number-requires : goal.float_number-requires
 float_number-requires c =
-    let given = c.requires in
-    let digit = sym (ap is_digit given.2) ∙ given.1 in
-    pointed given.0 digit c.digits_at-digits.ensures.1 c.ends-end.ensures (sym c.takes_point.ensures ∙ c.if-takes_point.true)
+    let given = c.args.place.now in
+    let digit = sym (ap is_digit given.is) ∙ c.requires in
+    pointed given.inside digit c.digits_at-from.ensures.1 c.ends-end.ensures (sym c.takes_point.ensures ∙ c.if-takes_point.true)
 
 pub loop-i-init : goal.loop-i-init
 loop-i-init c =
@@ -29,19 +29,19 @@ overflow_add-value c =
     let l = c.loop-i.invariant in
     let test = c.loop-i-test.true in
     let less = read_worth c.ends-end.ensures l test c.byte.ensures c.worth.ensures in
-    let high = c.digits_at-digits.ensures.0.high in
+    let high = c.digits_at-from.ensures.0.high in
     omega (arith, product l.small high)
 
 pub returns-then-value-gt-LARGEST : goal.returns-then-value-gt-LARGEST
 returns-then-value-gt-LARGEST c =
     let a = c.args in
-    let t = text_of a.text.now in
+    let t = text_of a.place.now.text.now in
     let q = c.ends-end.result in
-    let d = c.digits_at-digits in
+    let d = c.digits_at-from in
     let run = c.ends-end.ensures in
     let test = c.loop-i-test.true in
     let large = read_large run c.loop-i.invariant test c.byte.ensures c.worth.ensures d.ensures.0.low c.if-value-gt-LARGEST.true in
-    let none = point_no (meant a.edition) t a.at d.result.from q (sym c.takes_point.ensures ∙ c.if-takes_point.false) in
+    let none = point_no (meant a.edition) t a.place.now.at d.result.from q (sym c.takes_point.ensures ∙ c.if-takes_point.false) in
     λ ts. WrongUnder.large (d.ensures.0.piece q run none) large
 
 pub loop-i-preserved : goal.loop-i-preserved
@@ -53,10 +53,10 @@ loop-i-preserved c =
 pub returns : goal.returns
 returns c =
     let a = c.args in
-    let p = a.at in
-    let t = text_of a.text.now in
+    let p = a.place.now.at in
+    let t = text_of a.place.now.text.now in
     let q = c.ends-end.result in
-    let d = c.digits_at-digits in
+    let d = c.digits_at-from in
     let none = point_no (meant a.edition) t p d.result.from q (sym c.takes_point.ensures ∙ c.if-takes_point.false) in
     let piece = d.ensures.0.piece q c.ends-end.ensures none in
     let value = read_all c.ends-end.ensures c.loop-i.invariant c.loop-i-test.false in
