@@ -126,7 +126,8 @@ impl<R: Outside> Job<'_, R> {
         }
     }
 
-    // The lines of the file that the second word names.
+    // The lines of the file that the second word names. `table` and `work` are handed on apart: a struct that held them
+    // would have to promise at each call that it still holds the same two.
     fn lines(
         &self,
         book: &[u8],
