@@ -2,8 +2,10 @@
 ghost use Rattle.std.specs.Prelude.{◌≡◌, ◌≤◌, ◌<◌, length};
 ghost use Rattle.language.specs.Sizes.{NODES, TABLE};
 ghost use Rattle.layout.specs.Table.{row_word, put_row};
+ghost use Rattle.layout.specs.Decode.{counts};
 
 use crate::ROWS_AT;
+use language::kinds;
 
 // The kinds of rows. A node's is the kind of its own token, and PREFIX more for an operator before its
 // operand; a call, an argument and a parameter, whose own token is a name, have one to themselves, and a
@@ -48,6 +50,14 @@ pub const ARITY: usize = 2;
 pub const RESULT: usize = 3;
 
 pub const BODY: usize = 4;
+
+// Is a row of this kind a `for`? It has the kind of the mark between its start and its end.
+#[tactic(auto, unfolding(crate::specs::Decode::counts))]
+pub fn counts(kind: u32) -> bool
+    ensures { result ≡ counts kind }
+{
+    kind == kinds::UPTO || kind == kinds::THROUGH
+}
 
 // Word k of a row.
 pub fn word(table: &[u32], row: usize, k: usize) -> u32

@@ -49,7 +49,7 @@ pub fn type_at(table: &mut [u32], node: usize, seen: usize, binds: usize) -> Res
         kinds::NAME => name(table, node, binds),
         rows::CALL => call(table, node, seen, binds),
         kinds::LET => bind(table, node, seen, binds),
-        _ if operators::counts(kind) => counted(table, node, seen, binds),
+        _ if rows::counts(kind) => counted(table, node, seen, binds),
         _ => match operators::children(kind) {
             0 => Ok(operators::constant(kind)),
             1 => over_one(table, node, seen, binds),

@@ -108,7 +108,7 @@ fn share(table: &[u32], row: usize, own_name: u32, seen: usize) -> u32
             shares::beside(passed, callee(table, row, own_name, seen))
         }
         kinds::WHILE => around(table, row, over(table, row, 1)),
-        _ if operators::counts(kind) => around(table, row, arguments(table, row)),
+        _ if rows::counts(kind) => around(table, row, arguments(table, row)),
         _ => over(table, row, operators::children(kind)),
     }
 }

@@ -71,7 +71,7 @@ pub fn place(table: &mut [u32], node: usize, defs: usize, size: usize)
     match kind {
         kinds::NAME => return name(table, node, size),
         rows::CALL => return call(table, node, defs, size),
-        _ if operators::counts(kind) => return counted(table, node, defs, size),
+        _ if rows::counts(kind) => return counted(table, node, defs, size),
         _ => (),
     }
     let count = operators::children(kind);

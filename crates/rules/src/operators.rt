@@ -1,7 +1,6 @@
 // What a node asks of its children's types, once all of them are known.
 ghost use Rattle.std.specs.Prelude.{◌≡◌, ◌≤◌, length};
 ghost use Rattle.language.specs.Sizes.{TABLE};
-ghost use Rattle.layout.specs.Decode.{counts};
 ghost use Rattle.rules.specs.Sight.{Rowed};
 ghost use Rattle.rules.specs.Asked.{Children, Constant, AsksOne, AsksTwo, AsksIf, AsksCall, Prefixed, Fetched, Referred};
 ghost use Rattle.rules.specs.Asked.{Between, Alike, Assigns, Follows, Repeats, Matches, Operand, Result};
@@ -31,14 +30,6 @@ pub fn children(kind: u32) -> usize
         // A number with a point, a call or a `for`: these kinds come last, behind the words.
         _ => 0,
     }
-}
-
-// Is it a `for`? Its row has the kind of the mark between its start and its end.
-#[tactic(auto, unfolding(layout::specs::Decode::counts))]
-pub fn counts(kind: u32) -> bool
-    ensures { result ≡ counts kind }
-{
-    kind == kinds::UPTO || kind == kinds::THROUGH
 }
 
 // The type of a number, with a point or without, `true`, `false` or `tt`.

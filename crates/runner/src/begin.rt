@@ -113,7 +113,7 @@ fn other(table: &[u32], work: &mut [u32], n: Next, kind: u32) -> Next
     if kind == rows::CALL {
         return calls::call(table, work, n);
     }
-    if loops::counts(kind) {
+    if rows::counts(kind) {
         let bound = rows::link(table, n.node, rows::START);
         return calls::pass(table, work, n, bound, 0);
     }

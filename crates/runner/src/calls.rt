@@ -120,7 +120,7 @@ fn last_argument(table: &[u32], work: &mut [u32], out: &mut [u8], n: Next, k: us
         (3 * n.tally.units + n.spot.height + 3) result }
 {
     let kind = rows::word(table, n.node, rows::KIND);
-    if loops::counts(kind) {
+    if rows::counts(kind) {
         return loops::bounded(table, work, n, k);
     }
     match callee(table, n.node) {

@@ -17,14 +17,6 @@ use layout::{SLOTS_AT, frames, rows, slots};
 use machine::counting;
 use numbers::Stop;
 
-// Is a row of this kind a `for`?
-#[tactic(auto, unfolding(layout::specs::Decode::counts))]
-pub fn counts(kind: u32) -> bool
-    ensures { result ≡ counts kind }
-{
-    matches!(kind, kinds::UPTO | kinds::THROUGH)
-}
-
 // The last bound has its value. With two of them no step is written.
 pub fn bounded(table: &[u32], work: &mut [u32], n: Next, k: usize) -> Next
     requires { Some (λ q o. Resumes q table.now work.old o n.value n.node ARGUMENT n.spot n.tally)
