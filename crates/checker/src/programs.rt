@@ -8,9 +8,9 @@ ghost use Rattle.checker.specs.Ruled.{Fresh, Bodied, Fitting, Listed, Ruled, Con
 use language::{FUNCTIONS, PARAMETERS};
 use layout::{Held, functions, rows, token, types, variables};
 use numbers::Reason;
-use phrase_types::expressions;
-use rules::sight::Callee;
-use rules::{Fault, need, sight};
+use phrase_types::expressions::{Sight, type_at};
+use rules::sight::{Callee, called, variable};
+use rules::{Fault, need};
 
 // Parameter k becomes variable k: there is room for it, its name is new, its type allowed.
 fn parameter(table: &mut [u32], row: usize, k: usize) -> Result<(), Fault>
@@ -21,7 +21,7 @@ fn parameter(table: &mut [u32], row: usize, k: usize) -> Result<(), Fault>
     need(k < PARAMETERS, Reason::TooManyParameters, at)?;
     let token = rows::link(table, row, rows::OWN);
     let name = token::value(table, token);
-    let before = sight::variable(table, k, name);
+    let before = variable(table, k, name);
     need(before.is_none(), Reason::ParameterTwice, at)?;
     let number = rows::word(table, row, rows::TYPE);
     need(number < types::OVER, Reason::TooManyRefs, at)?;
@@ -49,7 +49,7 @@ fn fresh(table: &[u32], k: usize, row: usize) -> Result<(), Fault>
     let at = rows::word(table, row, rows::OWN);
     need(k < FUNCTIONS, Reason::TooManyFunctions, at)?;
     let name = functions::name(table, k);
-    match sight::called(table, k, name) {
+    match called(table, k, name) {
         Callee::Nobody => Ok(()),
         _ => Err(Fault {
             reason: Reason::FunctionTwice,
@@ -68,7 +68,11 @@ fn body(table: &mut [u32], k: usize, row: usize) -> Result<(), Fault>
     let result = rows::word(table, row, rows::RESULT);
     need(result < types::OVER, Reason::TooManyRefs, at)?;
     let root = rows::link(table, row, rows::BODY);
-    let found = expressions::type_at(table, root, k + 1, count)?;
+    let sight = Sight {
+        seen: k + 1,
+        binds: count,
+    };
+    let found = type_at(table, root, sight)?;
     need(found == result, Reason::WrongBody, at)
 }
 
@@ -91,5 +95,9 @@ pub fn program(table: &mut [u32], program: Held) -> Result<u32, Fault>
     for k in 0..program.functions {
         function(table, k)?;
     }
-    expressions::type_at(table, program.root, program.functions, 0)
+    let sight = Sight {
+        seen: program.functions,
+        binds: 0,
+    };
+    type_at(table, program.root, sight)
 }
