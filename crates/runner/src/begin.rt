@@ -5,27 +5,16 @@ ghost use Rattle.language.specs.Tokens.{NAME};
 ghost use Rattle.layout.specs.Table.{KIND, row_word};
 ghost use Rattle.layout.specs.Frames.{FRAMES, SIZES, put_frame};
 ghost use Rattle.runner.specs.Phases.{waits, phase_of, operates};
-ghost use Rattle.runner.specs.Standing.{Begins, Starts, Some, Goes, charged, above, begun};
+ghost use Rattle.runner.specs.Standing.{Begins, Starts, Some, Goes, above, begun};
 
 use crate::state::Next;
 use crate::{calls, loops, state};
 use language::{ACTIVE, kinds};
 use layout::{SLOTS_AT, frames, notes, rows, slots};
 use machine::leaves;
-use machine::state::Tally;
 use numbers::Stop;
 
-// One unit less.
-fn charge(s: Tally) -> Tally
-    requires { 1 ≤ s.units }
-    ensures { result ≡ charged s }
-{
-    Tally {
-        units: s.units - 1,
-        ..s
-    }
-}
-
+// It uses a unit, which is taken off in place: copied into a new `Next`, each node costs some eight instructions more.
 pub fn begin(table: &[u32], work: &mut [u32], n: Next) -> Next
     requires { Some (λ q o. Begins q table.now work.old o n.node n.spot n.tally) }
     ensures { Goes (λ q o. Begins q table.now work.old o n.node n.spot n.tally)
@@ -34,10 +23,8 @@ pub fn begin(table: &[u32], work: &mut [u32], n: Next) -> Next
     if machine::state::exhausted(n.tally) {
         return n.halts(Stop::NoUnit, rows::word(table, n.node, rows::OWN));
     }
-    let charged = Next {
-        tally: charge(n.tally),
-        ..n
-    };
+    let mut charged = n;
+    charged.tally.units -= 1;
     if n.spot.height == ACTIVE + 1 {
         return charged.halts(Stop::TooDeep, rows::word(table, n.node, rows::OWN));
     }
@@ -88,19 +75,21 @@ fn start(table: &[u32], work: &mut [u32], n: Next) -> Next
         table.now work.new (3 * n.tally.units + n.spot.height + 3) result }
 {
     let kind = rows::word(table, n.node, rows::KIND);
-    match kind {
-        kinds::NAME => look(table, work, n),
-        kinds::NUMBER => n.gives(leaves::literal(table, n.node)),
-        _ if operates(kind) => {
-            let left = rows::link(table, n.node, rows::FIRST);
-            wait(work, n, state::LEFT, 0, left)
-        }
-        _ if rows::PREFIX <= kind => {
-            let operand = rows::link(table, n.node, rows::FIRST);
-            wait(work, n, state::UNARY, 0, operand)
-        }
-        _ => other(table, work, n, kind),
+    if kind == kinds::NAME {
+        return look(table, work, n);
     }
+    if kind == kinds::NUMBER {
+        return n.gives(leaves::literal(table, n.node));
+    }
+    if operates(kind) {
+        let left = rows::link(table, n.node, rows::FIRST);
+        return wait(work, n, state::LEFT, 0, left);
+    }
+    if rows::PREFIX <= kind {
+        let operand = rows::link(table, n.node, rows::FIRST);
+        return wait(work, n, state::UNARY, 0, operand);
+    }
+    other(table, work, n, kind)
 }
 
 // A node of any kind but a name's.

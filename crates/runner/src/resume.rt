@@ -23,47 +23,54 @@ pub fn give(table: &[u32], work: &mut [u32], out: &mut [u8], n: Next) -> Next
         n.tally) table.now work.new out.new (3 * n.tally.units + n.spot.height + 2) result }
 {
     let height = n.spot.height - 1;
-    let waits = Next {
-        node: frames::link(work, height, frames::NODE),
-        spot: Spot {
-            base: frames::link(work, height, frames::BASE),
-            size: frames::size(work, height),
-            height,
-        },
-        ..n
-    };
-    match frames::word(work, height, frames::PHASE) {
-        state::ARGUMENT => calls::argument(table, work, out, waits),
-        state::COUNTED => loops::next(table, work, waits),
-        phase => resume(table, work, waits, phase),
+    let mut waits = n;
+    waits.node = frames::link(work, height, frames::NODE);
+    waits.spot.base = frames::link(work, height, frames::BASE);
+    waits.spot.size = frames::size(work, height);
+    waits.spot.height = height;
+    let phase = frames::word(work, height, frames::PHASE);
+    if phase == state::ARGUMENT {
+        return calls::argument(table, work, out, waits);
     }
+    if phase == state::COUNTED {
+        return loops::next(table, work, waits);
+    }
+    resume(table, work, waits, phase)
 }
 
+// Phases are told one by one, the most frequent first: by a `match` a node costs some six instructions more. They stay
+// numbers, as kinds of rows do: a phase is a word of lent memory, read at every step.
 fn resume(table: &[u32], work: &mut [u32], n: Next, phase: u32) -> Next
     requires { Some (λ q o. Resumes q table.now work.old o n.value n.node phase n.spot n.tally) × (phase ≡ ARGUMENT → ⊥)
         × (phase ≡ COUNTED → ⊥) }
     ensures { Goes (λ q o. Resumes q table.now work.old o n.value n.node phase n.spot n.tally)
         table.now work.new (3 * n.tally.units + n.spot.height + 3) result }
 {
-    match phase {
-        state::LAST => n.gives(n.value),
-        state::RIGHT => right(table, work, n),
-        state::LEFT => left(table, work, n),
-        state::UNARY => unary(table, work, n),
-        state::BEFORE => {
-            let part = rows::link(table, n.node, rows::SECOND);
-            turn(work, n, state::LAST, part)
-        }
-        state::INSIDE => {
-            let live = frames::mark(work, n.spot.height);
-            let freed = Next {
-                tally: cells::free(n.tally, live),
-                ..n
-            };
-            freed.gives(n.value)
-        }
-        _ => control(table, work, n, phase),
+    if phase == state::LAST {
+        return n.gives(n.value);
     }
+    if phase == state::RIGHT {
+        return right(table, work, n);
+    }
+    if phase == state::LEFT {
+        return left(table, work, n);
+    }
+    if phase == state::UNARY {
+        return unary(table, work, n);
+    }
+    if phase == state::BEFORE {
+        let part = rows::link(table, n.node, rows::SECOND);
+        return turn(work, n, state::LAST, part);
+    }
+    if phase == state::INSIDE {
+        let live = frames::mark(work, n.spot.height);
+        let freed = Next {
+            tally: cells::free(n.tally, live),
+            ..n
+        };
+        return freed.gives(n.value);
+    }
+    control(table, work, n, phase)
 }
 
 // `let`, `if` and `while`; and where no node is left, the value is that of the whole.
@@ -72,30 +79,30 @@ fn control(table: &[u32], work: &mut [u32], n: Next, phase: u32) -> Next
     ensures { Goes (λ q o. Resumes q table.now work.old o n.value n.node phase n.spot n.tally)
         table.now work.new (3 * n.tally.units + n.spot.height + 3) result }
 {
-    match phase {
-        state::BOUND => {
-            let part = rows::link(table, n.node, rows::SECOND);
-            hold(work, n, state::LAST, part)
-        }
-        state::CONDITION if operands::is_true(n.value) => {
-            let part = rows::link(table, n.node, rows::SECOND);
-            turn(work, n, state::LAST, part)
-        }
-        state::CONDITION => {
-            let part = rows::link(table, n.node, rows::THIRD);
-            turn(work, n, state::LAST, part)
-        }
-        state::TEST if operands::is_true(n.value) => {
-            let part = rows::link(table, n.node, rows::SECOND);
-            turn(work, n, state::PASS, part)
-        }
-        state::TEST => n.gives(Value::Nothing),
-        state::PASS => {
-            let part = rows::link(table, n.node, rows::FIRST);
-            turn(work, n, state::TEST, part)
-        }
-        _ => n.done(),
+    if phase == state::BOUND {
+        let part = rows::link(table, n.node, rows::SECOND);
+        return hold(work, n, state::LAST, part);
     }
+    if phase == state::CONDITION {
+        if operands::is_true(n.value) {
+            let part = rows::link(table, n.node, rows::SECOND);
+            return turn(work, n, state::LAST, part);
+        }
+        let other = rows::link(table, n.node, rows::THIRD);
+        return turn(work, n, state::LAST, other);
+    }
+    if phase == state::TEST {
+        if operands::is_true(n.value) {
+            let part = rows::link(table, n.node, rows::SECOND);
+            return turn(work, n, state::PASS, part);
+        }
+        return n.gives(Value::Nothing);
+    }
+    if phase == state::PASS {
+        let part = rows::link(table, n.node, rows::FIRST);
+        return turn(work, n, state::TEST, part);
+    }
+    n.done()
 }
 
 // The frame waits for another part, which begins.

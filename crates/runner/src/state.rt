@@ -89,8 +89,9 @@ impl Next {
         Next {
             mode: Mode::Begin,
             node,
+            value: self.value,
             spot,
-            ..self
+            tally: self.tally,
         }
     }
 
@@ -101,7 +102,8 @@ impl Next {
             mode: Mode::Give,
             node: 0,
             value,
-            ..self
+            spot: self.spot,
+            tally: self.tally,
         }
     }
 

@@ -1,3 +1,4 @@
+use mathlib.Core.Path.{refl}
 use Rattle.runner.proofs.Promises.{some_from, goes_from, units_none, units_some, charged_less}
 use Rattle.runner.proofs.Starting.{begins_none, begins_deep, begins_starts}
 use Rattle.runner.proofs.begin.begin.Goals as goal
@@ -10,16 +11,16 @@ returns-then-exhausted c =
 pub returns-then-n : goal.returns-then-n
 returns-then-n c =
     begins_deep (units_some c.exhausted.ensures c.if-exhausted.false) c.if-n.true c.word-then-n.ensures
-    c.args.n.value c.charge.ensures c.halts-then-n.ensures
+    c.args.n.value refl c.halts-then-n.ensures
 
 pub start-requires : goal.start-requires
 start-requires c =
     some_from
     (begins_starts (units_some c.exhausted.ensures c.if-exhausted.false) c.if-n.false
-    c.charge.ensures) c.requires
+    refl) c.requires
 
 pub returns : goal.returns
 returns c =
-    goes_from (begins_starts (units_some c.exhausted.ensures c.if-exhausted.false) c.if-n.false c.charge.ensures)
-    (charged_less c.args.n.spot.height c.args.n.tally c.charge.result
-    (units_some c.exhausted.ensures c.if-exhausted.false) c.charge.ensures) c.start.ensures
+    goes_from (begins_starts (units_some c.exhausted.ensures c.if-exhausted.false) c.if-n.false refl)
+    (charged_less c.args.n.spot.height c.args.n.tally _
+    (units_some c.exhausted.ensures c.if-exhausted.false) refl) c.start.ensures

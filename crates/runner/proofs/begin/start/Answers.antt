@@ -5,26 +5,26 @@ use Rattle.runner.proofs.begin.start.Goals as goal
 
 pub literal-requires : goal.literal-requires
 literal-requires c =
-    starts_number c.word-kind.ensures c.in-2.is c.requires
+    starts_number c.word-kind.ensures c.if-kind-eq-NUMBER.true c.requires
 
-pub returns-in-2 : goal.returns-in-2
-returns-in-2 c =
-    starts_amount c.word-kind.ensures c.in-2.is c.literal.ensures c.gives.ensures
+pub returns-then-kind-eq-NUMBER : goal.returns-then-kind-eq-NUMBER
+returns-then-kind-eq-NUMBER c =
+    starts_amount c.word-kind.ensures c.if-kind-eq-NUMBER.true c.literal.ensures c.gives.ensures
 
 pub wait-requires : goal.wait-requires
 wait-requires c =
     let x = starts_frame c.requires in (x.0, x.1, x.2, x.3, x.4, lit≤ tt)
 
-pub returns-in_default : goal.returns-in_default
-returns-in_default c =
+pub returns-then-operates : goal.returns-then-operates
+returns-then-operates c =
     starts_operator c.word-kind.ensures c.operates.ensures c.if-operates.true c.link-left.ensures c.args.n.value
     c.wait.ensures.0 c.wait.ensures.1
 
-pub wait-requires-in_default-2 : goal.wait-requires-in_default-2
-wait-requires-in_default-2 c =
+pub wait-requires-then-kind-ge-PREFIX : goal.wait-requires-then-kind-ge-PREFIX
+wait-requires-then-kind-ge-PREFIX c =
     let x = starts_frame c.requires in (x.0, x.1, x.2, x.3, x.4, lit≤ tt)
 
-pub returns-in_default-2 : goal.returns-in_default-2
-returns-in_default-2 c =
+pub returns-then-kind-ge-PREFIX : goal.returns-then-kind-ge-PREFIX
+returns-then-kind-ge-PREFIX c =
     starts_prefix c.word-kind.ensures c.if-kind-ge-PREFIX.true c.link-operand.ensures c.args.n.value
-    c.wait-in_default-2.ensures.0 c.wait-in_default-2.ensures.1
+    c.wait-then-kind-ge-PREFIX.ensures.0 c.wait-then-kind-ge-PREFIX.ensures.1
