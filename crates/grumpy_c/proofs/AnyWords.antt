@@ -1,4 +1,5 @@
 -- Whatever stands in the words of three reports, forged ones too: it does not matter which two are combined first (R14.6).
+use Rattle.std.specs.Prelude.{Ok, Err}
 use lib.Dec.{eqb}
 use lib.ListN.{length, get_or}
 use mathlib.Core.Bool.{Bool, true, false, cond}
@@ -15,7 +16,7 @@ use Rattle.language.proofs.Shift.AnyOrder.{combined_assoc, both_possible}
 use Rattle.language.proofs.Shift.Possible.{possible_so}
 use Rattle.numbers.specs.declared.Refusal.{Refusal}
 use Rattle.shift.specs.Combining.{ending_meant, told_in}
-use Rattle.shift.specs.declared.Ending as Code
+use Rattle.shift.specs.Meanings as Code
 use Rattle.grumpy_c.specs.Combining.{ending_in, finished_in, told_of_both, CombinedC, combine_no_room, combine_told}
 use Rattle.grumpy_c.specs.Shifts.{FINISH, told_number, report_words}
 use Rattle.grumpy_c.specs.Words.{with_front}
@@ -29,7 +30,7 @@ unfolding ending_in
 read_told n = go (eqb n 0) (eqb n 42)
   where
     go : (a b : Bool)
-        → Readable (ending_meant (cond a (Code.Ending.Report false) (cond b (Code.Ending.Refused Refusal.NoEdition) (Code.Ending.Report true))))
+        → Readable (ending_meant (cond a (Ok false) (cond b (Err Refusal.NoEdition) (Ok true))))
     go true b = read_none
     go false true = read_edition
     go false false = read_many

@@ -1,26 +1,21 @@
--- Words put at the front of others, one after the other.
-use mathlib.Core.List.{List, [], ◌∷◌, ◌++◌}
-use mathlib.Core.Path.{◌≡◌, refl, ap, ◌∙◌}
-use Prim.Native.Nat.{ℕ, zero, suc, ◌+◌, ◌≤◌, ◌<◌}
-use native.Mathlib.Numerals.{add-one}
+-- Words put at the front of others, and more behind them.
+use mathlib.Core.List.{List, [], ◌++◌, append_assoc, append-nil}
+use mathlib.Core.Path.{◌≡◌, refl}
+use Prim.Native.Nat.{ℕ, ◌+◌, ◌-◌, ◌≤◌}
 use native.Mathlib.Omega.{arith}
-use lib.ListN.{length, take, drop, get_or, set}
-use lib.Seq.{take-length}
+use lib.ListN.{length, take, drop, length-append, length-drop, drop_of_length-le}
+use lib.Seq.{take-append_seam, drop-append_seam, drop-drop, take_all}
+use borrow.Rule.Slice.PartMut.{put_mid}
 use Rattle.grumpy_c.specs.Words.{with_front}
 
--- the first j of them
-abbrev pub so_far : List ℕ → List ℕ → ℕ → List ℕ
-so_far w f j = take j f ++ drop j w
-
-step : (w f : List ℕ) (j : ℕ) → j < length w → j < length f → set (so_far w f j) j (get_or f j 0) ≡ so_far w f (suc j)
-step [] f j h k = absurd (omega arith)
-step (x ∷ w) [] j h k = absurd (omega arith)
-step (x ∷ w) (y ∷ f) zero h k = refl
-step (x ∷ w) (y ∷ f) (suc j) h k = ap (λ (r : List ℕ). y ∷ r) (step w f j (omega arith) (omega arith))
-
-pub one_further : (w f v : List ℕ) (j : ℕ) → v ≡ so_far w f j → j < length w → j < length f → set v j (get_or f j 0) ≡ so_far w f (j + 1)
-one_further w f v j e h k = rw (add-one, e) (step w f j h k)
-
-pub all_put : (w f v : List ℕ) (j : ℕ) → v ≡ so_far w f j → j ≤ length f → length f ≤ j → v ≡ with_front w f
+pub put_behind : (w a b v t : List ℕ) (n k : ℕ) → n ≡ length a → length a + length b ≤ length w → v ≡ with_front w a → k ≡ length v - n
+    → t ≡ with_front (take k (drop n v)) b → put_mid n k v t ≡ with_front w (a ++ b)
 unfolding with_front
-all_put w f v j e h k = let same : j ≡ length f = omega arith in e ∙ rw (same, take-length) refl
+put_behind w a b v t n k en l ev ek et =
+    let s : take n v ≡ a = rw (ev, en) (take-append_seam a (drop (length a) w)) in
+    let d : drop n v ≡ drop (length a) w = rw (ev, en) (drop-append_seam a (drop (length a) w)) in
+    let long : length v ≡ length w = rw ev (omega (arith, length-append a (drop (length a) w), length-drop (length a) w)) in
+    let few : length (drop (length a) w) ≤ k = omega (arith, length-drop (length a) w) in
+    let z : drop k (drop (length a) w) ≡ [] = drop_of_length-le (drop (length a) w) {i = k} few in
+    let whole : take k (drop (length a) w) ≡ drop (length a) w = take_all k (drop (length a) w) few in
+    rw (et, s, d, whole, z) (simp (append-nil, append_assoc, length-append, drop-drop))

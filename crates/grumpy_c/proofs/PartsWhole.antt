@@ -28,14 +28,14 @@ use Rattle.shift.specs.Combining.{told_in}
 use Rattle.shift.specs.Taking.{needed}
 use Rattle.grumpy_c.specs.Combining.{capped, ending_in, counts_in, finished_in, told_of_both, CombinedC, combine_no_room, combine_told}
 use Rattle.grumpy_c.specs.Shifts.{FINISH, told_number, report_words}
-use Rattle.grumpy_c.specs.Words.{with_front}
+use Rattle.grumpy_c.specs.Words.{with_front, count_in}
 use Rattle.grumpy_c.proofs.ShiftWhole.{Reported}
 
 -- ---- read again
 
 capped_same : (n : ℕ) → n ≤ LINES → capped n ≡ n
-unfolding capped
-capped_same n h = rw (lt-ltb n 4294967295 (omega arith)) refl
+unfolding count_in
+capped_same n h = rw (lt-ltb n 4294967296 (omega arith)) refl
 
 stop_few : (n : State.Stop → ℕ) (s : State.Stop) → n s ≤ all_stops n
 unfolding all_stops

@@ -1,5 +1,6 @@
 -- The three functions of a shift for C, one after the other: what the words of a state stand for, from an empty input on to the
 -- written report of the whole one, wherever it was cut (R14.6, R14.8).
+use Rattle.std.specs.Prelude.{Ok, Err}
 use mathlib.Core.Bool.{Bool, true, false, false≢true}
 use mathlib.Core.List.{List, [], ◌++◌}
 use mathlib.Core.Logic.{inl, inr}
@@ -22,7 +23,7 @@ use Rattle.shift.specs.Meanings.{admission_meant, granted, keeps_all, lent, over
 use Rattle.shift.specs.Promises.{Feeds, feeds, turned, finished}
 use Rattle.shift.specs.Promises as Promises
 use Rattle.shift.specs.Taking.{EndedLine, needed, printed_over, Takes}
-use Rattle.shift.specs.declared.Admission.{Admission}
+use Rattle.shift.specs.Meanings.{Admission}
 use Rattle.shift.specs.declared.State.{State}
 use Rattle.shift.proofs.Finishing.{reports}
 use Rattle.shift.proofs.Standing.{after_start, after_more}
@@ -60,8 +61,8 @@ not_granted : {y : ShiftRefusal} {A : Type 0} → ◌≡◌ {A = Option ShiftRef
 not_granted e = let z : ◌≡◌ {A = ℕ} 0 1 = cc in absurd (omega arith)
 
 not_refused : (a : Admission) → (admission_meant a).told ≡ none → refuses a ≡ false
-not_refused Admission.Granted e = refl
-not_refused (Admission.Refused w x) e = not_granted e
+not_refused (Ok u) e = refl
+not_refused (Err d) e = not_granted e
 
 -- ---- begun
 

@@ -1,6 +1,7 @@
 -- The state of a shift in words: what is read of the parts of it makes the whole, and what was written is read again.
 use mathlib.Core.Bool.{Bool, true, false}
-use mathlib.Core.List.{List, [], ◌∷◌}
+use mathlib.Core.List.{List, [], ◌∷◌, ◌++◌}
+use Rattle.std.specs.Int.{from_bool}
 use mathlib.Core.Path.{◌≡◌, refl, ap, ◌∙◌}
 use Prim.Native.Nat.{ℕ, ◌^◌, ◌<◌}
 use native.Mathlib.Omega.{arith}
@@ -13,7 +14,7 @@ use mir.Syntax.{w64}
 use mir.Val.{to_z, of_z, SFits}
 use Rattle.shift.specs.declared.State.{State}
 use Rattle.tally.specs.declared.sums.Sums.{Sums}
-use Rattle.grumpy_c.specs.Words.{with_front, flag_word, narrowed, nine}
+use Rattle.grumpy_c.specs.Words.{with_front, flag_word, narrowed, count_in, nine}
 use Rattle.grumpy_c.proofs.TwosComplement.{Signed, signed}
 use Rattle.grumpy_c.specs.States.{stops_in, sums_in, state_words, state_in, Holds}
 
@@ -41,7 +42,7 @@ flag_read true = refl
 flag_read false = refl
 
 narrowed_same : (n : ℕ) → n < 2 ^ 32 → narrowed n ≡ n
-unfolding narrowed
+unfolding count_in
 narrowed_same n h = rw (lt-ltb n 4294967296 h) refl
 
 -- nine counts of 32 bits
@@ -104,9 +105,13 @@ read_again w s f =
 
 -- ---- as it is written
 
-module _ (w w' : List ℕ) (s : State) (over spoilt sum least largest : ℕ) (stops : List ℕ) where
-  pub state_held : over ≡ flag_word s.over → spoilt ≡ flag_word s.part.bad → stops ≡ nine s.sums.stops
-      → Signed s.sums.sum sum → Signed s.sums.least least → Signed s.sums.largest largest
+pub flag_told : (b : Bool) → from_bool b ≡ flag_word b
+flag_told true = refl
+flag_told false = refl
+
+module _ (w w' : List ℕ) (s : State) (over spoilt sum least largest : ℕ) where
+  pub state_held : over ≡ flag_word s.over → spoilt ≡ flag_word s.part.bad → Signed s.sums.sum sum → Signed s.sums.least least
+      → Signed s.sums.largest largest
       → w' ≡ with_front w
       (s.allowance
       ∷ over
@@ -116,22 +121,9 @@ module _ (w w' : List ℕ) (s : State) (over spoilt sum least largest : ℕ) (st
       ∷ spoilt
       ∷ s.sums.lines
       ∷ s.sums.bad
-      ∷ get_or stops 0 0
-      ∷ get_or stops 1 0
-      ∷ get_or stops 2 0
-      ∷ get_or stops 3 0
-      ∷ get_or stops 4 0
-      ∷ get_or stops 5 0
-      ∷ get_or stops 6 0
-      ∷ get_or stops 7 0
-      ∷ get_or stops 8 0
-      ∷ s.sums.paid
-      ∷ sum
-      ∷ least
-      ∷ largest
-      ∷ [])
+      ∷ (nine s.sums.stops ++ (s.sums.paid ∷ sum ∷ least ∷ largest ∷ [])))
       → Fit s → Holds w s w'
   unfolding state_words
-  state_held a b c d e f h k =
-      let written : w' ≡ with_front w (state_words s) = h ∙ ap (with_front w) (rw (a, b, c, signed d, signed e, signed f) refl) in
+  state_held a b d e f h k =
+      let written : w' ≡ with_front w (state_words s) = h ∙ ap (with_front w) (rw (a, b, signed d, signed e, signed f) refl) in
       record { written = written; read = ap state_in written ∙ read_again w s k }

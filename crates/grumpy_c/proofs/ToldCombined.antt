@@ -1,4 +1,5 @@
 -- Reports of a shift in words: what is read of the parts of one makes the whole, and how two of them are told together.
+use Rattle.std.specs.Prelude.{Ok, Err}
 use lib.IntN.{ℤ}
 use lib.ListN.{length, get_or}
 use mathlib.Core.Bool.{true, false}
@@ -17,7 +18,7 @@ use Rattle.tally.specs.Stands.{report_in}
 use Rattle.tally.specs.declared.sums.Sums.{Sums}
 use Rattle.shift.specs.Combining.{ending_meant, told_in, Combine}
 use Rattle.shift.specs.declared.Finished.{Finished}
-use Rattle.shift.specs.declared.Ending as Code
+use Rattle.shift.specs.Meanings as Code
 use Rattle.grumpy_c.specs.Combining.{capped, ending_in, nine_in, counts_in, finished_in, told_of_both, CombinedC, combine_no_room, combine_told}
 use Rattle.grumpy_c.specs.Shifts.{FINISH, told_number, ending_number, report_words}
 use Rattle.grumpy_c.specs.Words.{with_front}
@@ -42,15 +43,15 @@ module _ (w : List ℕ) (lines bad : ℕ) (stops : List ℕ) (sum least largest 
 
 -- the number that is told
 module _ (n : ℕ) where
-  pub number_none : n ≡ 0 → Code.Ending.Report false ≡ ending_in n
+  pub number_none : n ≡ 0 → Ok false ≡ ending_in n
   unfolding ending_in
   number_none h = rw (eq-eqb n 0 h) refl
 
-  pub number_no_edition : (n ≡ 0 → ⊥) → n ≡ 42 → Code.Ending.Refused Refusal.NoEdition ≡ ending_in n
+  pub number_no_edition : (n ≡ 0 → ⊥) → n ≡ 42 → Err Refusal.NoEdition ≡ ending_in n
   unfolding ending_in
   number_no_edition h k = rw (ne_eqb n 0 h, eq-eqb n 42 k) refl
 
-  pub number_over : (n ≡ 0 → ⊥) → (n ≡ 42 → ⊥) → Code.Ending.Report true ≡ ending_in n
+  pub number_over : (n ≡ 0 → ⊥) → (n ≡ 42 → ⊥) → Ok true ≡ ending_in n
   unfolding ending_in
   number_over h k = rw (ne_eqb n 0 h, ne_eqb n 42 k) refl
 
@@ -61,8 +62,8 @@ finished_read w p q = λ i. record { told = p i; sums = q i }
 -- ---- the contract
 
 number_meant : (e : Code.Ending) → ending_number e ≡ told_number (ending_meant e)
-number_meant (Code.Ending.Report over) = refl
-number_meant (Code.Ending.Refused y) = refl
+number_meant (Ok over) = refl
+number_meant (Err y) = refl
 
 module _ (first second report report' : List ℕ) where
   pub combined_c : (f s r : Finished) (n : ℕ) → FINISH ≤ length first → FINISH ≤ length second → FINISH ≤ length report → f ≡ finished_in first

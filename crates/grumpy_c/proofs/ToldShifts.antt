@@ -1,6 +1,7 @@
 -- How the answers of a shift are told in words.
+use Rattle.std.specs.Prelude.{Ok, Err}
 use mathlib.Core.Bool.{Bool}
-use mathlib.Core.List.{List, [], ◌∷◌}
+use mathlib.Core.List.{List, [], ◌∷◌, ◌++◌}
 use mathlib.Core.Path.{◌≡◌, refl, sym, ap, subst, ◌∙◌}
 use Prim.Native.Nat.{ℕ, ◌≤◌}
 use borrow.Author.Tests.{ne_eqb}
@@ -12,9 +13,9 @@ use Rattle.tally.specs.Stands.{report_in}
 use Rattle.tally.specs.declared.sums.Sums.{Sums}
 use Rattle.shift.specs.Meanings.{why_meant, admission_meant, keeps_all}
 use Rattle.shift.specs.Promises.{Begin, Feed, Finish}
-use Rattle.shift.specs.declared.Admission.{Admission}
+use Rattle.shift.specs.Meanings.{Admission}
 use Rattle.shift.specs.declared.Answer.{Answer}
-use Rattle.shift.specs.declared.Ending.{Ending}
+use Rattle.shift.specs.Meanings.{Ending}
 use Rattle.shift.specs.declared.State.{State}
 use Rattle.shift.specs.declared.Why.{Why}
 use Rattle.grumpy_c.specs.Words.{with_front, nine}
@@ -28,48 +29,22 @@ use Rattle.grumpy_c.proofs.TwosComplement.{Signed, signed}
 abbrev Told : ℕ → Admission → List ℕ → List ℕ → ℕ → Type 0
 Told long a w w' n = (n ≡ admission_number a) × (w' ≡ with_front w (n ∷ book_place long (admission_meant a).place ∷ []))
 
--- in the book, and behind it
-pub in_book : (long : ℕ) (x : Spot) → (x.sheet ≡ 2 → ⊥) → x.at ≡ book_place long (meant x)
-unfolding book_place
-in_book long x e = rw (ne_eqb x.sheet 2 e) refl
-
-pub behind_book : (long : ℕ) (x : Spot) → x.sheet ≡ 2 → long ≡ book_place long (meant x)
-unfolding book_place
-behind_book long x e = rw e refl
-
-pub granted_told : (long : ℕ) (a : Admission) (w w' : List ℕ) → a ≡ Admission.Granted → w' ≡ with_front w (0 ∷ 0 ∷ []) → Told long a w w' 0
+pub granted_told : (long : ℕ) (a : Admission) (w w' : List ℕ) → a ≡ (Ok tt) → w' ≡ with_front w (0 ∷ 0 ∷ []) → Told long a w w' 0
 unfolding book_place
 granted_told long a w w' e h = subst (λ (a : Admission). Told long a w w' 0) (sym e) (refl, h)
 
-pub refused_told : (long : ℕ) (a : Admission) (w w' : List ℕ) (y : Why) (x : Spot) (n p : ℕ) → a ≡ Admission.Refused y x → n ≡ shift_number (why_meant y)
+pub refused_told : (long : ℕ) (a : Admission) (w w' : List ℕ) (y : Why) (x : Spot) (n p : ℕ) → a ≡ Err (record { why = y; spot = x }) → n ≡ shift_number (why_meant y)
     → p ≡ book_place long (meant x) → w' ≡ with_front w (n ∷ p ∷ []) → Told long a w w' n
 refused_told long a w w' y x n p e m q h =
     subst (λ (a : Admission). Told long a w w' n) (sym e) (m, h ∙ ap (λ (p : ℕ). with_front w (n ∷ p ∷ [])) q)
 
 -- ---- in the end
 
-module _ (w w' : List ℕ) (n : ℕ) (s : Sums) (stops : List ℕ) (sum least largest : ℕ) where
-  pub report_told : stops ≡ nine s.stops → Signed s.sum sum → Signed s.least least → Signed s.largest largest
-      → w' ≡ with_front w
-      (n
-      ∷ s.lines
-      ∷ s.bad
-      ∷ get_or stops 0 0
-      ∷ get_or stops 1 0
-      ∷ get_or stops 2 0
-      ∷ get_or stops 3 0
-      ∷ get_or stops 4 0
-      ∷ get_or stops 5 0
-      ∷ get_or stops 6 0
-      ∷ get_or stops 7 0
-      ∷ get_or stops 8 0
-      ∷ sum
-      ∷ least
-      ∷ largest
-      ∷ [])
-      → w' ≡ with_front w (report_words n (report_in s))
+module _ (w w' : List ℕ) (n : ℕ) (s : Sums) (sum least largest : ℕ) where
+  pub report_told : Signed s.sum sum → Signed s.least least → Signed s.largest largest
+      → w' ≡ with_front w (n ∷ s.lines ∷ s.bad ∷ (nine s.stops ++ (sum ∷ least ∷ largest ∷ []))) → w' ≡ with_front w (report_words n (report_in s))
   unfolding report_words
-  report_told a b c d h = h ∙ ap (with_front w) (rw (a, signed b, signed c, signed d) refl)
+  report_told b c d h = h ∙ ap (with_front w) (rw (signed b, signed c, signed d) refl)
 
 -- ---- the contracts
 

@@ -1,4 +1,5 @@
 -- Reports of a shift in words, read back, whatever the words are; and the contract of `grumpy_shift_combine`.
+use Rattle.std.specs.Prelude.{Ok, Err}
 use Rattle.std.specs.Prelude.{eqb, ltb, length, get_or, true, false, cond, List, [], ◌∷◌, ◌⊎◌, ◌≡◌, ℕ, ◌≤◌, ◌<◌}
 use Rattle.std.specs.Int.{w64}
 use Rattle.std.proofs.Common.{to_z}
@@ -8,32 +9,22 @@ use Rattle.numbers.specs.declared.Refusal.{Refusal}
 use Rattle.tally.specs.declared.sums.Sums.{Sums}
 use Rattle.shift.specs.Combining.{told_in}
 use Rattle.shift.specs.declared.Finished.{Finished}
-use Rattle.shift.specs.declared.Ending as Code
-use Rattle.grumpy_c.specs.Words.{with_front}
+use Rattle.shift.specs.Meanings as Code
+use Rattle.grumpy_c.specs.Words.{with_front, count_in, nine_counts}
 use Rattle.grumpy_c.specs.Shifts.{FINISH, told_number, report_words}
 
 -- a count; a larger one than fits is more than a shift can come to, as is what it is read as
-unfoldable pub capped : ℕ → ℕ
-capped n = cond (ltb n 4294967295) n 4294967295
+abbrev pub capped : ℕ → ℕ
+capped = count_in 4294967295
 
 -- the numbers that a report has are 0, 42 and 46; any other is read as 46
 unfoldable pub ending_in : ℕ → Code.Ending
 ending_in n =
-    cond (eqb n 0) (Code.Ending.Report false)
-    (cond (eqb n 42) (Code.Ending.Refused Refusal.NoEdition) (Code.Ending.Report true))
+    cond (eqb n 0) (Ok false)
+    (cond (eqb n 42) (Err Refusal.NoEdition) (Ok true))
 
 abbrev pub nine_in : List ℕ → List ℕ
-nine_in w =
-    capped (get_or w 3 0)
-    ∷ capped (get_or w 4 0)
-    ∷ capped (get_or w 5 0)
-    ∷ capped (get_or w 6 0)
-    ∷ capped (get_or w 7 0)
-    ∷ capped (get_or w 8 0)
-    ∷ capped (get_or w 9 0)
-    ∷ capped (get_or w 10 0)
-    ∷ capped (get_or w 11 0)
-    ∷ []
+nine_in w = nine_counts 4294967295 w 3
 
 -- how many were paid is not in the words, and nothing depends on it
 abbrev pub counts_in : List ℕ → Sums

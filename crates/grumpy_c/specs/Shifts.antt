@@ -1,4 +1,5 @@
 -- What the C interface tells of a shift, and the contracts of its three functions over those of the services (R14).
+use Rattle.std.specs.Prelude.{Ok, Err, is_err}
 use Rattle.std.specs.Prelude.{Bool, true, false, cond, List, [], ◌∷◌, ◌⊎◌, ◌≡◌, ℕ, ◌≤◌, ◌<◌, eqb, length}
 use Rattle.std.proofs.Math.Option.{Option, none, some}
 use Rattle.std.specs.Int.{w64}
@@ -13,9 +14,9 @@ use Rattle.tally.specs.Stands.{report_in}
 use Rattle.tally.specs.declared.sums.Sums.{Sums}
 use Rattle.shift.specs.Meanings.{why_meant, admission_meant, keeps_all, over_told}
 use Rattle.shift.specs.Promises.{Begin, Feed, Finish}
-use Rattle.shift.specs.declared.Admission.{Admission}
+use Rattle.shift.specs.Meanings.{Admission}
 use Rattle.shift.specs.declared.Answer.{Answer}
-use Rattle.shift.specs.declared.Ending.{Ending}
+use Rattle.shift.specs.Meanings.{Ending}
 use Rattle.shift.specs.declared.State.{State}
 use Rattle.grumpy_c.specs.Words.{with_front}
 use Rattle.grumpy_c.specs.States.{STATE, state_in, Holds}
@@ -41,12 +42,12 @@ admission_number a = told_number (admission_meant a).told
 
 -- after a piece: 46 where there was a line too many
 abbrev pub fed_number : Admission → Bool → ℕ
-fed_number Admission.Granted over = told_number (over_told over)
-fed_number (Admission.Refused w x) over = shift_number (why_meant w)
+fed_number (Ok u) over = told_number (over_told over)
+fed_number (Err d) over = shift_number (why_meant d.why)
 
 abbrev pub ending_number : Ending → ℕ
-ending_number (Ending.Report over) = told_number (over_told over)
-ending_number (Ending.Refused y) = refusal_number (refusal_meant y)
+ending_number (Ok over) = told_number (over_told over)
+ending_number (Err y) = refusal_number (refusal_meant y)
 
 -- ---- the state
 
@@ -56,8 +57,7 @@ pub data Left (w : List ℕ) (s : State) (w' : List ℕ) : Bool → Type 0 where
   held : Holds w s w' → Left w s w' false
 
 abbrev pub refuses : Admission → Bool
-refuses Admission.Granted = false
-refuses (Admission.Refused w x) = true
+refuses = is_err
 
 -- ---- the report in the end
 

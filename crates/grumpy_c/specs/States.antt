@@ -5,7 +5,7 @@ use Rattle.std.proofs.Common.{of_z, to_z}
 use Rattle.tally.specs.declared.lines.Part.{Part}
 use Rattle.tally.specs.declared.sums.Sums.{Sums}
 use Rattle.shift.specs.declared.State.{State}
-use Rattle.grumpy_c.specs.Words.{with_front, flag_word, narrowed, nine}
+use Rattle.grumpy_c.specs.Words.{with_front, flag_word, narrowed, nine_counts, nine}
 
 -- so many words
 abbrev pub STATE : ℕ
@@ -38,17 +38,7 @@ part_in w = record {
 }
 
 abbrev pub stops_in : List ℕ → List ℕ
-stops_in w =
-    narrowed (get_or w 8 0)
-    ∷ narrowed (get_or w 9 0)
-    ∷ narrowed (get_or w 10 0)
-    ∷ narrowed (get_or w 11 0)
-    ∷ narrowed (get_or w 12 0)
-    ∷ narrowed (get_or w 13 0)
-    ∷ narrowed (get_or w 14 0)
-    ∷ narrowed (get_or w 15 0)
-    ∷ narrowed (get_or w 16 0)
-    ∷ []
+stops_in w = nine_counts 0 w 8
 
 abbrev pub sums_in : List ℕ → Sums
 sums_in w = record {

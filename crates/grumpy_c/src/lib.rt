@@ -21,6 +21,9 @@ use crate::reports::{
 use grumpy::answers::{Checked, Ended, Ran, Wrote};
 use pairs::Spot;
 
+// The number of lent memory that is too short.
+const SHORT_MEMORY: u32 = 40;
+
 fn report_checked(report: &mut [u64], answer: Checked<usize>) -> u32
     requires { 3 ≤ length report.old }
     ensures { ToldChecked answer report.old report.new result }
@@ -115,7 +118,7 @@ pub extern "C" fn grumpy_check(
         table.new report.new result }
 {
     if report.len() < 3 {
-        return 40;
+        return SHORT_MEMORY;
     }
     let answer = grumpy::check(edition, source, table);
     report_checked(report, answer)
@@ -136,7 +139,7 @@ pub extern "C" fn grumpy_run(
         report.new result }
 {
     if report.len() < 6 {
-        return 40;
+        return SHORT_MEMORY;
     }
     let answer = grumpy::run(edition, source, table, work, out, allowance);
     report_ran(report, answer)
@@ -154,7 +157,7 @@ pub extern "C" fn grumpy_write(
         report.old table.new out.new report.new result }
 {
     if report.len() < 3 {
-        return 40;
+        return SHORT_MEMORY;
     }
     let answer = grumpy::write(edition, source, table, out);
     report_wrote(report, answer)
@@ -172,7 +175,7 @@ pub extern "C" fn grumpy_store(
         report.old table.new out.new report.new result }
 {
     if report.len() < 3 {
-        return 40;
+        return SHORT_MEMORY;
     }
     let answer = grumpy::store(edition, source, table, out);
     report_wrote(report, answer)
@@ -189,7 +192,7 @@ pub extern "C" fn grumpy_check_stored(
         table.new report.new result }
 {
     if report.len() < 3 {
-        return 40;
+        return SHORT_MEMORY;
     }
     let answer = grumpy::check_stored(edition, stored, table);
     report_checked(report, answer)
@@ -210,7 +213,7 @@ pub extern "C" fn grumpy_run_stored(
         report.new result }
 {
     if report.len() < 6 {
-        return 40;
+        return SHORT_MEMORY;
     }
     let answer = grumpy::run_stored(edition, stored, table, work, out, allowance);
     report_ran(report, answer)
@@ -294,7 +297,7 @@ pub extern "C" fn grumpy_check_pair(
         report.old table.new report.new result }
 {
     if report.len() < 6 {
-        return 40;
+        return SHORT_MEMORY;
     }
     let answer = grumpy::check_pair(edition, first, second, table);
     report_pair_checked(report, answer)
@@ -316,7 +319,7 @@ pub extern "C" fn grumpy_run_pair(
         out.new report.new result }
 {
     if report.len() < 9 {
-        return 40;
+        return SHORT_MEMORY;
     }
     let answer = grumpy::run_pair(edition, first, second, table, work, out, allowance);
     report_pair_ran(report, answer)

@@ -2,6 +2,7 @@
 ghost use Rattle.std.specs.Prelude.{◌≤◌, length};
 ghost use Rattle.grumpy_c.specs.Profilings.{PROFILE, ToldProfiled, ProfiledC};
 
+use crate::SHORT_MEMORY;
 use crate::reports::write_profile_report;
 use grumpy::answers::Profiled;
 
@@ -36,7 +37,7 @@ pub extern "C" fn grumpy_profile(
         table.new report.new result }
 {
     if report.len() < PROFILE {
-        return 40;
+        return SHORT_MEMORY;
     }
     let answer = grumpy::profile(edition, source, table);
     report_profiled(report, answer)

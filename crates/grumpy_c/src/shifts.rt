@@ -5,7 +5,6 @@ ghost use Rattle.language.specs.Shift.{shift_number};
 ghost use Rattle.shift.specs.Meanings.{why_meant, admission_meant, over_told, keeps_all};
 ghost use Rattle.numbers.specs.Meanings.{refusal_meant};
 ghost use Rattle.pairs.specs.Spots.{meant};
-ghost use Rattle.language.specs.Answers.{keeps};
 ghost use Rattle.tally.specs.Stands.{report_in};
 ghost use Rattle.grumpy_c.specs.Words.{with_front};
 ghost use Rattle.grumpy_c.specs.States.{STATE};
@@ -14,10 +13,10 @@ ghost use Rattle.grumpy_c.specs.Shifts.{ending_number, report_words, Left, refus
 ghost use Rattle.grumpy_c.specs.Shifts.{FinishedC};
 
 use crate::states::STATE;
-use crate::{states, words};
+use crate::{SHORT_MEMORY, states, words};
 use numbers::Refusal;
 use pairs::Spot;
-use shift::{Admission, Ending, State, Why};
+use shift::{Admission, Denied, Ending, State, Why};
 use tally::sums::Sums;
 
 // Words of the three reports.
@@ -27,54 +26,38 @@ const FEED: usize = 1;
 
 pub const FINISH: usize = 15;
 
+// Numbers that no sheet is refused with.
+const MANY_LINES: u32 = 46;
+
+const NO_BOOK: u32 = 47;
+
 fn number_of(why: Why) -> u32
     ensures { result ≡ shift_number (why_meant why) }
 {
     match why {
         Why::Sheet(refusal) => numbers::of_refusal(refusal),
-        Why::NoBook => 47,
-        Why::ManyLines => 46,
+        Why::NoBook => NO_BOOK,
+        Why::ManyLines => MANY_LINES,
     }
 }
 
 fn over_number(over: bool) -> u32
     ensures { result ≡ told_number (over_told over) }
 {
-    if over { 46 } else { 0 }
+    if over { MANY_LINES } else { 0 }
 }
 
 // After a refusal for lent memory all is left as it was.
-fn keeps(refusal: Refusal) -> bool
-    ensures { result ≡ keeps (refusal_meant refusal) }
-{
-    match refusal {
-        Refusal::ShortMemory => true,
-        Refusal::LargeAllowance => false,
-        Refusal::NoEdition => false,
-        Refusal::LongSource => false,
-        Refusal::Text(_) => false,
-        Refusal::NoReading => false,
-        Refusal::Types(_) => false,
-        Refusal::LongText => false,
-        Refusal::NotHexadecimal => false,
-        Refusal::WrongCount => false,
-        Refusal::NotOneToken => false,
-        Refusal::EndlessNode => false,
-        Refusal::ManyUnits => false,
-    }
-}
-
 fn keeps_all(told: Admission) -> bool
     ensures { result ≡ keeps_all (admission_meant told).told }
 {
-    match told {
-        Admission::Granted => false,
-        Admission::Refused(why, _) => match why {
-            Why::Sheet(refusal) => keeps(refusal),
-            Why::NoBook => false,
-            Why::ManyLines => false,
-        },
-    }
+    matches!(
+        told,
+        Err(Denied {
+            why: Why::Sheet(Refusal::ShortMemory),
+            ..
+        })
+    )
 }
 
 // The state after a refusal that leaves it, or a new one.
@@ -89,13 +72,11 @@ fn leave(words: &mut [u64], state: State, kept: bool)
 }
 
 // The place in a book of so many bytes.
+#[tactic(auto, unfolding(crate::specs::Shifts::book_place))]
 fn book_place(long: usize, spot: Spot) -> usize
     ensures { result ≡ book_place long (meant spot) }
 {
-    if spot.sheet == 2 {
-        return long;
-    }
-    spot.at
+    if spot.sheet == 2 { long } else { spot.at }
 }
 
 fn tell_begun(report: &mut [u64], long: usize, told: Admission) -> u32
@@ -104,16 +85,14 @@ fn tell_begun(report: &mut [u64], long: usize, told: Admission) -> u32
         with_front report.old (result ∷ book_place long (admission_meant told).place ∷ [])) }
 {
     match told {
-        Admission::Granted => {
-            let front = [0, 0];
-            words::put(report, &front);
+        Ok(()) => {
+            words::put(report, &[0, 0]);
             0
         }
-        Admission::Refused(why, spot) => {
-            let number = number_of(why);
-            let place = book_place(long, spot);
-            let front = [number as u64, place as u64];
-            words::put(report, &front);
+        Err(denied) => {
+            let number = number_of(denied.why);
+            let place = book_place(long, denied.spot);
+            words::put(report, &[number as u64, place as u64]);
             number
         }
     }
@@ -133,11 +112,8 @@ pub extern "C" fn grumpy_shift_begin(
         state.old report.old table.new work.new state.new
         report.new result }
 {
-    if state.len() < STATE {
-        return 40;
-    }
-    if report.len() < BEGIN {
-        return 40;
+    if state.len() < STATE || report.len() < BEGIN {
+        return SHORT_MEMORY;
     }
     let answer = shift::begin(edition, book, table, work, allowance);
     let told = answer.told;
@@ -149,17 +125,8 @@ fn fed_number(told: Admission, over: bool) -> u32
     ensures { result ≡ fed_number told over }
 {
     match told {
-        Admission::Granted => over_number(over),
-        Admission::Refused(why, _) => number_of(why),
-    }
-}
-
-fn is_refusal(told: Admission) -> bool
-    ensures { result ≡ refuses told }
-{
-    match told {
-        Admission::Granted => false,
-        Admission::Refused(_, _) => true,
+        Ok(()) => over_number(over),
+        Err(denied) => number_of(denied.why),
     }
 }
 
@@ -178,20 +145,14 @@ pub extern "C" fn grumpy_shift_feed(
         out.old state.old report.old table.new work.new
         out.new state.new report.new result }
 {
-    if state.len() < STATE {
-        return 40;
-    }
-    if report.len() < FEED {
-        return 40;
+    if state.len() < STATE || report.len() < FEED {
+        return SHORT_MEMORY;
     }
     let before = states::read_state(state);
     let answer = shift::feed(edition, book, piece, table, work, out, before);
-    let told = answer.told;
-    let after = answer.state;
-    leave(state, after, is_refusal(told));
-    let number = fed_number(told, after.over);
-    let front = [number as u64];
-    words::put(report, &front);
+    leave(state, answer.state, answer.told.is_err());
+    let number = fed_number(answer.told, answer.state.over);
+    words::put(report, &[number as u64]);
     number
 }
 
@@ -199,8 +160,8 @@ pub fn ending_number(told: Ending) -> u32
     ensures { result ≡ ending_number told }
 {
     match told {
-        Ending::Report { over } => over_number(over),
-        Ending::Refused(refusal) => numbers::of_refusal(refusal),
+        Ok(over) => over_number(over),
+        Err(refusal) => numbers::of_refusal(refusal),
     }
 }
 
@@ -209,41 +170,24 @@ pub fn tell_finished(report: &mut [u64], number: u32, sums: Sums)
     ensures { report.new ≡
         with_front report.old (report_words number (report_in sums)) }
 {
-    let counts = sums.stops;
-    let stops = words::wide(counts);
-    let front = [
-        number as u64,
-        sums.lines as u64,
-        sums.bad as u64,
-        stops[0],
-        stops[1],
-        stops[2],
-        stops[3],
-        stops[4],
-        stops[5],
-        stops[6],
-        stops[7],
-        stops[8],
-        words::complement(sums.sum),
-        words::complement(sums.least),
-        words::complement(sums.largest),
+    let before = [number as u64, sums.lines as u64, sums.bad as u64];
+    let behind = [
+        sums.sum.cast_unsigned(),
+        sums.least.cast_unsigned(),
+        sums.largest.cast_unsigned(),
     ];
-    words::put(report, &front);
+    words::put_around(report, &before, sums.stops, &behind);
 }
 
 #[unsafe(no_mangle)]
 pub extern "C" fn grumpy_shift_finish(edition: u32, state: &[u64], report: &mut [u64]) -> u32
     ensures { FinishedC edition state.now report.old report.new result }
 {
-    if state.len() < STATE {
-        return 40;
-    }
-    if report.len() < FINISH {
-        return 40;
+    if state.len() < STATE || report.len() < FINISH {
+        return SHORT_MEMORY;
     }
     let finished = shift::finish(edition, states::read_state(state));
-    let told = finished.told;
-    let number = ending_number(told);
+    let number = ending_number(finished.told);
     tell_finished(report, number, finished.sums);
     number
 }

@@ -33,7 +33,7 @@ use Rattle.grumpy.proofs.Leaving.{checked_left}
 use Rattle.outlines.specs.declared.Found.{Found}
 use Rattle.outlines.specs.Reports.{outlined_report}
 use Rattle.shift.specs.declared.Why.{Why}
-use Rattle.shift.specs.declared.Admission.{Admission}
+use Rattle.shift.specs.Meanings.{Admission}
 use Rattle.shift.specs.Meanings.{lent, keeps_all, left_by}
 use Rattle.shift.specs.Admitting.{AskedOfRoom, AskedOfBook, AskedOfText, Asked}
 
@@ -92,7 +92,7 @@ module _ (ed : ℕ) (book table table' : List ℕ) (long : TABLE ≤ length tabl
   most_left : (r : CheckedAt Spot) → Most r → table' ≡ cleared TABLE table
   most_left r c = c.table_left ∙ checked_left (pair_in_lawful ed book LARGEST_CALL) long c.answer TABLE table
 
-  pub room_passed : (n : ℕ) → Most (Ok n) → AskedOfRoom ed book table Admission.Granted table'
+  pub room_passed : (n : ℕ) → Most (Ok n) → AskedOfRoom ed book table (Ok tt) table'
   unfolding Some
   room_passed n c = record {
     told = λ l e f p b. admit e f p b (checked_passed (pair_in ed book LARGEST_CALL) (length table) _ c.answer refl).3.given;
@@ -100,7 +100,7 @@ module _ (ed : ℕ) (book table table' : List ℕ) (long : TABLE ≤ length tabl
   }
 
   pub room_refused : (y : Code.Refusal) (x : Spot) → Most (Err (record { why = y; place = x }))
-      → AskedOfRoom ed book table (Admission.Refused (Why.Sheet y) x) table'
+      → AskedOfRoom ed book table (Err (record { why = Why.Sheet y; spot = x })) table'
   room_refused y x c = record {
     told = λ l e f p b.
         admit_no_room e f p b
@@ -154,7 +154,7 @@ module _ (ed : ℕ) (book table table₁ : List ℕ) (long : TABLE ≤ length ta
   }
 
   pub no_book_found : (a b : Bool) (x : Spot) → Drawn (Ok (record { alone = a; there = b })) → (a ≡ false) ⊎ (b ≡ false) → meant x ≡ front
-      → AskedOfBook ed book table (Admission.Refused Why.NoBook x) table₁
+      → AskedOfBook ed book table (Err (record { why = Why.NoBook; spot = x })) table₁
   no_book_found a b x c e f = record {
     told = λ l g h y. subst (λ (z : Place). Admits ed book l (turned_away no_book z)) (sym f) (admit_no_book g h y (found_none a b y c.answer e));
     left = drawn_left (Ok (record { alone = a; there = b })) c;
@@ -162,7 +162,7 @@ module _ (ed : ℕ) (book table table₁ : List ℕ) (long : TABLE ≤ length ta
 
   -- it can't be refused, since it passes
   pub book_refused : (y : Code.Refusal) (x : Spot) → Drawn (Err y)
-      → AskedOfBook ed book table (Admission.Refused (Why.Sheet y) x) table₁
+      → AskedOfBook ed book table (Err (record { why = Why.Sheet y; spot = x })) table₁
   book_refused y x c = record {
     told = λ l g h p.
         let z = outlined_refused (pair_in ed book ZERO) (length table) PAY_WANTED _ long c.answer refl in
@@ -188,7 +188,7 @@ module _ (ed : ℕ) (book table table₁ : List ℕ) (long : TABLE ≤ length ta
   }
 
   pub text_refused : (y : Code.Refusal) (x : Spot) → Zero (Err (record { why = y; place = x }))
-      → AskedOfText ed book table (Admission.Refused (Why.Sheet y) x) table₁
+      → AskedOfText ed book table (Err (record { why = Why.Sheet y; spot = x })) table₁
   text_refused y x c = record {
     told = λ l e f. admit_refused e f (checked_refused (pair_in ed book ZERO) (length table) _ long c.answer refl);
     left = zero_left (Err (record { why = y; place = x })) c;
@@ -212,13 +212,13 @@ module _ (ed : ℕ) (book table work : List ℕ) (allowance : ℕ) where
   at_front y x l e a = subst (λ (z : Place). Admits ed book l (turned_away (sheet y) z)) (sym e) a
 
   pub asked_short : (x : Spot) → (length table < TABLE) ⊎ (length work < WORK) → meant x ≡ front
-      → Asked ed book table work allowance (Admission.Refused (Why.Sheet Code.Refusal.ShortMemory) x) table work
+      → Asked ed book table work allowance (Err (record { why = Why.Sheet Code.Refusal.ShortMemory; spot = x })) table work
   unfolding left_by
   asked_short x h e = record { told = λ o. at_front _ x _ e (admit_short h); table_left = refl; work_left = refl }
 
   pub asked_large : (x : Spot) (table' work' : List ℕ) → TABLE ≤ length table → WORK ≤ length work → ALLOWANCE < allowance → meant x ≡ front
       → table' ≡ cleared TABLE table → work' ≡ cleared WORK work
-      → Asked ed book table work allowance (Admission.Refused (Why.Sheet Code.Refusal.LargeAllowance) x) table' work'
+      → Asked ed book table work allowance (Err (record { why = Why.Sheet Code.Refusal.LargeAllowance; spot = x })) table' work'
   unfolding left_by
   asked_large x table' work' a b h e t w =
       record { told = λ o. at_front _ x _ e (admit_large (record { table = a; work = b }) h); table_left = t; work_left = w }

@@ -1,4 +1,5 @@
 -- Two parts told together: what the proofs of `combine` and its helpers cite.
+use Rattle.std.specs.Prelude.{Ok, Err}
 use lib.ListN.{get_or}
 use mathlib.Core.Bool.{Bool, true, false}
 use mathlib.Core.Option.{some}
@@ -13,7 +14,7 @@ use Rattle.tally.specs.Combining.{Both}
 use Rattle.tally.specs.Stands.{stop_at, report_in}
 use Rattle.tally.specs.Sums.{no_sums}
 use Rattle.tally.specs.declared.sums.Sums.{Sums}
-use Rattle.shift.specs.declared.Ending.{Ending}
+use Rattle.shift.specs.Meanings.{Ending}
 use Rattle.shift.specs.declared.Finished.{Finished}
 use Rattle.shift.specs.Combining.{ending_meant, Tells, Together, Combine}
 
@@ -55,10 +56,10 @@ without e s {w} q h = subst (λ (s : Sums). Tells record { told = e; sums = s } 
 
 module _ (a b : Sums) where
   pub added : {s : Sums} {t : Bool} → t ≡ addable (report_in a) (report_in b) → t ≡ true → Both a b s
-      → Together a b record { told = Ending.Report false; sums = s }
+      → Together a b record { told = Ok false; sums = s }
   unfolding together
   added {s} e h x = record {
-    tells = rw (sym e ∙ h) (λ i. record { told = ending_meant (Ending.Report false); report = x.reports i });
+    tells = rw (sym e ∙ h) (λ i. record { told = ending_meant (Ok false); report = x.reports i });
     paid = x.paid;
     nine = x.nine;
   }
@@ -70,27 +71,27 @@ module _ (a b : Sums) where
 -- ---- by what is told of each
 
 module _ (first second r : Finished) where
-  pub by_first : {y : Refusal} → first.told ≡ Ending.Refused y → Tells r (without_sums (sheet (refusal_meant y))) → Combine first second r
+  pub by_first : {y : Refusal} → first.told ≡ Err y → Tells r (without_sums (sheet (refusal_meant y))) → Combine first second r
   by_first e x = rw e x
 
-  pub by_second : {y : Refusal} (over : Bool) → first.told ≡ Ending.Report over → second.told ≡ Ending.Refused y
+  pub by_second : {y : Refusal} (over : Bool) → first.told ≡ Ok over → second.told ≡ Err y
       → Tells r (without_sums (sheet (refusal_meant y))) → Combine first second r
   by_second true e f x = rw (e, f) x
   by_second false e f x = rw (e, f) x
 
-  pub first_over : (over also : Bool) → first.told ≡ Ending.Report over → second.told ≡ Ending.Report also → over ≡ true
+  pub first_over : (over also : Bool) → first.told ≡ Ok over → second.told ≡ Ok also → over ≡ true
       → Tells r (without_sums many_lines) → Combine first second r
   first_over true true e f h x = rw (e, f) x
   first_over true false e f h x = rw (e, f) x
   first_over false also e f h x = absurd (clash h refl)
 
-  pub second_over : (over also : Bool) → first.told ≡ Ending.Report over → second.told ≡ Ending.Report also → over ≡ false → also ≡ true
+  pub second_over : (over also : Bool) → first.told ≡ Ok over → second.told ≡ Ok also → over ≡ false → also ≡ true
       → Tells r (without_sums many_lines) → Combine first second r
   second_over true also e f h k x = absurd (clash refl h)
   second_over false true e f h k x = rw (e, f) x
   second_over false false e f h k x = absurd (clash k refl)
 
-  pub neither_over : (over also : Bool) → first.told ≡ Ending.Report over → second.told ≡ Ending.Report also → over ≡ false → also ≡ false
+  pub neither_over : (over also : Bool) → first.told ≡ Ok over → second.told ≡ Ok also → over ≡ false → also ≡ false
       → Together first.sums second.sums r → Combine first second r
   neither_over true also e f h k x = absurd (clash refl h)
   neither_over false true e f h k x = absurd (clash refl k)

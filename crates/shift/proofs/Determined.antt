@@ -1,5 +1,6 @@
 -- The contracts of a shift determine the answers, whatever is given: no two answers of begin, of feed, of finish or of combine,
 -- and no two states, memories or outputs, meet them for the same input. An answer can be told from what it means.
+use Rattle.std.specs.Prelude.{Ok, Err}
 use lib.IntN.{ℤ}
 use lib.ListN.{length, get_or}
 use lib.Seq.{ext_get_or}
@@ -20,9 +21,9 @@ use Rattle.numbers.proofs.Apart.{refusal_of, refusal_back}
 use Rattle.pairs.specs.declared.Spot.{Spot}
 use Rattle.tally.specs.Stands.{stop_at, report_in}
 use Rattle.tally.specs.declared.sums.Sums.{Sums}
-use Rattle.shift.specs.declared.Admission.{Admission}
+use Rattle.shift.specs.Meanings.{Admission}
 use Rattle.shift.specs.declared.Answer.{Answer}
-use Rattle.shift.specs.declared.Ending.{Ending}
+use Rattle.shift.specs.Meanings.{Ending}
 use Rattle.shift.specs.declared.Finished.{Finished}
 use Rattle.shift.specs.declared.State.{State}
 use Rattle.shift.specs.declared.Why.{Why}
@@ -48,30 +49,30 @@ abbrev spot_of : Place → Spot
 spot_of x = record { sheet = x.sheet; at = x.at; begin = x.begins; end = x.ends }
 
 abbrev admission_by : Option ShiftRefusal → Place → Admission
-admission_by none x = Admission.Granted
-admission_by (some w) x = Admission.Refused (why_of w) (spot_of x)
+admission_by none x = (Ok tt)
+admission_by (some w) x = Err record { why = why_of w; spot = spot_of x }
 
 abbrev admission_of : Shift.Admission → Admission
 admission_of a = admission_by a.told a.place
 
 admission_back : (a : Admission) → admission_of (admission_meant a) ≡ a
-admission_back Admission.Granted = refl
-admission_back (Admission.Refused w x) = ap (λ (w : Why). Admission.Refused w x) (why_back w)
+admission_back (Ok u) = refl
+admission_back (Err d) = ap (λ (w : Why). Err record { why = w; spot = d.spot }) (why_back d.why)
 
 pub same_admission : (a b : Admission) → admission_meant a ≡ admission_meant b → a ≡ b
 same_admission a b e = sym (admission_back a) ∙ ap admission_of e ∙ admission_back b
 
 -- no ending tells that there is no book
 abbrev ending_of : Option ShiftRefusal → Ending
-ending_of none = Ending.Report false
-ending_of (some (sheet r)) = Ending.Refused (refusal_of r)
-ending_of (some no_book) = Ending.Report true
-ending_of (some many_lines) = Ending.Report true
+ending_of none = Ok false
+ending_of (some (sheet r)) = Err (refusal_of r)
+ending_of (some no_book) = Ok true
+ending_of (some many_lines) = Ok true
 
 ending_back : (e : Ending) → ending_of (ending_meant e) ≡ e
-ending_back (Ending.Report true) = refl
-ending_back (Ending.Report false) = refl
-ending_back (Ending.Refused r) = ap Ending.Refused (refusal_back r)
+ending_back (Ok true) = refl
+ending_back (Ok false) = refl
+ending_back (Err r) = ap Err (refusal_back r)
 
 same_ending : (a b : Ending) → ending_meant a ≡ ending_meant b → a ≡ b
 same_ending a b e = sym (ending_back a) ∙ ap ending_of e ∙ ending_back b
@@ -93,7 +94,7 @@ module _ {edition : ℕ} {book table work : List ℕ} {allowance : ℕ} {t' w' t
 
 -- ---- feed
 
-granted_not : {w : Why} {x : Spot} {A : Type 0} → ◌≡◌ {A = Admission} Admission.Granted (Admission.Refused w x) → A
+granted_not : {w : Why} {x : Spot} {A : Type 0} → ◌≡◌ {A = Admission} (Ok tt) (Err (record { why = w; spot = x })) → A
 granted_not e = let z : ◌≡◌ {A = ℕ} 0 1 = cc in absurd (omega arith)
 
 one_feeding : {edition : ℕ} {book piece out o' o'' : List ℕ} {s t u : State} {a b : Admission} → Feeds edition book piece out s o' a t

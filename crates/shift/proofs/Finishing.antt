@@ -1,4 +1,5 @@
 -- What is told in the end is the written report of what the state stands for (R14.6, R14.8).
+use Rattle.std.specs.Prelude.{Ok, Err}
 use lib.ListN.{length, take}
 use mathlib.Core.Bool.{Bool, true, false, cond, false≢true}
 use mathlib.Core.List.{List, [], ◌∷◌, ◌++◌, append-nil}
@@ -22,7 +23,7 @@ use Rattle.shift.specs.declared.State.{State}
 use Rattle.shift.specs.Meanings.{closed_sums, over_told}
 use Rattle.shift.specs.After.{After, Reports}
 use Rattle.shift.specs.Taking.{needed}
-use Rattle.shift.specs.declared.Ending.{Ending}
+use Rattle.shift.specs.Meanings.{Ending}
 use Rattle.shift.specs.Promises.{Finish, finished, no_edition}
 use Rattle.shift.proofs.Kept.{some_begun, none_begun}
 use Rattle.shift.proofs.Sound.{Fits, begun_fits, fed_fits}
@@ -84,18 +85,18 @@ module _ (state : State) where
   closed_still b e f g = rw (e, sym f, g)
 
   module _ (n : ℕ) (k : Bool) (known : k ≡ is_known n) (sums : Sums) where
-    pub finish_known : k ≡ true → sums ≡ closed_sums state → Finish n state (Ending.Report state.over) sums
+    pub finish_known : k ≡ true → sums ≡ closed_sums state → Finish n state (Ok state.over) sums
     unfolding is_known
     finish_known e f = by (edition n) refl
       where
-        by : (o : Option Vocabulary) → edition n ≡ o → Finish n state (Ending.Report state.over) sums
+        by : (o : Option Vocabulary) → edition n ≡ o → Finish n state (Ok state.over) sums
         by none g = absurd (false≢true (sym (ap is_some g) ∙ sym known ∙ e))
-        by (some v) g = subst (Finish n state (Ending.Report state.over)) (sym f) (finished g)
+        by (some v) g = subst (Finish n state (Ok state.over)) (sym f) (finished g)
 
-    pub finish_unknown : k ≡ false → sums ≡ no_sums → Finish n state (Ending.Refused Refusal.NoEdition) sums
+    pub finish_unknown : k ≡ false → sums ≡ no_sums → Finish n state (Err Refusal.NoEdition) sums
     unfolding is_known
     finish_unknown e f = by (edition n) refl
       where
-        by : (o : Option Vocabulary) → edition n ≡ o → Finish n state (Ending.Refused Refusal.NoEdition) sums
-        by none g = subst (Finish n state (Ending.Refused Refusal.NoEdition)) (sym f) (no_edition g)
+        by : (o : Option Vocabulary) → edition n ≡ o → Finish n state (Err Refusal.NoEdition) sums
+        by none g = subst (Finish n state (Err Refusal.NoEdition)) (sym f) (no_edition g)
         by (some v) g = absurd (false≢true (sym e ∙ known ∙ ap is_some g))

@@ -1,5 +1,6 @@
 -- A shift that was begun, fed piece by piece and finished tells the written report of the whole input, however it was cut, and
 -- whatever was lent to each piece: any memory that is enough, and an output of the same length with anything in it (R14.5, R14.8).
+use Rattle.std.specs.Prelude.{Ok}
 use lib.ListN.{length}
 use mathlib.Core.Bool.{Bool}
 use mathlib.Core.List.{List, [], ◌∷◌, ◌++◌}
@@ -7,9 +8,9 @@ use mathlib.Core.Path.{◌≡◌, refl, sym, ap, subst, ◌∙◌}
 use Prim.Native.Nat.{ℕ}
 use native.Mathlib.Omega.{arith}
 use Rattle.tally.specs.declared.sums.Sums.{Sums}
-use Rattle.shift.specs.declared.Admission.{Admission}
+use Rattle.shift.specs.Meanings.{Admission}
 use Rattle.shift.specs.declared.Answer.{Answer}
-use Rattle.shift.specs.declared.Ending.{Ending}
+use Rattle.shift.specs.Meanings.{Ending}
 use Rattle.shift.specs.declared.State.{State}
 use Rattle.shift.specs.Meanings.{new_state}
 use Rattle.shift.specs.After.{After, Reports}
@@ -33,7 +34,7 @@ pub record Fed (edition : ℕ) (book : List ℕ) (room : ℕ) (piece : List ℕ)
   pub work_left : List ℕ
   pub out_left : List ℕ
   pub long : length out ≡ room
-  pub fed : Feed edition book piece table work out s record { told = Admission.Granted; state = e } table_left work_left out_left
+  pub fed : Feed edition book piece table work out s record { told = (Ok tt); state = e } table_left work_left out_left
 
 -- one after the other
 pub data Pieces (edition : ℕ) (book : List ℕ) (room : ℕ) : State → List (List ℕ) → State → Type 0 where
@@ -41,7 +42,7 @@ pub data Pieces (edition : ℕ) (book : List ℕ) (room : ℕ) : State → List 
   one_piece : {s m e : State} {piece : List ℕ} {pieces : List (List ℕ)} → Fed edition book room piece s m
       → Pieces edition book room m pieces e → Pieces edition book room s (piece ∷ pieces) e
 
-granted : {edition : ℕ} {book piece out out' : List ℕ} {s e : State} {a : Admission} → Feeds edition book piece out s out' a e → a ≡ Admission.Granted
+granted : {edition : ℕ} {book piece out out' : List ℕ} {s e : State} {a : Admission} → Feeds edition book piece out s out' a e → a ≡ (Ok tt)
     → (lines : List EndedLine) × Takes edition book (length out) s piece lines e × (out' ≡ printed_over out lines)
 granted (feeds t e) g = (_, t, e)
 granted (turned e) g = let z : ◌≡◌ {A = ℕ} 0 1 = cc in absurd (omega arith)
@@ -78,7 +79,7 @@ module _ {edition : ℕ} {book : List ℕ} {room : ℕ} where
 -- ---- from begin to finish
 
 finish_reports : {ed : ℕ} {book : List ℕ} {room : ℕ} {input : List ℕ} {n : ℕ} {s : State} {a : Ending} {sums : Sums} {over : Bool} → Finish n s a sums
-    → a ≡ Ending.Report over → After ed book room input s → Reports ed book room s.allowance input over sums
+    → a ≡ Ok over → After ed book room input s → Reports ed book room s.allowance input over sums
 finish_reports {ed} {book} {room} {input} {s = s} {sums = sums} {over} (finished v) e x =
     let z : s.over ≡ over = cc in
     subst (λ (over : Bool). Reports ed book room s.allowance input over sums) z (reports x)
@@ -87,7 +88,7 @@ finish_reports (no_edition v) e x = let z : ◌≡◌ {A = ℕ} 0 1 = cc in absu
 -- Begun, fed and finished by whatever meets the three contracts: a report that is told is the written one.
 pub in_pieces : {edition : ℕ} {book table work t' w' : List ℕ} {allowance room : ℕ} {b : Answer} {pieces : List (List ℕ)} {e : State} {n : ℕ} {over : Bool}
     {sums : Sums} → Begin edition book table work allowance b t' w' → Pieces edition book room b.state pieces e
-    → Finish n e (Ending.Report over) sums → Reports edition book room allowance (whole pieces) over sums
+    → Finish n e (Ok over) sums → Reports edition book room allowance (whole pieces) over sums
 in_pieces {edition} {book} {allowance = allowance} {room} {b} {pieces} {e} {over = over} {sums} x p y =
     let z = pieces_taken p in
     let t = subst (λ (s : State). Takes edition book room s (whole pieces) z.0 e) x.state z.1 in
@@ -104,7 +105,7 @@ in_pieces {edition} {book} {allowance = allowance} {room} {b} {pieces} {e} {over
 pub data Through (edition : ℕ) (book : List ℕ) : State → List ℕ → List (List ℕ) → State → List ℕ → Type 0 where
   no_more : {s : State} {out : List ℕ} → Through edition book s out [] s out
   one_more : {s m e : State} {table work table' work' out out₁ out₂ piece : List ℕ} {pieces : List (List ℕ)} → length out₁ ≡ length out
-      → Feed edition book piece table work out s record { told = Admission.Granted; state = m } table' work' out₁
+      → Feed edition book piece table work out s record { told = (Ok tt); state = m } table' work' out₁
       → Through edition book m out₁ pieces e out₂ → Through edition book s out (piece ∷ pieces) e out₂
 
 -- then in the end lies what the lines of the whole input printed

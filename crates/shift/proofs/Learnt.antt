@@ -22,7 +22,7 @@ use Rattle.grumpy.specs.Reports.{CheckedAt, pair_checked_report}
 use Rattle.outlines.specs.declared.Found.{Found}
 use Rattle.outlines.specs.Reports.{outlined_report}
 use Rattle.shift.specs.declared.Why.{Why}
-use Rattle.shift.specs.declared.Admission.{Admission}
+use Rattle.shift.specs.Meanings.{Admission}
 use Rattle.shift.specs.Admitting.{AskedOfRoom, AskedOfBook, AskedOfText}
 use Rattle.shift.proofs.Admitting.{room_passed, room_refused, book_found, no_book_found, book_refused, text_passed, text_refused}
 
@@ -42,11 +42,11 @@ module _ (ed : ℕ) (book table table₁ : List ℕ) (long : TABLE ≤ length ta
   largest k c = subst (λ (under : List ℕ). Answers under k) largest_call c
 
   pub room_is_passed : (k : CheckedAt Spot) (n : ℕ) → Answers WRITTEN k → k ≡ Ok n
-      → AskedOfRoom ed book table Admission.Granted table₁
+      → AskedOfRoom ed book table (Ok tt) table₁
   room_is_passed k n c e = room_passed ed book table table₁ long n (subst (Answers LARGEST_CALL) e (largest k c))
 
   pub room_is_refused : (k : CheckedAt Spot) (y : Code.Refusal) (x : Spot) → Answers WRITTEN k → k ≡ Err (record { why = y; place = x })
-      → AskedOfRoom ed book table (Admission.Refused (Why.Sheet y) x) table₁
+      → AskedOfRoom ed book table (Err (record { why = Why.Sheet y; spot = x })) table₁
   room_is_refused k y x c e = room_refused ed book table table₁ long y x (subst (Answers LARGEST_CALL) e (largest k c))
 
   pub text_is_passed : (k : CheckedAt Spot) (n : ℕ) (r : Admission) (table' : List ℕ) → Answers ZERO k → k ≡ Ok n
@@ -54,7 +54,7 @@ module _ (ed : ℕ) (book table table₁ : List ℕ) (long : TABLE ≤ length ta
   text_is_passed k n r table' c e q = text_passed ed book table table₁ long n r table' (subst (Answers ZERO) e c) q
 
   pub text_is_refused : (k : CheckedAt Spot) (y : Code.Refusal) (x : Spot) → Answers ZERO k → k ≡ Err (record { why = y; place = x })
-      → AskedOfText ed book table (Admission.Refused (Why.Sheet y) x) table₁
+      → AskedOfText ed book table (Err (record { why = Why.Sheet y; spot = x })) table₁
   text_is_refused k y x c e = text_refused ed book table table₁ long y x (subst (Answers ZERO) e c)
 
   abbrev Draws : Result Found Code.Refusal → Type 0
@@ -65,11 +65,11 @@ module _ (ed : ℕ) (book table table₁ : List ℕ) (long : TABLE ≤ length ta
   book_is_found k a b r table' c e f g q = book_found ed book table table₁ long a b r table' (subst Draws e c) f g q
 
   pub no_book_is_found : (k : Result Found Code.Refusal) (a b : Bool) (x : Spot) → Draws k → k ≡ Ok (record { alone = a; there = b }) → (a ≡ false) ⊎ (b ≡ false)
-      → meant x ≡ front → AskedOfBook ed book table (Admission.Refused Why.NoBook x) table₁
+      → meant x ≡ front → AskedOfBook ed book table (Err (record { why = Why.NoBook; spot = x })) table₁
   no_book_is_found k a b x c e f g = no_book_found ed book table table₁ long a b x (subst Draws e c) f g
 
   pub book_is_refused : (k : Result Found Code.Refusal) (y : Code.Refusal) (x : Spot) → Draws k → k ≡ Err y
-      → AskedOfBook ed book table (Admission.Refused (Why.Sheet y) x) table₁
+      → AskedOfBook ed book table (Err (record { why = Why.Sheet y; spot = x })) table₁
   book_is_refused k y x c e = book_refused ed book table table₁ long y x (subst Draws e c)
 
 -- as long as before

@@ -1,4 +1,5 @@
 -- A piece that is fed: what is lent to its lines, once the book was asked for again, and what comes of both.
+use Rattle.std.specs.Prelude.{Ok, Err}
 use lib.ListN.{length}
 use mathlib.Core.List.{List}
 use mathlib.Core.Option.{Option, none, some}
@@ -12,7 +13,7 @@ use Rattle.language.specs.Shift as Shift
 use Rattle.pairs.specs.declared.Spot.{Spot}
 use Rattle.shift.specs.declared.State.{State}
 use Rattle.shift.specs.declared.Why.{Why}
-use Rattle.shift.specs.declared.Admission.{Admission}
+use Rattle.shift.specs.Meanings.{Admission}
 use Rattle.shift.specs.Meanings.{granted, lent, left_by}
 use Rattle.shift.specs.Admitting.{Asked}
 use Rattle.shift.specs.Feeding.{Lends, Goes}
@@ -36,7 +37,7 @@ module _ (ed : ℕ) (book table work table₁ work₁ out : List ℕ) (state : S
   abbrev Asks : Admission → Type 0
   Asks r = Asked ed book table work state.allowance r table₁ work₁
 
-  module _ (q : Asks Admission.Granted) where
+  module _ (q : Asks (Ok tt)) where
     held : Enough (lent table work (length out) state.allowance)
     held = enough (q.told (length out)) refl
 
@@ -64,13 +65,13 @@ module _ (ed : ℕ) (book table work table₁ work₁ out : List ℕ) (state : S
 
   -- ---- by what the code finds
 
-  pub lends : (r : Admission) → Asks r → r ≡ Admission.Granted → Lends ed book table₁ work₁ out state.allowance
+  pub lends : (r : Admission) → Asks r → r ≡ (Ok tt) → Lends ed book table₁ work₁ out state.allowance
   lends r q e = granted_lends (subst Asks e q)
 
   module _ (piece : List ℕ) (r : Admission) (q : Asks r) where
-    pub feed_granted : (after : State) (table' work' out' : List ℕ) → r ≡ Admission.Granted
+    pub feed_granted : (after : State) (table' work' out' : List ℕ) → r ≡ (Ok tt)
         → Goes ed book piece table₁ work₁ out state after table' work' out'
-        → Feed ed book piece table work out state record { told = Admission.Granted; state = after } table' work' out'
+        → Feed ed book piece table work out state record { told = (Ok tt); state = after } table' work' out'
     feed_granted after table' work' out' e g =
         let x = subst Asks e q in
         record {
@@ -80,8 +81,8 @@ module _ (ed : ℕ) (book table work table₁ work₁ out : List ℕ) (state : S
           work_left = g.work_same ∙ x.work_left;
         }
 
-    pub feed_refused : (w : Why) (x : Spot) → r ≡ Admission.Refused w x
-        → Feed ed book piece table work out state record { told = Admission.Refused w x; state = state } table₁ work₁ out
+    pub feed_refused : (w : Why) (x : Spot) → r ≡ Err (record { why = w; spot = x })
+        → Feed ed book piece table work out state record { told = Err (record { why = w; spot = x }); state = state } table₁ work₁ out
     feed_refused w x e =
         let y = subst Asks e q in
         record { admits = y.told (length out); tells = turned refl; table_left = y.table_left; work_left = y.work_left }

@@ -7,7 +7,7 @@ use Rattle.language.specs.Trees.{Ty, Program}
 use Rattle.language.specs.Answers.{Lent, Enough, Passes, cleared}
 use Rattle.language.specs.Edition.{pair_in}
 use Rattle.language.specs.Shift.{Admits, Book, ZERO}
-use Rattle.shift.specs.declared.Admission.{Admission}
+use Rattle.shift.specs.Meanings.{Admission}
 use Rattle.shift.specs.Meanings.{admission_meant, lent, left_by}
 
 module _ (edition : ℕ) (book : List ℕ) where

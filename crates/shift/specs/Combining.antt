@@ -1,4 +1,5 @@
 -- What is told of two parts of a shift together, whatever is handed over as their reports.
+use Rattle.std.specs.Prelude.{Ok, Err}
 use Rattle.std.specs.Prelude.{length, ◌≡◌}
 use Rattle.std.proofs.Math.Option.{Option, some}
 use Rattle.language.specs.Combining.{paid_lines, combined, together}
@@ -7,13 +8,13 @@ use Rattle.language.specs.Shift.{ShiftRefusal, sheet}
 use Rattle.numbers.specs.Meanings.{refusal_meant}
 use Rattle.tally.specs.Stands.{report_in}
 use Rattle.tally.specs.declared.sums.Sums.{Sums}
-use Rattle.shift.specs.declared.Ending.{Ending}
+use Rattle.shift.specs.Meanings.{Ending}
 use Rattle.shift.specs.declared.Finished.{Finished}
 use Rattle.shift.specs.Meanings.{over_told}
 
 abbrev pub ending_meant : Ending → Option ShiftRefusal
-ending_meant (Ending.Report over) = over_told over
-ending_meant (Ending.Refused y) = some (sheet (refusal_meant y))
+ending_meant (Ok over) = over_told over
+ending_meant (Err y) = some (sheet (refusal_meant y))
 
 -- what the code tells in the end
 abbrev pub told_in : Finished → Combining.Ending

@@ -1,4 +1,5 @@
 -- What the code's answers stand for in the written report of a shift, and what is left in lent memory.
+use Rattle.std.specs.Prelude.{Result, Ok, Err}
 use Rattle.std.specs.Prelude.{Bool, false, cond, List, ℕ, length}
 use Rattle.std.proofs.Math.Option.{Option, none, some}
 use Rattle.language.specs.Answers.{keeps, cleared, Lent}
@@ -12,19 +13,27 @@ use Rattle.tally.specs.Sums.{no_sums, with_bad}
 use Rattle.tally.specs.declared.sums.Sums.{Sums}
 use Rattle.shift.specs.declared.State.{State}
 use Rattle.shift.specs.declared.Why.{Why}
-use Rattle.shift.specs.declared.Admission.{Admission}
+use Rattle.shift.specs.declared.Denied.{Denied}
+use Rattle.numbers.specs.declared.Refusal.{Refusal}
 
 abbrev pub why_meant : Why → ShiftRefusal
 why_meant (Why.Sheet r) = sheet (refusal_meant r)
 why_meant Why.NoBook = no_book
 why_meant Why.ManyLines = many_lines
 
+-- what is told of a book before any line; and in the end, whether there was a line too many
+abbrev pub Admission : Type 0
+Admission = Result (Unit {0}) Denied
+
+abbrev pub Ending : Type 0
+Ending = Result Bool Refusal
+
 abbrev pub granted : Shift.Admission
 granted = record { told = none; place = front }
 
 abbrev pub admission_meant : Admission → Shift.Admission
-admission_meant Admission.Granted = granted
-admission_meant (Admission.Refused w x) = turned_away (why_meant w) (meant x)
+admission_meant (Ok u) = granted
+admission_meant (Err d) = turned_away (why_meant d.why) (meant d.spot)
 
 -- what is lent, by its lengths
 abbrev pub lent : List ℕ → List ℕ → ℕ → ℕ → Lent

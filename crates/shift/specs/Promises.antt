@@ -1,4 +1,5 @@
 -- What the three services of a shift promise, whatever they are given.
+use Rattle.std.specs.Prelude.{Ok, Err}
 use Rattle.std.specs.Prelude.{List, ◌≡◌, ℕ, length}
 use Rattle.std.proofs.Math.Option.{none, some}
 use Rattle.language.specs.Sizes.{TABLE, WORK}
@@ -6,14 +7,13 @@ use Rattle.language.specs.Tokens.{Vocabulary}
 use Rattle.language.specs.Edition as Edition
 use Rattle.language.specs.Shift.{Admits}
 use Rattle.numbers.specs.declared.Refusal.{Refusal}
-use Rattle.pairs.specs.declared.Spot.{Spot}
 use Rattle.tally.specs.Sums.{no_sums}
 use Rattle.tally.specs.declared.sums.Sums.{Sums}
 use Rattle.shift.specs.declared.State.{State}
-use Rattle.shift.specs.declared.Why.{Why}
-use Rattle.shift.specs.declared.Admission.{Admission}
+use Rattle.shift.specs.declared.Denied.{Denied}
+use Rattle.shift.specs.Meanings.{Admission}
 use Rattle.shift.specs.declared.Answer.{Answer}
-use Rattle.shift.specs.declared.Ending.{Ending}
+use Rattle.shift.specs.Meanings.{Ending}
 use Rattle.shift.specs.Meanings.{admission_meant, lent, left_by, new_state, closed_sums}
 use Rattle.shift.specs.Taking.{EndedLine, Takes, printed_over}
 
@@ -29,8 +29,8 @@ pub record Begin (edition : ℕ) (book table work : List ℕ) (allowance : ℕ) 
 pub data Feeds (edition : ℕ) (book piece out : List ℕ) (state : State) (out' : List ℕ)
     : Admission → State → Type 0 where
   feeds : {lines : List EndedLine} {state' : State} → Takes edition book (length out) state piece lines state'
-      → out' ≡ printed_over out lines → Feeds edition book piece out state out' Admission.Granted state'
-  turned : {w : Why} {x : Spot} → out' ≡ out → Feeds edition book piece out state out' (Admission.Refused w x) state
+      → out' ≡ printed_over out lines → Feeds edition book piece out state out' (Ok tt) state'
+  turned : {d : Denied} → out' ≡ out → Feeds edition book piece out state out' (Err d) state
 
 pub record Feed (edition : ℕ) (book piece table work out : List ℕ) (state : State) (r : Answer)
     (table' work' out' : List ℕ) : Type 0 where
@@ -43,5 +43,5 @@ pub record Feed (edition : ℕ) (book piece table work out : List ℕ) (state : 
 -- too many
 pub data Finish (edition : ℕ) (state : State) : Ending → Sums → Type 0 where
   finished : {v : Vocabulary} → Edition.edition edition ≡ some v
-      → Finish edition state (Ending.Report state.over) (closed_sums state)
-  no_edition : Edition.edition edition ≡ none → Finish edition state (Ending.Refused Refusal.NoEdition) no_sums
+      → Finish edition state (Ok state.over) (closed_sums state)
+  no_edition : Edition.edition edition ≡ none → Finish edition state (Err Refusal.NoEdition) no_sums

@@ -4,7 +4,7 @@ ghost use Rattle.std.specs.Prelude.{◌≤◌, length};
 ghost use Rattle.language.specs.Sizes.{TABLE};
 ghost use Rattle.shift.specs.Admitting.{Asked, AskedOfText, AskedOfBook, AskedOfRoom};
 
-use crate::{Admission, Why};
+use crate::{Admission, Denied, Why};
 use language::{ALLOWANCE, TABLE, WORK};
 use layout::memory;
 use numbers::Refusal;
@@ -16,10 +16,8 @@ fn room(edition: u32, book: &[u8], table: &mut [u32]) -> Admission
     requires { TABLE ≤ length table.old }
     ensures { AskedOfRoom edition book.now table.old result table.new }
 {
-    match grumpy::check_pair(edition, book, b"pay(2147483647,2147483647)", table) {
-        Ok(_) => Admission::Granted,
-        Err(r) => Admission::Refused(Why::Sheet(r.why), r.place),
-    }
+    grumpy::check_pair(edition, book, b"pay(2147483647,2147483647)", table)?;
+    Ok(())
 }
 
 // A book that passes: its functions, and that nothing stands outside them.
@@ -37,9 +35,15 @@ fn functions(edition: u32, book: &[u8], table: &mut [u32]) -> Admission
             if alone && there {
                 return room(edition, book, table);
             }
-            Admission::Refused(Why::NoBook, front())
+            Err(Denied {
+                why: Why::NoBook,
+                spot: front(),
+            })
         }
-        Err(why) => Admission::Refused(Why::Sheet(why), front()),
+        Err(why) => Err(Denied {
+            why: Why::Sheet(why),
+            spot: front(),
+        }),
     }
 }
 
@@ -48,10 +52,8 @@ fn text(edition: u32, book: &[u8], table: &mut [u32]) -> Admission
     requires { TABLE ≤ length table.old }
     ensures { AskedOfText edition book.now table.old result table.new }
 {
-    match grumpy::check_pair(edition, book, b"0", table) {
-        Ok(_) => functions(edition, book, table),
-        Err(r) => Admission::Refused(Why::Sheet(r.why), r.place),
-    }
+    grumpy::check_pair(edition, book, b"0", table)?;
+    functions(edition, book, table)
 }
 
 pub fn asked(
@@ -64,16 +66,19 @@ pub fn asked(
     ensures { Asked edition book.now table.old work.old allowance result table.new
         work.new }
 {
-    if table.len() < TABLE {
-        return Admission::Refused(Why::Sheet(Refusal::ShortMemory), front());
-    }
-    if work.len() < WORK {
-        return Admission::Refused(Why::Sheet(Refusal::ShortMemory), front());
+    if table.len() < TABLE || work.len() < WORK {
+        return Err(Denied {
+            why: Why::Sheet(Refusal::ShortMemory),
+            spot: front(),
+        });
     }
     memory::clear(work, 0, WORK);
     if ALLOWANCE < allowance {
         memory::clear(table, 0, TABLE);
-        return Admission::Refused(Why::Sheet(Refusal::LargeAllowance), front());
+        return Err(Denied {
+            why: Why::Sheet(Refusal::LargeAllowance),
+            spot: front(),
+        });
     }
     text(edition, book, table)
 }

@@ -21,10 +21,7 @@ fn paid(value: Value) -> Outcome
 {
     match value {
         Value::Int(pay) => Outcome::Paid(pay as i64),
-        Value::Float(_) => Outcome::Bad,
-        Value::Flag(_) => Outcome::Bad,
-        Value::Nothing => Outcome::Bad,
-        Value::Cell(_) => Outcome::Bad,
+        _ => Outcome::Bad,
     }
 }
 
@@ -79,31 +76,32 @@ fn line(program: Held, table: &mut [u32], work: &mut [u32], out: &mut [u8], stat
     ensures { GoesForAny program (10 ∷ []) table.old work.old out.old state
         result table.new work.new out.new }
 {
-    let part = state.part;
-    let before = state.sums;
-    let outcome = come(program, part, table, work, out, state.allowance);
-    let mut n = state;
-    n.part = lines::none();
-    n.sums = sums::add(before, outcome);
-    n
+    let outcome = come(program, state.part, table, work, out, state.allowance);
+    State {
+        part: lines::none(),
+        sums: sums::add(state.sums, outcome),
+        ..state
+    }
 }
 
 // Any other byte of a line.
 fn within(state: State, b: u8) -> State
     ensures { result ≡ with_byte state b }
 {
-    let mut n = state;
-    n.part = lines::more(state.part, b);
-    n
+    State {
+        part: lines::more(state.part, b),
+        ..state
+    }
 }
 
 // There was a line too many.
 fn filled(state: State) -> State
     ensures { result ≡ overfull state }
 {
-    let mut n = state;
-    n.over = true;
-    n
+    State {
+        over: true,
+        ..state
+    }
 }
 
 // One byte more.
@@ -122,8 +120,7 @@ fn byte(
     if state.over {
         return state;
     }
-    let count = state.sums.lines;
-    if LINES <= count {
+    if LINES <= state.sums.lines {
         return filled(state);
     }
     if b == b'\n' {
@@ -148,10 +145,8 @@ pub fn bytes(
 {
     let program = calls::prepare(edition, book, table);
     let mut so_far = state;
-    let mut i = 0;
-    while i < piece.len() {
-        so_far = byte(program, piece[i], table, work, out, so_far);
-        i += 1;
+    for b in piece {
+        so_far = byte(program, *b, table, work, out, so_far);
     }
     memory::clear(table, 0, TABLE);
     so_far

@@ -7,6 +7,7 @@
 #![tactic(auto)]
 
 ghost use Rattle.std.specs.Prelude.{◌≡◌};
+ghost use Rattle.shift.specs.declared.Why.{Why};
 ghost use Rattle.shift.specs.Meanings.{new_state, closed_sums};
 ghost use Rattle.shift.specs.Promises.{Begin, Feed, Finish};
 ghost use Rattle.language.specs.Combining.{without_sums};
@@ -19,6 +20,7 @@ mod feeding;
 
 use numbers::Refusal;
 use pairs::Spot;
+use sheets::Refused;
 use tally::lines::Part;
 use tally::sums::{Outcome, Sums};
 use tally::{combining, lines, sums};
@@ -41,12 +43,26 @@ pub enum Why {
     ManyLines,
 }
 
-// What is told of a book before any line.
+// Why, and where that is told.
 #[derive(Clone, Copy)]
-pub enum Admission {
-    Granted,
-    Refused(Why, Spot),
+pub struct Denied {
+    pub why: Why,
+    pub spot: Spot,
 }
+
+impl From<Refused<Spot>> for Denied {
+    ghost from_gives = { λ r d. d ≡ record { why = Why.Sheet r.why; spot = r.place } };
+
+    fn from(refused: Refused<Spot>) -> Denied {
+        Denied {
+            why: Why::Sheet(refused.why),
+            spot: refused.place,
+        }
+    }
+}
+
+// What is told of a book before any line.
+pub type Admission = Result<(), Denied>;
 
 // The state stands beside what is told, since it holds an array: after a refusal it is as it was.
 #[derive(Clone, Copy)]
@@ -55,13 +71,10 @@ pub struct Answer {
     pub state: State,
 }
 
-// What is told in the end: a report, and whether there was a line too many; or a refusal, and no sums.
-#[derive(Clone, Copy)]
-pub enum Ending {
-    Report { over: bool },
-    Refused(Refusal),
-}
+// What is told in the end: of a report whether there was a line too many; or a refusal.
+pub type Ending = Result<bool, Refusal>;
 
+// The sums stand beside it, none where it is a refusal: whoever tells a report in words has words for them.
 #[derive(Clone, Copy)]
 pub struct Finished {
     pub told: Ending,
@@ -109,28 +122,23 @@ pub fn feed(
         out.old state result table.new work.new out.new }
 {
     match asking::asked(edition, book, table, work, state.allowance) {
-        Admission::Granted => {
-            let after = feeding::bytes(edition, book, piece, table, work, out, state);
-            Answer {
-                told: Admission::Granted,
-                state: after,
-            }
-        }
-        Admission::Refused(why, spot) => Answer {
-            told: Admission::Refused(why, spot),
+        Ok(()) => Answer {
+            told: Ok(()),
+            state: feeding::bytes(edition, book, piece, table, work, out, state),
+        },
+        Err(denied) => Answer {
+            told: Err(denied),
             state,
         },
     }
 }
 
 // A line that has begun and not ended is a bad one.
+#[tactic(auto, unfolding(crate::specs::Meanings::closed_sums))]
 fn closing(state: State) -> Sums
     ensures { result ≡ closed_sums state }
 {
-    if state.over {
-        return state.sums;
-    }
-    if lines::begun(state.part) {
+    if !state.over && lines::begun(state.part) {
         return sums::add(state.sums, Outcome::Bad);
     }
     state.sums
@@ -142,13 +150,13 @@ pub fn finish(edition: u32, state: State) -> Finished
     if grumpy::knows(edition) {
         let sums = closing(state);
         return Finished {
-            told: Ending::Report { over: state.over },
+            told: Ok(state.over),
             sums,
         };
     }
     let sums = sums::none();
     Finished {
-        told: Ending::Refused(Refusal::NoEdition),
+        told: Err(Refusal::NoEdition),
         sums,
     }
 }
@@ -158,7 +166,7 @@ fn refused(why: Refusal) -> Finished
 {
     let sums = sums::none();
     Finished {
-        told: Ending::Refused(why),
+        told: Err(why),
         sums,
     }
 }
@@ -169,7 +177,7 @@ fn overfull() -> Finished
 {
     let sums = sums::none();
     Finished {
-        told: Ending::Report { over: true },
+        told: Ok(true),
         sums,
     }
 }
@@ -181,7 +189,7 @@ fn together(a: Sums, b: Sums) -> Finished
     if combining::addable(a, b) {
         let sums = combining::both(a, b);
         return Finished {
-            told: Ending::Report { over: false },
+            told: Ok(false),
             sums,
         };
     }
@@ -193,21 +201,9 @@ fn together(a: Sums, b: Sums) -> Finished
 pub fn combine(first: Finished, second: Finished) -> Finished
     ensures { Combine first second result }
 {
-    let told = first.told;
-    let other = second.told;
-    match told {
-        Ending::Refused(why) => refused(why),
-        Ending::Report { over } => match other {
-            Ending::Refused(why) => refused(why),
-            Ending::Report { over: also } => {
-                if over {
-                    return overfull();
-                }
-                if also {
-                    return overfull();
-                }
-                together(first.sums, second.sums)
-            }
-        },
+    match (first.told, second.told) {
+        (Err(why), _) | (Ok(_), Err(why)) => refused(why),
+        (Ok(false), Ok(false)) => together(first.sums, second.sums),
+        (Ok(_), Ok(_)) => overfull(),
     }
 }

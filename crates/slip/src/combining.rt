@@ -6,7 +6,7 @@ use crate::job::Job;
 use desk::{Outside, arguments, input};
 use orders::asked::Asked;
 use records::readings;
-use shift::{Ending, Finished};
+use shift::Finished;
 use tally::sums;
 
 // Reads the report that this word names, and tells it with those before it; nothing where it cannot be read or is none,
@@ -18,7 +18,7 @@ fn add(rt: &impl Outside, word: usize, all: Finished) -> Option<Finished> {
     if bytes.len() < most {
         if let Some(reading) = readings::read(bytes) {
             let part = Finished {
-                told: Ending::Report { over: reading.over },
+                told: Ok(reading.over),
                 sums: reading.sums,
             };
             return Some(shift::combine(all, part));
@@ -31,7 +31,7 @@ fn add(rt: &impl Outside, word: usize, all: Finished) -> Option<Finished> {
 // No lines, to which the first report is added.
 fn none() -> Finished {
     Finished {
-        told: Ending::Report { over: false },
+        told: Ok(false),
         sums: sums::none(),
     }
 }
@@ -58,8 +58,8 @@ impl<R: Outside> Job<'_, R> {
     {
         let all = summed(self.rt)?;
         match all.told {
-            Ending::Report { over } => Some(self.reporter().combined(over, all.sums)),
-            Ending::Refused(_) => None,
+            Ok(over) => Some(self.reporter().combined(over, all.sums)),
+            Err(_) => None,
         }
     }
 }

@@ -11,8 +11,7 @@ use desk::rooms::SHEET;
 use desk::{Outside, input, output, rooms};
 use language::{TABLE, WORK};
 use page::Page;
-use pairs::Spot;
-use shift::{Admission, Ending, State, Why};
+use shift::{Denied, State, Why};
 use std::io::{Error, ErrorKind, Read};
 use wording::ends;
 
@@ -27,7 +26,7 @@ const PIECES: u64 = u64::MAX;
 #[derive(Clone, Copy)]
 enum Stop {
     Unread(Error),
-    Refused(Why, Spot),
+    Refused(Denied),
 }
 
 // Says how far it is, where a stride was passed.
@@ -41,11 +40,11 @@ fn progress(rt: &impl Outside, before: u32, after: u32) {
 }
 
 impl<R: Outside> Job<'_, R> {
-    fn refuse(&self, book: &[u8], why: Why, spot: Spot) -> u32
+    fn refuse(&self, book: &[u8], denied: Denied) -> u32
         ensures { Status result }
     {
-        let mut end = books::of_shift(why, spot);
-        if books::unread_shift(why) {
+        let mut end = books::of_shift(denied.why, denied.spot);
+        if books::unread_shift(denied.why) {
             end = ends::completed(end, alike::unread(examine(self.edition, book)));
         }
         self.told(book, end)
@@ -62,13 +61,9 @@ impl<R: Outside> Job<'_, R> {
         state: State,
     ) -> Result<State, Stop> {
         let answer = shift::feed(self.edition, book, piece, table, work, out, state);
-        match answer.told {
-            Admission::Granted => {
-                progress(self.rt, state.sums.lines, answer.state.sums.lines);
-                Ok(answer.state)
-            }
-            Admission::Refused(why, spot) => Err(Stop::Refused(why, spot)),
-        }
+        answer.told.map_err(Stop::Refused)?;
+        progress(self.rt, state.sums.lines, answer.state.sums.lines);
+        Ok(answer.state)
     }
 
     // Reads and feeds all pieces; behind a line too many no byte changes anything.
@@ -112,7 +107,7 @@ impl<R: Outside> Job<'_, R> {
                 output::fail(self.rt, name, &why);
                 None
             }
-            Err(Stop::Refused(why, spot)) => Some(self.refuse(book, why, spot)),
+            Err(Stop::Refused(denied)) => Some(self.refuse(book, denied)),
         }
     }
 
@@ -121,8 +116,14 @@ impl<R: Outside> Job<'_, R> {
     {
         let finished = shift::finish(self.edition, state);
         match finished.told {
-            Ending::Report { over } => { self.reporter().shift(allowance, over, finished.sums) }
-            Ending::Refused(why) => self.refuse(book, Why::Sheet(why), pairs::front()),
+            Ok(over) => self.reporter().shift(allowance, over, finished.sums),
+            Err(refusal) => self.refuse(
+                book,
+                Denied {
+                    why: Why::Sheet(refusal),
+                    spot: pairs::front(),
+                },
+            ),
         }
     }
 
@@ -158,10 +159,8 @@ impl<R: Outside> Job<'_, R> {
         let mut work = rooms::words::<WORK>();
         let answer = shift::begin(self.edition, book, &mut table, &mut work, allowance);
         match answer.told {
-            Admission::Granted => {
-                self.lines(book, &mut table, &mut work, allowance, answer.state)
-            }
-            Admission::Refused(why, spot) => Some(self.refuse(book, why, spot)),
+            Ok(()) => self.lines(book, &mut table, &mut work, allowance, answer.state),
+            Err(denied) => Some(self.refuse(book, denied)),
         }
     }
 

@@ -3,6 +3,6 @@ use Rattle.grumpy_c.proofs.shifts.grumpy_shift_feed.Goals as goal
 
 pub returns : goal.returns
 returns c =
-    fed_c _ _ _ _ _ _ _ _ _ _ _ _ _ c.feed-answer.result c.read_state-before.result c.is_refusal.result _
+    fed_c _ _ _ _ _ _ _ _ _ _ _ _ _ c.feed-answer.result c.read_state-before.result c.is_err.result _
     c.if-state-lt-STATE.false c.if-report-lt-FEED.false c.read_state-before.ensures
-    c.feed-answer.ensures c.is_refusal.ensures c.leave.ensures c.fed_number-number.ensures c.put.ensures
+    c.feed-answer.ensures c.is_err.ensures.value c.leave.ensures c.fed_number-number.ensures c.put.ensures

@@ -1,10 +1,10 @@
 use borrow.Author.Rules.{rules}
 use lib.ListN.{length, get_or}
-use mathlib.Core.Path.{◌≡◌}
+use mathlib.Core.Path.{◌≡◌, ◌∙◌}
 use mir.Syntax.{w32}
 use mir.Val.{Fits}
 use Prim.Native.Nat.{ℕ}
-use Rattle.grumpy_c.proofs.StateWords.{Fit, state_held}
+use Rattle.grumpy_c.proofs.StateWords.{Fit, flag_told, state_held}
 use Rattle.grumpy_c.proofs.states.write_state.Goals as goal
 use Rattle.grumpy_c.proofs.states.write_state.Goals.{Start}
 
@@ -31,6 +31,7 @@ fit c =
 pub returns : goal.returns
 returns c =
     let f = fit (goal.at.returns c).Start in
-    state_held c.args.words.now _ c.args.state _ _ _ _ _ _ c.flag.ensures c.flag-2.ensures c.wide-stops.ensures
-    record { fits = f.sum; word = c.complement.ensures } record { fits = f.least; word = c.complement-2.ensures }
-    record { fits = f.largest; word = c.complement-3.ensures } c.put.ensures f
+    let s = c.args.state in
+    state_held c.args.words.now _ s _ _ _ _ _ (c.from.ensures ∙ flag_told s.over) (c.from-2.ensures ∙ flag_told s.part.bad)
+    record { fits = f.sum; word = c.cast_unsigned.ensures } record { fits = f.least; word = c.cast_unsigned-2.ensures }
+    record { fits = f.largest; word = c.cast_unsigned-3.ensures } c.put_around.ensures f

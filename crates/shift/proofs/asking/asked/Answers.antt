@@ -1,18 +1,23 @@
 use native.Mathlib.Omega.{arith}
 use Rattle.shift.proofs.Admitting.{asked_short, asked_large, asked_text}
-use mathlib.Core.Logic.{inl, inr}
+use lib.ListN.{length}
+use mathlib.Core.Logic.{◌⊎◌, inl, inr}
+use Prim.Native.Nat.{◌<◌}
 use Rattle.layout.proofs.Wiped.{zeros_cleared}
 use mathlib.Core.Path.{◌∙◌}
 use Rattle.language.specs.Sizes.{TABLE, WORK}
 use Rattle.shift.proofs.asking.asked.Goals as goal
+use Rattle.shift.proofs.asking.asked.Goals.{then-table-lt-TABLE-via-then-table-lt-TABLE, then-table-lt-TABLE-via-else-table-lt-TABLE+then-work-lt-WORK}
 
 pub returns-then-table-lt-TABLE : goal.returns-then-table-lt-TABLE
 returns-then-table-lt-TABLE c =
-    asked_short _ _ _ _ _ _ (inl (omega arith)) c.front.ensures
-
-pub returns-then-work-lt-WORK : goal.returns-then-work-lt-WORK
-returns-then-work-lt-WORK c =
-    asked_short _ _ _ _ _ _ (inr (omega arith)) c.front-then-work-lt-WORK.ensures
+    let short : (length c.args.table.now < TABLE) ⊎ (length c.args.work.now < WORK) =
+    elim c.then-table-lt-TABLE.branch [
+      | then-table-lt-TABLE-via-then-table-lt-TABLE w ↦ inl (omega arith)
+      | then-table-lt-TABLE-via-else-table-lt-TABLE+then-work-lt-WORK w ↦ inr (omega arith)
+    ]
+    in
+    asked_short _ _ _ _ _ _ short c.front.ensures
 
 pub returns-then-allowance-gt-ALLOWANCE : goal.returns-then-allowance-gt-ALLOWANCE
 returns-then-allowance-gt-ALLOWANCE c =

@@ -1,11 +1,12 @@
+use Rattle.std.proofs.lemmas.Result.{err_from_is_err_and}
 use Rattle.shift.proofs.Learnt.{text_is_passed, text_is_refused}
 use Rattle.shift.proofs.asking.text.Goals as goal
 
-pub returns-in-Ok : goal.returns-in-Ok
-returns-in-Ok c =
-    text_is_passed _ _ _ _ c.requires c.check_pair.result _ _ _ c.check_pair.ensures c.in-Ok.is
-    c.functions.ensures
+pub returns-in_err-check_pair : goal.returns-in_err-check_pair
+returns-in_err-check_pair c =
+    let p = err_from_is_err_and c.from_residual.result c.from_residual.ensures.1 in
+    rw (p.1, p.2) (text_is_refused _ _ _ _ c.requires c.check_pair.result _ _ c.check_pair.ensures c.in_err-check_pair.was)
 
-pub returns-in-Err : goal.returns-in-Err
-returns-in-Err c =
-    text_is_refused _ _ _ _ c.requires c.check_pair.result _ _ c.check_pair.ensures c.in-Err.is
+pub returns : goal.returns
+returns c =
+    text_is_passed _ _ _ _ c.requires c.check_pair.result _ _ _ c.check_pair.ensures c.in_ok-check_pair.was c.functions.ensures

@@ -6,14 +6,14 @@ returns-then-state c =
     let a = c.args in
     goes_past a.program a.table.now a.work.now a.out.now a.state a.b c.if-state.true
 
-pub returns-then-count-ge-LINES : goal.returns-then-count-ge-LINES
-returns-then-count-ge-LINES c =
+pub returns-then-state-ge-LINES : goal.returns-then-state-ge-LINES
+returns-then-state-ge-LINES c =
     let a = c.args in
     goes_full a.program a.table.now a.work.now a.out.now a.state a.b c.filled.result
-    c.if-state.false c.if-count-ge-LINES.true c.filled.ensures
+    c.if-state.false c.if-state-ge-LINES.true c.filled.ensures
 
 pub returns : goal.returns
 returns c =
     let a = c.args in
     goes_byte a.program a.table.now a.work.now a.out.now a.state a.b c.within.result c.if-state.false
-    c.if-count-ge-LINES.false c.if-b-eq10.false c.within.ensures
+    c.if-state-ge-LINES.false c.if-b-eq10.false c.within.ensures
