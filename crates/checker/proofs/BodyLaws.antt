@@ -26,7 +26,7 @@ use Rattle.rules.specs.Sight.{Variables, InSight}
 use Rattle.rules.specs.Asked.{Tells}
 use Rattle.phrase_types.specs.Inferred.{Kept, Ready, Inferred}
 use Rattle.checker.specs.Ruled.{Verdict, Rules, check_head, check_body, Headings, Taken, Next, Headlines, Fresh, Bodied, Fitting, Listed, Ruled}
-use Rattle.rules.specs.declared.Fault.{Fault}
+use Rattle.rules.specs.Asked.{Fault}
 use Rattle.numbers.specs.declared.Reason.TheVariants.{TooManyRefs, WrongBody}
 use Rattle.rules.specs.Asked.{Typing}
 use Rattle.rules.proofs.TellLaws.{type_told, fault_told, tells_as}
@@ -59,7 +59,7 @@ module _ {w : List ℕ} {k row : ℕ} (b : Bodied w k row) {at result : ℕ} (ea
     shallow l = let m = number_refs d.result in let q = result_is in omega (arith, m.0)
 
   -- a result's type with too many `ref`
-  pub deep_fits : OVER ≤ result → Fitting w w k row (Err record { reason = TooManyRefs; at = at })
+  pub deep_fits : OVER ≤ result → Fitting w w k row (Err record { why = TooManyRefs; place = at })
   deep_fits l = record {
     kept = kept_self w 0;
     right = λ ts f Δ Γ d n e vs.
@@ -111,7 +111,7 @@ module _ {w : List ℕ} {k row : ℕ} (b : Bodied w k row) {at result : ℕ} (ea
       }
 
       -- and of another
-      other_fits : eqb t result ≡ false → Fitting w w' k row (Err record { reason = WrongBody; at = at })
+      other_fits : eqb t result ≡ false → Fitting w w' k row (Err record { why = WrongBody; place = at })
       other_fits s = record {
         kept = body_kept;
         right = λ ts f Δ Γ d n o vs.
@@ -121,7 +121,7 @@ module _ {w : List ℕ} {k row : ℕ} (b : Bodied w k row) {at result : ℕ} (ea
       }
 
       -- so it is tested
-      pub tested_fits : (s : Verdict) → MatchResult s (λ _. eqb t result ≡ true) (λ x. (eqb t result ≡ false) × (x ≡ record { reason = WrongBody; at = at }))
+      pub tested_fits : (s : Verdict) → MatchResult s (λ _. eqb t result ≡ true) (λ x. (eqb t result ≡ false) × (x ≡ record { why = WrongBody; place = at }))
           → Fitting w w' k row s
       tested_fits (Ok _) h = type_fits h
       tested_fits (Err x) h = rw h.1 (other_fits h.0)

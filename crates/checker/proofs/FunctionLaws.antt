@@ -66,7 +66,7 @@ module _ {w : List ℕ} {k row : ℕ} (h : Headlines w k row) {at : ℕ} (ea : a
       ea ∙ ap (λ (i : ℕ). row_word w i OWN) (h.at ∙ sym e) ∙ sym (row_without w _ 1 n.here.inside (omega arith)) ∙ n.here.at
 
   -- too many functions before it
-  pub many_fresh : FUNCTIONS ≤ k → Fresh w k (Err record { reason = TooManyFunctions; at = at })
+  pub many_fresh : FUNCTIONS ≤ k → Fresh w k (Err record { why = TooManyFunctions; place = at })
   many_fresh l = record {
     right = λ ts f Δ d n.
         let s = functions_size n.before in
@@ -94,7 +94,7 @@ module _ {w : List ℕ} {k row : ℕ} (h : Headlines w k row) {at : ℕ} (ea : a
         ∙ ap (λ (i : ℕ). i + 1) (sym (def_at n)))
 
     -- a name that is another function's, or `putchar`
-    pub other_fresh : (c ≡ Callee.Nobody → ⊥) → Fresh w k (Err record { reason = FunctionTwice; at = at + 1 })
+    pub other_fresh : (c ≡ Callee.Nobody → ⊥) → Fresh w k (Err record { why = FunctionTwice; place = at + 1 })
     other_fresh o = record { right = λ ts f Δ d n. go c (means n) o n }
       where
         go : (c : Callee) {ts : List Token} {f : ℕ} {Δ : Scope Sig} {d : Def} → Means f ts (without_variables w) c (nearest d.called Δ)

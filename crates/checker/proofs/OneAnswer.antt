@@ -15,11 +15,11 @@ use Rattle.numbers.specs.declared.Reason.{Reason}
 
 one_answer : (p : Program) (r q : Typing) → Answers r p → Answers q p → r ≡ q
 one_answer p (Ok m) (Ok n) (t, a, e) (u, b, d) = ap Ok (e ∙ ap type_number (program_one_type p t u a b) ∙ sym d)
-one_answer p (Ok m) (Err d) (t, a, e) b = absurd (never_both p t (reason_meant d.reason) d.at a b)
-one_answer p (Err e) (Ok n) a (u, b, d) = absurd (never_both p u (reason_meant e.reason) e.at b a)
+one_answer p (Ok m) (Err d) (t, a, e) b = absurd (never_both p t (reason_meant d.why) d.place a b)
+one_answer p (Err e) (Ok n) a (u, b, d) = absurd (never_both p u (reason_meant e.why) e.place b a)
 one_answer p (Err e) (Err d) a b =
-    let h = one_fault p (reason_meant e.reason) (reason_meant d.reason) e.at d.at a b in
-    ap Err (ap₂ (λ (r : Reason) (i : ℕ). record { reason = r; at = i }) (same_reason e.reason d.reason h.0) h.1)
+    let h = one_fault p (reason_meant e.why) (reason_meant d.why) e.place d.place a b in
+    ap Err (ap₂ (λ (r : Reason) (i : ℕ). record { why = r; place = i }) (same_reason e.why d.why h.0) h.1)
 
 -- no two answers satisfy the contract, nor do two tables
 pub checked_once : {w v u : List ℕ} {P : Held} {r q : Typing} → Checkable w P

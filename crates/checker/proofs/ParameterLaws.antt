@@ -94,7 +94,7 @@ module _ {w : List ℕ} {row : ℕ} (r : ParameterAt w row) {at : ℕ} (ea : at 
   deep e (params_more a n c t h) = e ∙ sym (row_without w row 2 r.inside (omega arith)) ∙ t
 
   -- a ninth
-  pub ninth_bound : {k : ℕ} → PARAMETERS ≤ k → Bound w w row k (Err record { reason = TooManyParameters; at = at })
+  pub ninth_bound : {k : ℕ} → PARAMETERS ≤ k → Bound w w row k (Err record { why = TooManyParameters; place = at })
   unfolding take_params
   ninth_bound {k} l = record {
     kept = kept_self w k;
@@ -116,7 +116,7 @@ module _ {w : List ℕ} {row : ℕ} (r : ParameterAt w row) {at : ℕ} (ea : at 
 
     module _ (b : P.Option ℕ) (eb : b ≡ find_variable w name k) where
       -- a name that another has
-      pub twice_bound : is_some b ≡ true → Bound w w row k (Err record { reason = ParameterTwice; at = at })
+      pub twice_bound : is_some b ≡ true → Bound w w row k (Err record { why = ParameterTwice; place = at })
       unfolding take_params
       twice_bound e = record {
         kept = kept_self w k;
@@ -128,7 +128,7 @@ module _ {w : List ℕ} {row : ℕ} (r : ParameterAt w row) {at : ℕ} (ea : at 
 
       module _ (new : is_some b ≡ false) {number : ℕ} (ed : number ≡ row_word w row TYPE) where
         -- too many `ref`
-        pub deep_bound : OVER ≤ number → Bound w w row k (Err record { reason = TooManyRefs; at = at })
+        pub deep_bound : OVER ≤ number → Bound w w row k (Err record { why = TooManyRefs; place = at })
         unfolding take_params
         deep_bound l = record {
           kept = kept_self w k;

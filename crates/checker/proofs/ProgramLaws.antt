@@ -26,7 +26,7 @@ use Rattle.rules.specs.Sight as Sight
 use Rattle.rules.specs.Asked.{Tells, tells_type, tells_fault}
 use Rattle.phrase_types.specs.Inferred.{Kept, Ready, Inferred}
 use Rattle.checker.specs.Ruled.{Verdict, Rules, Next, Listed, Ruled, Concluded}
-use Rattle.rules.specs.declared.Fault.{Fault}
+use Rattle.rules.specs.Asked.{Fault}
 use Rattle.rules.specs.Asked.{Typing}
 use Rattle.rules.proofs.TellLaws.{fault_is, tells_from}
 use Rattle.phrase_types.proofs.KeptLaws.{kept_self, kept_then}
@@ -210,7 +210,7 @@ module _ {w₀ w : List ℕ} {P : Held} {k : ℕ} (u : Underway w₀ w P k) wher
 -- what the executable checker answers is the written type or fault
 told_answer : {p : Program} {r : Typing} {x : Res Ty} → Tells r x → Says (HasType p) (HasFault p) x → Answers r p
 told_answer (tells_type {t = t} e) (says h) = (t, h, e)
-told_answer {p} (tells_fault {e = fault} e) (faults h) = subst (λ (q : Faults.Reason). HasFault p q fault.at) (sym e) h
+told_answer {p} (tells_fault {e = fault} e) (faults h) = subst (λ (q : Faults.Reason). HasFault p q fault.place) (sym e) h
 
 -- so an answer that tells what it answers is right
 pub answers : (p : Program) {r : Typing} → Tells r (check p) → Answers r p

@@ -16,7 +16,7 @@ use Rattle.layout.proofs.VariablesWords.{row_without}
 use Rattle.rules.specs.Sight.{Variables, variables_none}
 use Rattle.phrase_types.specs.Inferred.{Kept}
 use Rattle.checker.specs.Ruled.{Verdict, ParameterAt, BoundIs, Bound, Headings, Taken}
-use Rattle.rules.specs.declared.Fault.{Fault}
+use Rattle.rules.specs.Asked.{Fault}
 use Rattle.phrase_types.proofs.KeptLaws.{kept_self, kept_then, kept_fewer, kept_row}
 
 -- k of d's parameters are the variables, and the rest are still to be taken

@@ -21,7 +21,7 @@ pub record Checkable (w : List ℕ) (P : Held) : Type 0 where
 -- told at
 abbrev pub Answers : Typing → Program → Type 0
 Answers (Ok n) p = (t : Ty) × HasType p t × (n ≡ type_number t)
-Answers (Err e) p = HasFault p (reason_meant e.reason) e.at
+Answers (Err e) p = HasFault p (reason_meant e.why) e.place
 
 -- the answer is right of every program that the table held, and the variables are cleared
 pub record Checked (w w' : List ℕ) (P : Held) (r : Typing) : Type 0 where

@@ -18,7 +18,7 @@ use Rattle.numbers.specs.Meanings.{reason_meant}
 use Rattle.rules.specs.Sight.{Variables, Functions}
 use Rattle.rules.specs.Asked.{Typing, Tells}
 use Rattle.phrase_types.specs.Inferred.{Kept, Ready}
-use Rattle.rules.specs.declared.Fault.{Fault}
+use Rattle.rules.specs.Asked.{Fault}
 
 -- that all is fine, or why it is not
 abbrev pub Verdict : Type 0
@@ -27,7 +27,7 @@ Verdict = Result (Unit {0}) Fault
 -- the verdict on something: P where it is fine, and else why it is not
 abbrev pub Rules : {A : Type 0} → Verdict → Res A → (A → Type 0) → Type 0
 Rules {A} (Ok _) x P = (a : A) × (x ≡ ok a) × P a
-Rules (Err e) x P = x ≡ bad (reason_meant e.reason) e.at
+Rules (Err e) x P = x ≡ bad (reason_meant e.why) e.place
 
 -- ---- parameters
 
@@ -42,7 +42,7 @@ abbrev pub BoundIs : List Token → List ℕ → ℕ → Scope Ty → Param → 
 BoundIs ts w k Γ q qs (Ok _) =
     Variables ts w (k + 1) (push q.called q.type Γ)
     × (take_params (q ∷ qs) Γ ≡ take_params qs (push q.called q.type Γ))
-BoundIs ts w k Γ q qs (Err e) = take_params (q ∷ qs) Γ ≡ bad (reason_meant e.reason) e.at
+BoundIs ts w k Γ q qs (Err e) = take_params (q ∷ qs) Γ ≡ bad (reason_meant e.why) e.place
 
 -- parameter k, at row `row`, behind the parameters Γ
 pub record Bound (w w' : List ℕ) (row k : ℕ) (r : Verdict) : Type 0 where

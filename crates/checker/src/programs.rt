@@ -52,8 +52,8 @@ fn fresh(table: &[u32], k: usize, row: usize) -> Result<(), Fault>
     match called(table, k, name) {
         Callee::Nobody => Ok(()),
         _ => Err(Fault {
-            reason: Reason::FunctionTwice,
-            at: at + 1,
+            why: Reason::FunctionTwice,
+            place: at + 1,
         }),
     }
 }

@@ -39,7 +39,8 @@ pub fn name(table: &[u32], k: usize) -> u32
     token::value(table, def + 1)
 }
 
-// The row of the newest of the first `seen` functions whose name has this number.
+// The row of the newest of the first `seen` functions whose name has this number. This search, those of a variable, a
+// share and a slot are loops of their own: one over any test would have clauses and closures longer than they are.
 pub fn find(table: &[u32], seen: usize, number: u32) -> Option<usize>
     requires { (TABLE ≤ length table.now) × ((k : ℕ) → k < seen → Headed table.now k) }
     ensures { result ≡ find_function table.now number seen }

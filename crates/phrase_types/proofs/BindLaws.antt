@@ -3,7 +3,7 @@ use mathlib.Core.Bool.{Bool, true, false, ◌&&◌}
 use mathlib.Core.List.{List, [], ◌∷◌}
 use mathlib.Core.Option.{some}
 use mathlib.Core.Path.{◌≡◌, refl, sym, ap, ap₂, subst, ◌∙◌}
-use Rattle.rules.specs.declared.Fault.{Fault}
+use Rattle.rules.specs.Asked.{Fault}
 use Rattle.std.specs.Prelude.{Ok, Err}
 use Prim.Native.Nat.{ℕ, zero, suc, ◌+◌, ◌≤◌, ◌<◌}
 use native.Mathlib.Numerals.{add-one}
@@ -84,7 +84,7 @@ types_are : {w : List ℕ} {c : Taker} {k : ℕ} {b : Bool} {n : ℕ} {s : Bool}
     → s ≡ (b && suits w c k ts) → TellsAll w c k b (Ok record { count = n; suited = s }) x
 types_are {w} {c} {k} {b} {n} {s} ts e p q = subst (λ (x : Res (List Ty)). TellsAll w c k b (Ok record { count = n; suited = s }) x) (sym e) (tells_types p q)
 
-wrong_is : {w : List ℕ} {c : Taker} {k : ℕ} {b : Bool} {fault : Fault} {x : Res (List Ty)} → x ≡ bad (reason_meant fault.reason) fault.at
+wrong_is : {w : List ℕ} {c : Taker} {k : ℕ} {b : Bool} {fault : Fault} {x : Res (List Ty)} → x ≡ bad (reason_meant fault.why) fault.place
     → TellsAll w c k b (Err fault) x
 wrong_is {w} {c} {k} {b} {fault} e = subst (λ (x : Res (List Ty)). TellsAll w c k b (Err fault) x) (sym e) (tells_wrong refl)
 
@@ -95,8 +95,8 @@ types_told (tells_types {ts = ts} p q) = (ts, refl, p, q)
 
 -- what was told
 pub wrong_told : {w : List ℕ} {c : Taker} {k : ℕ} {b : Bool} {fault : Fault} {x : Res (List Ty)}
-    → TellsAll w c k b (Err fault) x → x ≡ bad (reason_meant fault.reason) fault.at
-wrong_told (tells_wrong {e = fault} p) = ap (λ q. bad q fault.at) (sym p)
+    → TellsAll w c k b (Err fault) x → x ≡ bad (reason_meant fault.why) fault.place
+wrong_told (tells_wrong {e = fault} p) = ap (λ q. bad q fault.place) (sym p)
 
 and_true : (b : Bool) → b ≡ (b && true)
 and_true true = refl
@@ -128,7 +128,7 @@ one_more {w} {c} {k} {n} {v} {b} {t = t} p o (tells_types {ts = ts} e d) f g =
     types_are (t ∷ ts) (f ts refl) (e ∙ omega arith)
     (d ∙ ap (λ (j : ℕ). (b && eqb n v) && suits w c j ts) (add-one k) ∙ and_and b (eqb n v) (suits w c (suc k) ts)
     ∙ ap (λ (z : Bool). b && (z && suits w c (suc k) ts)) (ap₂ eqb p o))
-one_more p o (tells_wrong {e = fault} {q = r} e) f g = wrong_is (g r fault.at refl ∙ ap (λ r. bad r fault.at) (sym e))
+one_more p o (tells_wrong {e = fault} {q = r} e) f g = wrong_is (g r fault.place refl ∙ ap (λ r. bad r fault.place) (sym e))
 
 module _ {p w : List ℕ} {row seen binds : ℕ} {c : Taker} {k : ℕ} {b : Bool} where
   -- no argument

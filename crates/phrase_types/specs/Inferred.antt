@@ -14,7 +14,7 @@ use Rattle.layout.specs.Decode.{tree_at, args_at, Right, RightArgs}
 use Rattle.numbers.specs.Meanings.{reason_meant}
 use Rattle.rules.specs.Sight.{Variables, find_variable, InSight, Readable}
 use Rattle.rules.specs.Asked.{Typing, Tells, suits}
-use Rattle.rules.specs.declared.Fault.{Fault}
+use Rattle.rules.specs.Asked.{Fault}
 use Rattle.numbers.specs.declared.Reason.TheVariants.{NoBinding}
 use Rattle.rules.specs.declared.sight.Taker.{Taker}
 use Rattle.phrase_types.specs.declared.expressions.Passed.{Passed}
@@ -61,7 +61,7 @@ pub record Inferred (w w' : List ℕ) (node seen binds : ℕ) (r : Typing) : Typ
 -- a name's answer, by the type's number that was found
 abbrev pub looked : Option ℕ → ℕ → Typing
 looked (Some n) i = Ok n
-looked None i = Err record { reason = NoBinding; at = i }
+looked None i = Err record { why = NoBinding; place = i }
 
 -- the answer of the name at row `node`
 abbrev pub name_answer : List ℕ → ℕ → ℕ → Typing
@@ -78,7 +78,7 @@ Passing = Result Passed Fault
 pub data TellsAll (w : List ℕ) (c : Taker) (k : ℕ) (b : Bool) : Passing → Res (List Ty) → Type 0 where
   tells_types : {n : ℕ} {s : Bool} {ts : List Ty} → n ≡ k + length ts → s ≡ (b && suits w c k ts)
       → TellsAll w c k b (Ok record { count = n; suited = s }) (ok ts)
-  tells_wrong : {e : Fault} {q : Faults.Reason} → reason_meant e.reason ≡ q → TellsAll w c k b (Err e) (bad q e.at)
+  tells_wrong : {e : Fault} {q : Faults.Reason} → reason_meant e.why ≡ q → TellsAll w c k b (Err e) (bad q e.place)
 
 -- they can be checked, k of the list's before them
 pub record ReadyAll (w : List ℕ) (row seen binds : ℕ) (c : Taker) (k : ℕ) : Type 0 where

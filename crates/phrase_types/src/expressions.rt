@@ -23,7 +23,7 @@ pub struct Sight {
 }
 
 // The expressions of a list, which are the arguments of a call or the bounds of a `for`: how many, and whether
-// each has the type that is wanted of it.
+// each has the type that is wanted of it. A call asks for the number first, so it is told whether they suit or not.
 #[derive(Clone, Copy)]
 pub struct Passed {
     pub count: usize,
@@ -40,8 +40,8 @@ fn name(table: &[u32], node: usize, binds: usize) -> Result<u32, Fault>
     let token = rows::link(table, node, rows::OWN);
     let number = token::value(table, token);
     variable(table, binds, number).ok_or(Fault {
-        reason: Reason::NoBinding,
-        at,
+        why: Reason::NoBinding,
+        place: at,
     })
 }
 

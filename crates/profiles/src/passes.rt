@@ -20,7 +20,7 @@ fn reach(table: &[u32], row: usize) -> usize
     if row < named { 0 } else { named }
 }
 
-// One unit for a node, and its arguments or bounds.
+// One unit for a node, and its arguments or bounds, which are linked, so that nothing is counted.
 fn arguments(table: &[u32], row: usize) -> u32
     requires { (TABLE ≤ length table.now) × (row < NODES) }
     ensures { Summed table.now (reach table.now row) 1 result }

@@ -1,5 +1,6 @@
 // Shares: of a tree its first endless node, or else its count of units, in one word. A count that is too
-// large goes no further than FULL; what lies above it is an endless node, by its own token.
+// large goes no further than FULL; what lies above it is an endless node, by its own token. They stay numbers because
+// they are words of lent memory (specs/Shares); `told` makes a Result of the last.
 ghost use Rattle.std.specs.Prelude.{◌≡◌, ◌+◌, ◌*◌, ◌≤◌, ◌<◌, length};
 ghost use Rattle.language.specs.Sizes.{TOKENS, NODES, TABLE};
 ghost use Rattle.profiles.specs.Shares.{most, going_on, beside, instead, share_word, put_share, earlier, part};

@@ -74,6 +74,7 @@ pub fn place(table: &mut [u32], node: usize, defs: usize, size: usize)
         _ if rows::counts(kind) => return counted(table, node, defs, size),
         _ => (),
     }
+    // No match on the count: between the tests the parts are placed, one after another.
     let count = operators::children(kind);
     if count == 0 {
         return;

@@ -83,8 +83,8 @@ module _ (w : List ℕ) {c : Callee} {n : ℕ} {b : Bool} (i : ℕ) where
       (m record { takes = int ∷ []; gives = int } us refl refl l (λ v. rw s (suits_putchar w us v)))
 
   -- and that of a call of nobody
-  pub call_nobody : c ≡ Callee.Nobody → AsksCall w c n b i (Err record { reason = NoFunction; at = i })
+  pub call_nobody : c ≡ Callee.Nobody → AsksCall w c n b i (Err record { why = NoFunction; place = i })
   unfolding infer
   call_nobody e =
-      subst (λ (c : Callee). AsksCall w c n b i (Err record { reason = NoFunction; at = i })) (sym e) λ ts f Δ Γ z es us h k l s.
+      subst (λ (c : Callee). AsksCall w c n b i (Err record { why = NoFunction; place = i })) (sym e) λ ts f Δ Γ z es us h k l s.
       fault_is (after_ok _ k (after_bad _ (told_none _ _ h)))

@@ -217,7 +217,7 @@ module _ {k m n : ℕ} (i : ℕ) (other : k ≡ BECOMES → ⊥) {v : ℕ} (want
       ∙ both_are _ _ _ (one_number t (operand o t) (sym p ∙ a ∙ w)) (one_number u (operand o t) (sym q ∙ b ∙ w)))) (gives o t h d p)
 
   -- or not both
-  pub between_other : (m ≡ v → n ≡ v → ⊥) → {r : Typing} → r ≡ Err record { reason = WrongOperands; at = i } → Between k m n i r
+  pub between_other : (m ≡ v → n ≡ v → ⊥) → {r : Typing} → r ≡ Err record { why = WrongOperands; place = i } → Between k m n i r
   between_other a e o t u d p q =
       let h = not_assign k other o d in
       let w = wants o t h d p in

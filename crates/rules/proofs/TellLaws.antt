@@ -12,14 +12,14 @@ use Rattle.language.specs.Faults as Faults
 use Rattle.numbers.specs.Meanings.{reason_meant}
 use Rattle.numbers.specs.declared.Reason.{Reason}
 use Rattle.rules.specs.Asked.{Typing, Tells, tells_type, tells_fault}
-use Rattle.rules.specs.declared.Fault.{Fault}
+use Rattle.rules.specs.Asked.{Fault}
 
 -- a type is answered
 pub type_is : {n : ℕ} {x : Res Ty} (t : Ty) → x ≡ ok t → n ≡ type_number t → Tells (Ok n) x
 type_is {n} t e p = subst (λ (x : Res Ty). Tells (Ok n) x) (sym e) (tells_type p)
 
 -- a fault is answered
-pub fault_is : {e : Fault} {x : Res Ty} → x ≡ bad (reason_meant e.reason) e.at → Tells (Err e) x
+pub fault_is : {e : Fault} {x : Res Ty} → x ≡ bad (reason_meant e.why) e.place → Tells (Err e) x
 fault_is {e} d = subst (λ (x : Res Ty). Tells (Err e) x) (sym d) (tells_fault refl)
 
 -- what an answered type tells
@@ -27,8 +27,8 @@ pub type_told : {n : ℕ} {x : Res Ty} → Tells (Ok n) x → (t : Ty) × (x ≡
 type_told (tells_type {t = t} p) = (t, refl, p)
 
 -- what an answered fault tells
-pub fault_told : {e : Fault} {x : Res Ty} → Tells (Err e) x → x ≡ bad (reason_meant e.reason) e.at
-fault_told (tells_fault {e = e} p) = ap (λ q. bad q e.at) (sym p)
+pub fault_told : {e : Fault} {x : Res Ty} → Tells (Err e) x → x ≡ bad (reason_meant e.why) e.place
+fault_told (tells_fault {e = e} p) = ap (λ q. bad q e.place) (sym p)
 
 -- the same answer
 pub tells_as : {r q : Typing} {x : Res Ty} → r ≡ q → Tells r x → Tells q x
@@ -47,13 +47,13 @@ pub handed_as : {A : Type 0} {r : P.Result A Fault} {e d : Fault} → IsErrAnd r
 handed_as h e = handed_on h ∙ ap Err e
 
 -- and a fault is told
-pub fault_told_as : {r : Typing} {e : Fault} {q : Reason} {i : ℕ} {x : Res Ty} → IsErrAnd r (λ y. y ≡ e) → e ≡ record { reason = q; at = i }
+pub fault_told_as : {r : Typing} {e : Fault} {q : Reason} {i : ℕ} {x : Res Ty} → IsErrAnd r (λ y. y ≡ e) → e ≡ record { why = q; place = i }
     → x ≡ bad (reason_meant q) i → Tells r x
 fault_told_as h e d = tells_as (sym (handed_as h e)) (fault_is d)
 
 -- what is asked first does not hold, which is told
 pub fault_need : {A : Type 0} {r : Typing} {e : Fault} {q : Reason} {i : ℕ} (d : Dec A) (f : Unit {0} → Res Ty)
-    → IsErrAnd r (λ y. y ≡ e) → e ≡ record { reason = q; at = i } → (A → ⊥) → Tells r (need d (reason_meant q) i f)
+    → IsErrAnd r (λ y. y ≡ e) → e ≡ record { why = q; place = i } → (A → ⊥) → Tells r (need d (reason_meant q) i f)
 fault_need d f h e n = fault_told_as h e (need_no _ _ _ _ n)
 
 -- or it holds, and the rest is asked

@@ -20,11 +20,16 @@ use Rattle.layout.specs.Rows.{CALL, unary_kind, binary_kind}
 use Rattle.layout.specs.Decode.{Shape, shape_of, children, counts, build}
 use Rattle.numbers.specs.Meanings.{reason_meant}
 use Rattle.rules.specs.Sight.{Means, expected_in}
-use Rattle.rules.specs.declared.Fault.{Fault}
+use Rattle.numbers.specs.declared.Located.{Located}
+use Rattle.numbers.specs.declared.Reason.{Reason}
 use Rattle.rules.specs.declared.sight.Callee.{Callee}
 use Rattle.rules.specs.declared.sight.Taker.{Taker}
 
 -- ---- answers
+
+-- why there is no type, and the token that this is told at
+abbrev pub Fault : Type 0
+Fault = Located Reason ℕ
 
 -- a type's number, or the fault that is told instead
 abbrev pub Typing : Type 0
@@ -33,7 +38,7 @@ Typing = P.Result ℕ Fault
 -- the code's answer tells what the written checker answers
 pub data Tells : Typing → Res Ty → Type 0 where
   tells_type : {n : ℕ} {t : Ty} → n ≡ type_number t → Tells (Ok n) (ok t)
-  tells_fault : {e : Fault} {q : Faults.Reason} → reason_meant e.reason ≡ q → Tells (Err e) (bad q e.at)
+  tells_fault : {e : Fault} {q : Faults.Reason} → reason_meant e.why ≡ q → Tells (Err e) (bad q e.place)
 
 -- the types ts are those that are wanted from expression k of a list on
 unfoldable pub suits : List ℕ → Taker → ℕ → List Ty → Bool

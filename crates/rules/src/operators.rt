@@ -222,8 +222,8 @@ pub fn call(
         }
         Callee::Putchar => matched(1, types::INT, count, suited, at),
         Callee::Nobody => Err(Fault {
-            reason: Reason::NoFunction,
-            at,
+            why: Reason::NoFunction,
+            place: at,
         }),
     }
 }

@@ -15,7 +15,8 @@ pub enum Callee {
     Nobody,
 }
 
-// Who takes a list of expressions, each of some type: a callee its arguments, or a `for` its bounds.
+// Who takes a list of expressions, each of some type: a callee its arguments, or a `for` its bounds. It is no option: a
+// `for` is as much of a taker as a callee.
 #[derive(Clone, Copy)]
 pub enum Taker {
     Call(Callee),
@@ -48,7 +49,8 @@ pub fn called(table: &[u32], seen: usize, name: u32) -> Callee
     }
 }
 
-// The number of the type that a callee wants of its argument k, 0 where it has none.
+// The number of the type that a callee wants of its argument k, 0 where it has none: specs/Sight.wanted_in is a number,
+// with which `suits` compares, and 0 is no type's.
 #[tactic(auto, unfolding(language::specs::Meaning::type_number))]
 pub fn wanted(table: &[u32], callee: Callee, k: usize) -> u32
     requires { (TABLE ≤ length table.now) × Rowed table.now callee }

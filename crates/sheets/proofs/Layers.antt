@@ -35,7 +35,7 @@ use Rattle.reader.specs.Findings as Reader
 use Rattle.reader.specs.Findings.{Standing}
 use Rattle.checker.specs.Checked as Checker
 use Rattle.rules.specs.Asked.{Typing}
-use Rattle.rules.specs.declared.Fault.{Fault}
+use Rattle.rules.specs.Asked.{Fault}
 use Rattle.std.specs.Prelude.{Ok, Err}
 use Rattle.sheets.specs.Sheets.{Seen, wiped, byte_of, OfProgram, Typed, OfTokens, Read, told_at, OfSource, Examined}
 
@@ -82,9 +82,9 @@ module _ (w w' : List ℕ) (P : Held) where
   }
 
   pub typed_fault : (r : Typing) (e : Fault) → Checker.Checked w w' P r → r ≡ Err e
-      → Typed w w' P (Err (record { why = Refusal.Types e.reason; place = e.at }))
+      → Typed w w' P (Err (record { why = Refusal.Types e.why; place = e.place }))
   typed_fault r e c q = record {
-    told = λ ts p h. (reason_meant e.reason, subst (λ (r : Typing). Checker.Answers r p) q (c.right ts p h), refl);
+    told = λ ts p h. (reason_meant e.why, subst (λ (r : Typing). Checker.Answers r p) q (c.right ts p h), refl);
     holds = checked_holds c.table;
     rest = checked_rest c.table;
     long = checked_long c.table;

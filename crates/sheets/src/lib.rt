@@ -63,11 +63,11 @@ pub fn place(table: &[u32], count: usize, end: usize, at: usize) -> usize
 
 // Why a reading has no type.
 fn faulty(fault: Fault) -> Refused<usize>
-    ensures { result ≡ record { why = Refusal.Types fault.reason; place = fault.at } }
+    ensures { result ≡ record { why = Refusal.Types fault.why; place = fault.place } }
 {
     Refused {
-        why: Refusal::Types(fault.reason),
-        place: fault.at as usize,
+        why: Refusal::Types(fault.why),
+        place: fault.place as usize,
     }
 }
 
