@@ -5,59 +5,91 @@ ghost use Rattle.language.specs.Tokens.{NAME};
 ghost use Rattle.layout.specs.Table.{KIND, row_word};
 ghost use Rattle.layout.specs.Frames.{FRAMES, SIZES, put_frame};
 ghost use Rattle.runner.specs.Phases.{waits, phase_of, operates};
-ghost use Rattle.runner.specs.Standing.{Begins, Starts, Some, Goes, above, begun};
+ghost use Rattle.runner.specs.Standing.{Begins, Starts, Some, Goes, charged, above, begun};
 
-use crate::state::Next;
+use crate::state::{Next, Spot};
 use crate::{calls, loops, state};
 use language::{ACTIVE, kinds};
+use layout::values::Value;
 use layout::{SLOTS_AT, frames, notes, rows, slots};
 use machine::leaves;
+use machine::state::Tally;
 use numbers::Stop;
 
-// It uses a unit, which is taken off in place: copied into a new `Next`, each node costs some eight instructions more.
-pub fn begin(table: &[u32], work: &mut [u32], n: Next) -> Next
-    requires { Some (λ q o. Begins q table.now work.old o n.node n.spot n.tally) }
-    ensures { Goes (λ q o. Begins q table.now work.old o n.node n.spot n.tally)
-        table.now work.new (3 * n.tally.units + n.spot.height + 1) result }
+// One unit less.
+fn charge(s: Tally) -> Tally
+    requires { 1 ≤ s.units }
+    ensures { result ≡ charged s }
 {
-    if machine::state::exhausted(n.tally) {
-        return n.halts(Stop::NoUnit, rows::word(table, n.node, rows::OWN));
+    Tally {
+        units: s.units - 1,
+        ..s
     }
-    let mut charged = n;
-    charged.tally.units -= 1;
-    if n.spot.height == ACTIVE + 1 {
-        return charged.halts(Stop::TooDeep, rows::word(table, n.node, rows::OWN));
+}
+
+pub fn begin(table: &[u32], work: &mut [u32], node: usize, v: Value, spot: Spot, s: Tally) -> Next
+    requires { Some (λ q o. Begins q table.now work.old o node spot s) }
+    ensures { Goes (λ q o. Begins q table.now work.old o node spot s)
+        table.now work.new (3 * s.units + spot.height + 1) result }
+{
+    if machine::state::exhausted(s) {
+        let place = rows::word(table, node, rows::OWN);
+        return state::halts(Stop::NoUnit, place, v, spot, s);
     }
-    start(table, work, charged)
+    let t = charge(s);
+    let height = spot.height;
+    if height == ACTIVE + 1 {
+        let place = rows::word(table, node, rows::OWN);
+        return state::halts(Stop::TooDeep, place, v, spot, t);
+    }
+    start(table, work, node, v, spot, t)
 }
 
 // Does a node of this kind wait for its first part? All do but names, literals, calls and `for`s.
-#[tactic(auto, unfolding(crate::specs::Phases::waits))]
 fn waits(kind: u32) -> bool
     ensures { result ≡ waits kind }
 {
-    match kind {
-        kinds::FLOAT_NUMBER => false,
-        kinds::LET | kinds::IF | kinds::WHILE => true,
-        _ => kinds::PLUS <= kind,
+    if kind == kinds::FLOAT_NUMBER {
+        return false;
     }
+    if kinds::PLUS <= kind {
+        return true;
+    }
+    if kind == kinds::LET {
+        return true;
+    }
+    if kind == kinds::IF {
+        return true;
+    }
+    kind == kinds::WHILE
 }
 
-// In which phase.
-#[tactic(auto, unfolding(crate::specs::Phases::phase_of))]
+// In which phase. (Told one by one, as in `start`: a `match` is longer.)
 fn phase_of(kind: u32) -> u32
     ensures { result ≡ phase_of kind }
 {
-    match kind {
-        kinds::LPAR => state::LAST,
-        kinds::LBRACE => state::INSIDE,
-        kinds::SEMI => state::BEFORE,
-        kinds::LET => state::BOUND,
-        kinds::IF => state::CONDITION,
-        kinds::WHILE => state::TEST,
-        _ if rows::PREFIX <= kind => state::UNARY,
-        _ => state::LEFT,
+    if kind == kinds::LPAR {
+        return state::LAST;
     }
+    if kind == kinds::LBRACE {
+        return state::INSIDE;
+    }
+    if kind == kinds::SEMI {
+        return state::BEFORE;
+    }
+    if kind == kinds::LET {
+        return state::BOUND;
+    }
+    if kind == kinds::IF {
+        return state::CONDITION;
+    }
+    if kind == kinds::WHILE {
+        return state::TEST;
+    }
+    if rows::PREFIX <= kind {
+        return state::UNARY;
+    }
+    state::LEFT
 }
 
 // Is it an operator between two operands?
@@ -69,79 +101,101 @@ fn operates(kind: u32) -> bool
 }
 
 // A node that has used its unit. Names, numbers and operators, of which most nodes are, are told first.
-fn start(table: &[u32], work: &mut [u32], n: Next) -> Next
-    requires { Some (λ q o. Starts q table.now work.old o n.node n.spot n.tally) }
-    ensures { Goes (λ q o. Starts q table.now work.old o n.node n.spot n.tally)
-        table.now work.new (3 * n.tally.units + n.spot.height + 3) result }
+fn start(table: &[u32], work: &mut [u32], node: usize, v: Value, spot: Spot, s: Tally) -> Next
+    requires { Some (λ q o. Starts q table.now work.old o node spot s) }
+    ensures { Goes (λ q o. Starts q table.now work.old o node spot s)
+        table.now work.new (3 * s.units + spot.height + 3) result }
 {
-    let kind = rows::word(table, n.node, rows::KIND);
+    let kind = rows::word(table, node, rows::KIND);
+    // Told one by one: a `match` here and on phases makes a unit some seven instructions longer, of 92.
     if kind == kinds::NAME {
-        return look(table, work, n);
+        return look(table, work, node, spot, s);
     }
     if kind == kinds::NUMBER {
-        return n.gives(leaves::literal(table, n.node));
+        let number = leaves::literal(table, node);
+        return state::gives(number, spot, s);
     }
     if operates(kind) {
-        let left = rows::link(table, n.node, rows::FIRST);
-        return wait(work, n, state::LEFT, 0, left);
+        let left = rows::link(table, node, rows::FIRST);
+        return wait(work, node, state::LEFT, 0, left, v, spot, s);
     }
     if rows::PREFIX <= kind {
-        let operand = rows::link(table, n.node, rows::FIRST);
-        return wait(work, n, state::UNARY, 0, operand);
+        let operand = rows::link(table, node, rows::FIRST);
+        return wait(work, node, state::UNARY, 0, operand, v, spot, s);
     }
-    other(table, work, n, kind)
+    other(table, work, node, kind, v, spot, s)
 }
 
 // A node of any kind but a name's.
-fn other(table: &[u32], work: &mut [u32], n: Next, kind: u32) -> Next
-    requires { Some (λ q o. Starts q table.now work.old o n.node n.spot n.tally)
-        × (kind ≡ row_word table.now n.node KIND) × (kind ≡ NAME → ⊥) }
-    ensures { Goes (λ q o. Starts q table.now work.old o n.node n.spot n.tally)
-        table.now work.new (3 * n.tally.units + n.spot.height + 3) result }
+fn other(
+    table: &[u32],
+    work: &mut [u32],
+    node: usize,
+    kind: u32,
+    v: Value,
+    spot: Spot,
+    s: Tally,
+) -> Next
+    requires { Some (λ q o. Starts q table.now work.old o node spot s)
+        × (kind ≡ row_word table.now node KIND) × (kind ≡ NAME → ⊥) }
+    ensures { Goes (λ q o. Starts q table.now work.old o node spot s)
+        table.now work.new (3 * s.units + spot.height + 3) result }
 {
     if kind == rows::CALL {
-        return calls::call(table, work, n);
+        return calls::call(table, work, node, v, spot, s);
     }
     if rows::counts(kind) {
-        let bound = rows::link(table, n.node, rows::START);
-        return calls::pass(table, work, n, bound, 0);
+        let bound = rows::link(table, node, rows::START);
+        return calls::pass(table, work, node, bound, 0, v, spot, s);
     }
     if waits(kind) {
-        let first = rows::link(table, n.node, rows::FIRST);
-        return wait(work, n, phase_of(kind), n.tally.cells, first);
+        let phase = phase_of(kind);
+        let first = rows::link(table, node, rows::FIRST);
+        return wait(work, node, phase, s.cells, first, v, spot, s);
     }
-    n.gives(leaves::literal(table, n.node))
+    let found = leaves::literal(table, node);
+    state::gives(found, spot, s)
 }
 
 // What the nearest binding of the name holds, whose slot is noted of its token.
-fn look(table: &[u32], work: &[u32], n: Next) -> Next
-    requires { Some (λ q o. Starts q table.now work.now o n.node n.spot n.tally)
-        × (row_word table.now n.node KIND ≡ NAME) }
-    ensures { Goes (λ q o. Starts q table.now work.now o n.node n.spot n.tally) table.now
-        work.now (3 * n.tally.units + n.spot.height + 3) result }
+fn look(table: &[u32], work: &[u32], node: usize, spot: Spot, s: Tally) -> Next
+    requires { Some (λ q o. Starts q table.now work.now o node spot s)
+        × (row_word table.now node KIND ≡ NAME) }
+    ensures { Goes (λ q o. Starts q table.now work.now o node spot s) table.now
+        work.now (3 * s.units + spot.height + 3) result }
 {
-    let own = rows::link(table, n.node, rows::OWN);
+    let own = rows::link(table, node, rows::OWN);
     let slot = notes::note(table, own) as usize;
-    n.gives(slots::value(work, SLOTS_AT, n.spot.base + slot))
+    let v = slots::value(work, SLOTS_AT, spot.base + slot);
+    state::gives(v, spot, s)
 }
 
 // A frame for the node, and its part begins. The mark is for a Block: how many cells are live, so that it frees those
 // that come.
-fn wait(work: &mut [u32], n: Next, phase: u32, mark: usize, part: usize) -> Next
-    requires { (WORK ≤ length work.old) × (n.spot.height < FRAMES) × (n.node < NODES) × (n.spot.base ≤ WORK)
-        × (n.spot.size < SIZES) × (mark ≤ WORK) }
+fn wait(
+    work: &mut [u32],
+    node: usize,
+    phase: u32,
+    mark: usize,
+    part: usize,
+    v: Value,
+    spot: Spot,
+    s: Tally,
+) -> Next
+    requires { (WORK ≤ length work.old) × (spot.height < FRAMES) × (node < NODES) × (spot.base ≤ WORK)
+        × (spot.size < SIZES) × (mark ≤ WORK) }
     ensures { (work.new
-        ≡ put_frame work.old n.spot.height n.node phase n.spot.base n.spot.size mark)
-        × (result ≡ begun part n.value (above n.spot.base n.spot.size n.spot) n.tally) }
+        ≡ put_frame work.old spot.height node phase spot.base spot.size mark)
+        × (result ≡ begun part v (above spot.base spot.size spot) s) }
 {
-    frames::put(
-        work,
-        n.spot.height,
-        n.node,
-        phase,
-        n.spot.base,
-        n.spot.size,
-        mark,
-    );
-    n.begins(part, n.spot.above(n.spot.base, n.spot.size))
+    let base = spot.base;
+    let size = spot.size;
+    let height = spot.height;
+    frames::put(work, height, node, phase, base, size, mark);
+    let inner = Spot {
+        base,
+        size,
+        height: height + 1,
+    };
+    state::begins(part, v, inner, s)
 }

@@ -10,10 +10,12 @@ ghost use Rattle.runner.specs.Phases.{ARGUMENT};
 ghost use Rattle.runner.specs.Standing.{Starts, Resumes, Some, Goes, Any, Prints, LastOf};
 ghost use Rattle.runner.specs.Standing.{Printing, Callable, Enters, Heads, callee, above, begun};
 
-use crate::state::Next;
+use crate::state::{Next, Spot};
 use crate::{loops, state};
+use layout::values::Value;
 use layout::{NOBODY, SLOTS_AT, frames, notes, rows, slots};
 use machine::output;
+use machine::state::Tally;
 
 // Which argument a frame waits for: its row and its number, in one mark.
 const NUMBERS: usize = 8;
@@ -32,120 +34,154 @@ fn callee(table: &[u32], node: usize) -> Option<usize>
     }
 }
 
-pub fn call(table: &[u32], work: &mut [u32], n: Next) -> Next
-    requires { Some (λ q o. Starts q table.now work.old o n.node n.spot n.tally)
-        × (row_word table.now n.node KIND ≡ CALL) }
-    ensures { Goes (λ q o. Starts q table.now work.old o n.node n.spot n.tally)
-        table.now work.new (3 * n.tally.units + n.spot.height + 3) result }
+pub fn call(table: &[u32], work: &mut [u32], node: usize, v: Value, spot: Spot, s: Tally) -> Next
+    requires { Some (λ q o. Starts q table.now work.old o node spot s)
+        × (row_word table.now node KIND ≡ CALL) }
+    ensures { Goes (λ q o. Starts q table.now work.old o node spot s)
+        table.now work.new (3 * s.units + spot.height + 3) result }
 {
-    let row = rows::link(table, n.node, rows::FIRST);
+    let row = rows::link(table, node, rows::FIRST);
     if row == 0 {
-        return match callee(table, n.node) {
-            Some(head) => enter(table, work, n, head),
-            None => n.gives(n.value),
+        return match callee(table, node) {
+            Some(head) => enter(table, work, head, node, v, spot, s),
+            None => state::gives(v, spot, s),
         };
     }
-    pass(table, work, n, row, 0)
+    pass(table, work, node, row, 0, v, spot, s)
 }
 
 // Argument k, at a row of its own, begins, above those that wait.
-pub fn pass(table: &[u32], work: &mut [u32], n: Next, row: usize, k: usize) -> Next
-    requires { (TABLE ≤ length table.now) × (WORK ≤ length work.old) × (n.spot.height < FRAMES) × (n.node < NODES)
-        × (row < NODES) × (k < PARAMETERS) × (n.spot.base ≤ WORK) × (n.spot.size < SIZES) }
+pub fn pass(
+    table: &[u32],
+    work: &mut [u32],
+    node: usize,
+    row: usize,
+    k: usize,
+    v: Value,
+    spot: Spot,
+    s: Tally,
+) -> Next
+    requires { (TABLE ≤ length table.now) × (WORK ≤ length work.old) × (spot.height < FRAMES) × (node < NODES)
+        × (row < NODES) × (k < PARAMETERS) × (spot.base ≤ WORK) × (spot.size < SIZES) }
     ensures { (work.new
-        ≡ put_frame work.old n.spot.height n.node ARGUMENT n.spot.base n.spot.size (TAGS * row + k))
-        × (result ≡ begun (row_word table.now row EXPRESSION) n.value (above n.spot.base (n.spot.size + k) n.spot)
-        n.tally) }
+        ≡ put_frame work.old spot.height node ARGUMENT spot.base spot.size (TAGS * row + k))
+        × (result ≡ begun (row_word table.now row EXPRESSION) v (above spot.base (spot.size + k) spot)
+        s) }
 {
+    let base = spot.base;
+    let size = spot.size;
+    let height = spot.height;
     let mark = NUMBERS * row + k;
-    frames::put(
-        work,
-        n.spot.height,
-        n.node,
-        state::ARGUMENT,
-        n.spot.base,
-        n.spot.size,
-        mark,
-    );
+    frames::put(work, height, node, state::ARGUMENT, base, size, mark);
     let part = rows::link(table, row, rows::EXPRESSION);
-    n.begins(part, n.spot.above(n.spot.base, n.spot.size + k))
+    let inner = Spot {
+        base,
+        size: size + k,
+        height: height + 1,
+    };
+    state::begins(part, v, inner, s)
 }
 
 // The body begins, and sees the arguments alone, which lie in the first slots of its frame.
-fn enter(table: &[u32], work: &mut [u32], n: Next, head: usize) -> Next
-    requires { Callable table.now head × (WORK ≤ length work.old) × (n.spot.height < FRAMES) × (n.node < NODES)
-        × (n.spot.base + n.spot.size + row_word table.now head ARITY ≤ SLOTS) }
-    ensures { Enters table.now work.old work.new n.node head n.value n.spot n.tally result }
+fn enter(
+    table: &[u32],
+    work: &mut [u32],
+    head: usize,
+    node: usize,
+    v: Value,
+    spot: Spot,
+    s: Tally,
+) -> Next
+    requires { Callable table.now head × (WORK ≤ length work.old) × (spot.height < FRAMES) × (node < NODES)
+        × (spot.base + spot.size + row_word table.now head ARITY ≤ SLOTS) }
+    ensures { Enters table.now work.old work.new node head v spot s result }
 {
+    let base = spot.base;
+    let size = spot.size;
+    let height = spot.height;
     let count = rows::link(table, head, rows::ARITY);
     let body = rows::link(table, head, rows::BODY);
-    frames::put(
-        work,
-        n.spot.height,
-        n.node,
-        state::LAST,
-        n.spot.base,
-        n.spot.size,
-        0,
-    );
-    n.begins(body, n.spot.above(n.spot.base + n.spot.size, count))
+    frames::put(work, height, node, state::LAST, base, size, 0);
+    let inner = Spot {
+        base: base + size,
+        size: count,
+        height: height + 1,
+    };
+    state::begins(body, v, inner, s)
 }
 
 // Argument k has its value, which goes into its slot, and the next one begins.
-pub fn argument(table: &[u32], work: &mut [u32], out: &mut [u8], n: Next) -> Next
-    requires { Any (λ q. Resumes q table.now work.old out.old n.value n.node ARGUMENT n.spot n.tally) }
-    ensures { Prints (λ q. Resumes q table.now work.old out.old n.value
-        n.node ARGUMENT n.spot n.tally) table.now work.new out.new
-        (3 * n.tally.units + n.spot.height + 3) result }
+pub fn argument(
+    table: &[u32],
+    work: &mut [u32],
+    out: &mut [u8],
+    v: Value,
+    node: usize,
+    spot: Spot,
+    s: Tally,
+) -> Next
+    requires { Any (λ q. Resumes q table.now work.old out.old v node ARGUMENT spot s) }
+    ensures { Prints (λ q. Resumes q table.now work.old out.old v
+        node ARGUMENT spot s) table.now work.new out.new
+        (3 * s.units + spot.height + 3) result }
 {
-    let mark = frames::mark(work, n.spot.height);
+    let height = spot.height;
+    let mark = frames::mark(work, height);
     let row = mark / NUMBERS;
     let k = mark % NUMBERS;
     let next = rows::link(table, row, rows::NEXT);
     if next == 0 {
-        return last_argument(table, work, out, n, k);
+        return last_argument(table, work, out, v, node, k, spot, s);
     }
-    let at = n.spot.base + n.spot.size + k;
-    slots::put(work, SLOTS_AT, at, state::NAMELESS, n.value);
-    pass(table, work, n, next, k + 1)
+    let at = spot.base + spot.size + k;
+    slots::put(work, SLOTS_AT, at, state::NAMELESS, v);
+    pass(table, work, node, next, k + 1, v, spot, s)
 }
 
 // All arguments are worked out: the function is entered. `putchar` has no body, and its one argument is printed. With
 // its bounds a `for` goes on.
-fn last_argument(table: &[u32], work: &mut [u32], out: &mut [u8], n: Next, k: usize) -> Next
-    requires { Any (λ q. Resumes q table.now work.old out.old n.value n.node ARGUMENT n.spot n.tally)
-        × LastOf table.now work.old n.spot.height k }
-    ensures { Prints (λ q. Resumes q table.now work.old out.old n.value
-        n.node ARGUMENT n.spot n.tally) table.now work.new out.new
-        (3 * n.tally.units + n.spot.height + 3) result }
+fn last_argument(
+    table: &[u32],
+    work: &mut [u32],
+    out: &mut [u8],
+    v: Value,
+    node: usize,
+    k: usize,
+    spot: Spot,
+    s: Tally,
+) -> Next
+    requires { Any (λ q. Resumes q table.now work.old out.old v node ARGUMENT spot s)
+        × LastOf table.now work.old spot.height k }
+    ensures { Prints (λ q. Resumes q table.now work.old out.old v
+        node ARGUMENT spot s) table.now work.new out.new
+        (3 * s.units + spot.height + 3) result }
 {
-    let kind = rows::word(table, n.node, rows::KIND);
+    let kind = rows::word(table, node, rows::KIND);
     if rows::counts(kind) {
-        return loops::bounded(table, work, n, k);
+        return loops::bounded(table, work, v, node, k, spot, s);
     }
-    match callee(table, n.node) {
-        None => print(table, out, n),
+    match callee(table, node) {
+        None => print(table, out, v, node, spot, s),
         Some(head) => {
-            let at = n.spot.base + n.spot.size + k;
-            slots::put(work, SLOTS_AT, at, state::NAMELESS, n.value);
-            enter(table, work, n, head)
+            let at = spot.base + spot.size + k;
+            slots::put(work, SLOTS_AT, at, state::NAMELESS, v);
+            enter(table, work, head, node, v, spot, s)
         }
     }
 }
 
-fn print(table: &[u32], out: &mut [u8], n: Next) -> Next
-    requires { (TABLE ≤ length table.now) × (n.node < NODES) × (n.tally.printed ≤ length out.old) }
-    ensures { Printing (row_word table.now n.node OWN) n.value out.old out.new
-        n.spot n.tally result }
+fn print(table: &[u32], out: &mut [u8], v: Value, node: usize, spot: Spot, s: Tally) -> Next
+    requires { (TABLE ≤ length table.now) × (node < NODES) × (s.printed ≤ length out.old) }
+    ensures { Printing (row_word table.now node OWN) v out.old out.new
+        spot s result }
 {
-    match output::put(out, n.value, n.tally) {
+    let place = rows::word(table, node, rows::OWN);
+    let r = output::put(out, v, s);
+    match r {
         Ok(x) => {
-            let printed = Next {
-                tally: output::printed(out, n.tally),
-                ..n
-            };
-            printed.gives(x)
+            let t = output::printed(out, s);
+            state::gives(x, spot, t)
         }
-        Err(why) => n.halts(why, rows::word(table, n.node, rows::OWN)),
+        Err(why) => state::halts(why, place, v, spot, s),
     }
 }

@@ -41,9 +41,13 @@ fn begun(table: &[u32], work: &mut [u32], out: &mut [u8], n: Next) -> Next
     ensures { Turns table.now work.old out.old work.new
         out.new n result Mode.Begin }
 {
-    match n.mode {
-        Mode::Begin => begin::begin(table, work, n),
-        _ => n,
+    let mode = n.mode;
+    let v = n.value;
+    match mode {
+        Mode::Begin => begin::begin(table, work, n.node, v, n.spot, n.tally),
+        Mode::Give => n,
+        Mode::Over => n,
+        Mode::Halt(_, _) => n,
     }
 }
 
@@ -53,9 +57,13 @@ fn given(table: &[u32], work: &mut [u32], out: &mut [u8], n: Next) -> Next
     ensures { Turns table.now work.old out.old work.new
         out.new n result Mode.Give }
 {
-    match n.mode {
-        Mode::Give => resume::give(table, work, out, n),
-        _ => n,
+    let mode = n.mode;
+    let v = n.value;
+    match mode {
+        Mode::Begin => n,
+        Mode::Give => resume::give(table, work, out, v, n.spot, n.tally),
+        Mode::Over => n,
+        Mode::Halt(_, _) => n,
     }
 }
 
@@ -76,7 +84,7 @@ fn go(table: &[u32], work: &mut [u32], out: &mut [u8], first: Next) -> Next
         out.new first result }
 {
     let mut next = first;
-    while next.runs() {
+    while state::runs(next) {
         next = turn(table, work, out, next);
     }
     next

@@ -10,82 +10,130 @@ ghost use Rattle.runner.specs.Standing.{Resumes, Some, Goes, LastOf};
 ghost use Rattle.runner.specs.Loops.{Counting, BodyBegins};
 
 use crate::state;
-use crate::state::Next;
+use crate::state::{Next, Spot};
 use language::kinds;
 use layout::values::Value;
 use layout::{SLOTS_AT, frames, rows, slots};
 use machine::counting;
+use machine::state::Tally;
 use numbers::Stop;
 
 // The last bound has its value. With two of them no step is written.
-pub fn bounded(table: &[u32], work: &mut [u32], n: Next, k: usize) -> Next
-    requires { Some (λ q o. Resumes q table.now work.old o n.value n.node ARGUMENT n.spot n.tally)
-        × LastOf table.now work.old n.spot.height k × (counts (row_word table.now n.node KIND) ≡ true) }
-    ensures { Goes (λ q o. Resumes q table.now work.old o n.value n.node ARGUMENT n.spot n.tally)
-        table.now work.new (3 * n.tally.units + n.spot.height + 3) result }
+pub fn bounded(
+    table: &[u32],
+    work: &mut [u32],
+    v: Value,
+    node: usize,
+    k: usize,
+    spot: Spot,
+    s: Tally,
+) -> Next
+    requires { Some (λ q o. Resumes q table.now work.old o v node ARGUMENT spot s)
+        × LastOf table.now work.old spot.height k × (counts (row_word table.now node KIND) ≡ true) }
+    ensures { Goes (λ q o. Resumes q table.now work.old o v node ARGUMENT spot s)
+        table.now work.new (3 * s.units + spot.height + 3) result }
 {
-    let at = n.spot.base + n.spot.size;
+    let at = spot.base + spot.size;
     let from = slots::value(work, SLOTS_AT, at);
     if k == 1 {
-        let by = counting::step(from, n.value);
-        return first(table, work, n, from, n.value, by);
+        let by = counting::step(from, v);
+        return first(table, work, node, from, v, by, v, spot, s);
     }
     let to = slots::value(work, SLOTS_AT, at + 1);
-    first(table, work, n, from, to, n.value)
+    first(table, work, node, from, to, v, v, spot, s)
 }
 
 // A step of zero stops it before anything else is looked at.
-fn first(table: &[u32], work: &mut [u32], n: Next, from: Value, to: Value, by: Value) -> Next
-    requires { Some (λ q o. Counting q table.now work.old o true n.node from to by n.spot n.tally) }
-    ensures { Goes (λ q o. Counting q table.now work.old o true n.node from to by n.spot n.tally)
-        table.now work.new (3 * n.tally.units + n.spot.height + 3) result }
+fn first(
+    table: &[u32],
+    work: &mut [u32],
+    node: usize,
+    from: Value,
+    to: Value,
+    by: Value,
+    v: Value,
+    spot: Spot,
+    s: Tally,
+) -> Next
+    requires { Some (λ q o. Counting q table.now work.old o true node from to by spot s) }
+    ensures { Goes (λ q o. Counting q table.now work.old o true node from to by spot s)
+        table.now work.new (3 * s.units + spot.height + 3) result }
 {
     if counting::still(by) {
-        return n.halts(Stop::ZeroStep, rows::word(table, n.node, rows::OWN));
+        let place = rows::word(table, node, rows::OWN);
+        return state::halts(Stop::ZeroStep, place, v, spot, s);
     }
-    turn(table, work, n, from, to, by)
+    turn(table, work, node, from, to, by, v, spot, s)
 }
 
 // A pass for z, if one is due.
-fn turn(table: &[u32], work: &mut [u32], n: Next, z: Value, to: Value, by: Value) -> Next
-    requires { Some (λ q o. Counting q table.now work.old o false n.node z to by n.spot n.tally) }
-    ensures { Goes (λ q o. Counting q table.now work.old o false n.node z to by n.spot n.tally)
-        table.now work.new (3 * n.tally.units + n.spot.height + 3) result }
+fn turn(
+    table: &[u32],
+    work: &mut [u32],
+    node: usize,
+    z: Value,
+    to: Value,
+    by: Value,
+    v: Value,
+    spot: Spot,
+    s: Tally,
+) -> Next
+    requires { Some (λ q o. Counting q table.now work.old o false node z to by spot s) }
+    ensures { Goes (λ q o. Counting q table.now work.old o false node z to by spot s)
+        table.now work.new (3 * s.units + spot.height + 3) result }
 {
-    let kind = rows::word(table, n.node, rows::KIND);
+    let kind = rows::word(table, node, rows::KIND);
     if counting::passes(kind == kinds::THROUGH, to, by, z) {
-        return pass(table, work, n, z, to, by);
+        return pass(table, work, node, z, to, by, v, spot, s);
     }
-    n.gives(Value::Nothing)
+    state::gives(Value::Nothing, spot, s)
 }
 
 // The body begins. Its name is bound in the slot above those in sight, and the end and the step wait above it.
-fn pass(table: &[u32], work: &mut [u32], n: Next, z: Value, to: Value, by: Value) -> Next
-    requires { (TABLE ≤ length table.now) × (n.node < NODES) × (WORK ≤ length work.old) × (n.spot.height < FRAMES)
-        × (n.spot.base + n.spot.size + 2 < SLOTS) }
-    ensures { BodyBegins table.now work.old work.new n.node z to by n.value n.spot n.tally result }
+fn pass(
+    table: &[u32],
+    work: &mut [u32],
+    node: usize,
+    z: Value,
+    to: Value,
+    by: Value,
+    v: Value,
+    spot: Spot,
+    s: Tally,
+) -> Next
+    requires { (TABLE ≤ length table.now) × (node < NODES) × (WORK ≤ length work.old) × (spot.height < FRAMES)
+        × (spot.base + spot.size + 2 < SLOTS) }
+    ensures { BodyBegins table.now work.old work.new node z to by v spot s result }
 {
-    let part = rows::link(table, n.node, rows::PASS);
-    let at = n.spot.base + n.spot.size;
-    slots::put(work, SLOTS_AT, at, state::NAMELESS, z);
-    slots::put(work, SLOTS_AT, at + 1, state::NAMELESS, to);
-    slots::put(work, SLOTS_AT, at + 2, state::NAMELESS, by);
-    frames::turn(work, n.spot.height, state::COUNTED);
-    n.begins(part, n.spot.above(n.spot.base, n.spot.size + 3))
+    let part = rows::link(table, node, rows::PASS);
+    let base = spot.base;
+    let size = spot.size;
+    let height = spot.height;
+    slots::put(work, SLOTS_AT, base + size, state::NAMELESS, z);
+    slots::put(work, SLOTS_AT, base + size + 1, state::NAMELESS, to);
+    slots::put(work, SLOTS_AT, base + size + 2, state::NAMELESS, by);
+    frames::turn(work, height, state::COUNTED);
+    let inner = Spot {
+        base,
+        size: size + 3,
+        height: height + 1,
+    };
+    state::begins(part, v, inner, s)
 }
 
 // A pass is over, and the number behind its own may be due.
-pub fn next(table: &[u32], work: &mut [u32], n: Next) -> Next
-    requires { Some (λ q o. Resumes q table.now work.old o n.value n.node COUNTED n.spot n.tally) }
-    ensures { Goes (λ q o. Resumes q table.now work.old o n.value n.node COUNTED n.spot n.tally)
-        table.now work.new (3 * n.tally.units + n.spot.height + 3) result }
+pub fn next(table: &[u32], work: &mut [u32], v: Value, node: usize, spot: Spot, s: Tally) -> Next
+    requires { Some (λ q o. Resumes q table.now work.old o v node COUNTED spot s) }
+    ensures { Goes (λ q o. Resumes q table.now work.old o v node COUNTED spot s)
+        table.now work.new (3 * s.units + spot.height + 3) result }
 {
-    let at = n.spot.base + n.spot.size;
+    let at = spot.base + spot.size;
     let z = slots::value(work, SLOTS_AT, at);
     let to = slots::value(work, SLOTS_AT, at + 1);
     let by = slots::value(work, SLOTS_AT, at + 2);
-    match counting::next(z, by) {
-        Some(x) => turn(table, work, n, x, to, by),
-        None => n.gives(Value::Nothing),
+    let n = counting::next(z, by);
+    match n {
+        Some(x) => turn(table, work, node, x, to, by, v, spot, s),
+        None => state::gives(Value::Nothing, spot, s),
     }
 }

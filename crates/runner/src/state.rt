@@ -1,7 +1,6 @@
 // Where a run stands between two steps.
-ghost use Rattle.std.specs.Prelude.{◌≡◌, ◌<◌};
-ghost use Rattle.layout.specs.Frames.{FRAMES};
-ghost use Rattle.runner.specs.Standing.{Ending, running, above, begun, given, over, onward};
+ghost use Rattle.std.specs.Prelude.{◌≡◌};
+ghost use Rattle.runner.specs.Standing.{Ending, running, begun, given, over, onward};
 
 use layout::values::Value;
 use machine::state::Tally;
@@ -25,7 +24,8 @@ pub struct Spot {
     pub height: usize,
 }
 
-// What comes next. The node is the one that begins or goes on, and the value the one that was given last.
+// What comes next. Its parts go from function to function one by one: handed on whole, they are copied, and a unit has
+// some seven instructions more, of 92. The node is the one that begins, and the value the one that was given last.
 #[derive(Clone, Copy)]
 pub struct Next {
     pub mode: Mode,
@@ -67,82 +67,75 @@ pub const COUNTED: u32 = 12;
 // The key of every slot of a frame: which slot a name means is noted, so none is sought by its key.
 pub const NAMELESS: u32 = 0;
 
-impl Spot {
-    // What a part sees, above one frame more.
-    pub fn above(self, base: usize, size: usize) -> Spot
-        requires { self.height < FRAMES }
-        ensures { result ≡ above base size self }
-    {
-        Spot {
-            base,
-            size,
-            height: self.height + 1,
-        }
+pub fn begins(node: usize, value: Value, spot: Spot, tally: Tally) -> Next
+    ensures { result ≡ begun node value spot tally }
+{
+    Next {
+        mode: Mode::Begin,
+        node,
+        value,
+        spot,
+        tally,
     }
 }
 
-impl Next {
-    // A node begins at a spot.
-    pub fn begins(self, node: usize, spot: Spot) -> Next
-        ensures { result ≡ begun node self.value spot self.tally }
-    {
-        Next {
-            mode: Mode::Begin,
-            node,
-            value: self.value,
-            spot,
-            tally: self.tally,
-        }
+pub fn gives(value: Value, spot: Spot, tally: Tally) -> Next
+    ensures { result ≡ given value spot tally }
+{
+    Next {
+        mode: Mode::Give,
+        node: 0,
+        value,
+        spot,
+        tally,
     }
+}
 
-    pub fn gives(self, value: Value) -> Next
-        ensures { result ≡ given value self.spot self.tally }
-    {
-        Next {
-            mode: Mode::Give,
-            node: 0,
-            value,
-            spot: self.spot,
-            tally: self.tally,
-        }
+// The run ends with a value.
+pub fn done(value: Value, spot: Spot, tally: Tally) -> Next
+    ensures { result ≡ over Ending.complete value spot tally }
+{
+    Next {
+        mode: Mode::Over,
+        node: 0,
+        value,
+        spot,
+        tally,
     }
+}
 
-    // The run ends with the value.
-    pub fn done(self) -> Next
-        ensures { result ≡ over Ending.complete self.value self.spot self.tally }
-    {
-        Next {
-            mode: Mode::Over,
-            node: 0,
-            ..self
-        }
+// The run stops.
+pub fn halts(why: Stop, place: u32, value: Value, spot: Spot, tally: Tally) -> Next
+    ensures { result ≡ over (Ending.stopped why place) value spot tally }
+{
+    Next {
+        mode: Mode::Halt(why, place),
+        node: 0,
+        value,
+        spot,
+        tally,
     }
+}
 
-    // The run stops. The value is the one given before.
-    pub fn halts(self, why: Stop, place: u32) -> Next
-        ensures { result ≡ over (Ending.stopped why place) self.value self.spot self.tally }
-    {
-        Next {
-            mode: Mode::Halt(why, place),
-            node: 0,
-            ..self
-        }
+// What an operator gave goes on, or the run stops at its token. The value is the one given before.
+pub fn onward(r: Result<Value, Stop>, place: u32, value: Value, spot: Spot, tally: Tally) -> Next
+    ensures { result ≡ onward r place value spot tally }
+{
+    match r {
+        Ok(v) => gives(v, spot, tally),
+        Err(why) => halts(why, place, value, spot, tally),
     }
+}
 
-    // What an operator gave goes on, or the run stops at its token.
-    pub fn onward(self, r: Result<Value, Stop>, place: u32) -> Next
-        ensures { result ≡ onward r place self.value self.spot self.tally }
-    {
-        match r {
-            Ok(v) => self.gives(v),
-            Err(why) => self.halts(why, place),
-        }
-    }
-
-    // Is it not over?
-    pub fn runs(self) -> bool
-        ensures { result ≡ running self }
-    {
-        matches!(self.mode, Mode::Begin | Mode::Give)
+// Is it not over?
+pub fn runs(n: Next) -> bool
+    ensures { result ≡ running n }
+{
+    let mode = n.mode;
+    match mode {
+        Mode::Begin => true,
+        Mode::Give => true,
+        Mode::Over => false,
+        Mode::Halt(_, _) => false,
     }
 }

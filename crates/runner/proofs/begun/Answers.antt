@@ -1,4 +1,3 @@
--- What the borrow checker leaves of `begun`.
 use Rattle.runner.proofs.Turning.{begins_of}
 use Rattle.runner.proofs.begun.Goals as goal
 

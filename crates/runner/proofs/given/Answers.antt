@@ -1,4 +1,3 @@
--- What the borrow checker leaves of `given`.
 use Rattle.runner.proofs.Turning.{gives_of}
 use Rattle.runner.proofs.given.Goals as goal
 

@@ -1,4 +1,3 @@
--- What the borrow checker leaves of `go`.
 use Rattle.runner.proofs.go.Goals as goal
 
 pub turn-next-requires : goal.turn-next-requires

@@ -1,4 +1,3 @@
--- What the borrow checker leaves of `go`.
 use mathlib.Core.Path.{◌≡◌}
 use lib.ListN.{length}
 use Rattle.runner.specs.Waiting.{Run}

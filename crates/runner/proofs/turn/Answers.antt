@@ -1,4 +1,3 @@
--- What the borrow checker leaves of `turn`.
 use Rattle.runner.proofs.Turning.{turn_any}
 use Rattle.runner.proofs.turn.Goals as goal
 

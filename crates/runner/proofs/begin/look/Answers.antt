@@ -8,15 +8,15 @@ pub note-slot-requires : goal.note-slot-requires
 note-slot-requires c =
     ((starts_row c.requires.0).0, omega (arith, c.link-own.ensures, looks_token c.requires.1 c.requires.0))
 
-pub overflow_add-n : goal.overflow_add-n
-overflow_add-n c =
+pub overflow_add-spot : goal.overflow_add-spot
+overflow_add-spot c =
     omega (arith, looks_slot c.requires.1 c.link-own.ensures c.note-slot.ensures c.requires.0)
 
-pub value-requires : goal.value-requires
-value-requires c =
+pub value-v-requires : goal.value-v-requires
+value-v-requires c =
     let l = looks_slot c.requires.1 c.link-own.ensures c.note-slot.ensures c.requires.0 in
     (lit≤ tt, omega (arith, l), omega (arith, l, c.requires.0.holds.fair.room.long))
 
 pub returns : goal.returns
 returns c =
-    looks c.requires.1 c.link-own.ensures c.note-slot.ensures c.value.ensures c.gives.ensures
+    looks c.requires.1 c.link-own.ensures c.note-slot.ensures c.value-v.ensures c.gives.ensures

@@ -30,14 +30,14 @@ pub returns-then-waits : goal.returns-then-waits
 returns-then-waits c =
     starts_waits c.requires.1 c.requires.2 c.if-kind-eq-CALL.false c.counts.ensures c.if-counts.false
     c.waits.ensures c.if-waits.true
-    c.phase_of.ensures c.link-first.ensures (λ z. refl) c.args.n.value c.wait.ensures.0
+    c.phase_of-phase.ensures c.link-first.ensures (λ z. refl) c.args.v c.wait.ensures.0
     c.wait.ensures.1
 
-pub literal-requires : goal.literal-requires
-literal-requires c =
+pub literal-found-requires : goal.literal-found-requires
+literal-found-requires c =
     starts_literal c.requires.1 c.requires.2 c.waits.ensures c.if-waits.false c.requires.0
 
 pub returns : goal.returns
 returns c =
-    starts_leaf c.requires.1 c.requires.2 c.waits.ensures c.if-waits.false c.literal.ensures
+    starts_leaf c.requires.1 c.requires.2 c.waits.ensures c.if-waits.false c.literal-found.ensures
     c.gives.ensures

@@ -5,7 +5,7 @@ use Rattle.runner.proofs.loops.first.Goals as goal
 
 pub returns-then-still : goal.returns-then-still
 returns-then-still c =
-    opens_zero c.still.ensures c.if-still.true c.word.ensures c.args.n.value c.halts.ensures
+    opens_zero c.still.ensures c.if-still.true c.word-place.ensures c.args.v c.halts.ensures
 
 pub turn-requires : goal.turn-requires
 turn-requires c =

@@ -22,17 +22,17 @@ pub turn-requires : goal.turn-requires
 turn-requires c =
     some_from
     (nexts_turn c.value-z.result c.value-to.result c.value-by.result refl c.value-z.ensures
-    c.value-to.ensures c.value-by.ensures c.next.result c.next.ensures c.in-Some.is) c.requires
+    c.value-to.ensures c.value-by.ensures c.next-n.result c.next-n.ensures c.in-Some.is) c.requires
 
 pub returns-in-Some : goal.returns-in-Some
 returns-in-Some c =
     goes_from
     (nexts_turn c.value-z.result c.value-to.result c.value-by.result refl c.value-z.ensures
-    c.value-to.ensures c.value-by.ensures c.next.result c.next.ensures c.in-Some.is) (le_refl _)
+    c.value-to.ensures c.value-by.ensures c.next-n.result c.next-n.ensures c.in-Some.is) (le_refl _)
     c.turn.ensures
 
 pub returns-in-None : goal.returns-in-None
 returns-in-None c =
     nexts_over c.value-z.result c.value-to.result c.value-by.result refl c.value-z.ensures
-    c.value-to.ensures c.value-by.ensures c.next.result c.next.ensures
+    c.value-to.ensures c.value-by.ensures c.next-n.result c.next-n.ensures
     c.in-None.is c.gives.ensures

@@ -30,4 +30,4 @@ returns-then-phase-eq-BEFORE c =
 
 pub returns-then-phase-eq-INSIDE : goal.returns-then-phase-eq-INSIDE
 returns-then-phase-eq-INSIDE c =
-    resumes_inside c.if-phase-eq-INSIDE.true c.mark-live.ensures c.free.ensures c.gives-then-phase-eq-INSIDE.ensures
+    resumes_inside c.if-phase-eq-INSIDE.true c.mark-live.ensures c.free-t.ensures c.gives-then-phase-eq-INSIDE.ensures
