@@ -20,7 +20,8 @@ use numbers::{Flaw, Refusal};
 use tokens::edition::Edition;
 use tokens::forks::begin;
 
-// Why a stored sheet is refused, and the line at which this is told; 0 where it is told of no line.
+// Why a stored sheet is refused, and the line at which this is told; 0 where it is told of no line, as the report of C
+// has it and StoredDenies says.
 #[derive(Clone, Copy)]
 pub struct Denied {
     pub why: Refusal,
@@ -42,6 +43,7 @@ fn tokens_of(
     let mut at = 5;
     let mut count = 0;
     let mut bytes = 0;
+    // A step is as long as a line.
     while at < stored.len() {
         match entry_at(edition, stored, at) {
             Ok(entry) => {

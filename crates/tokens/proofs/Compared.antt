@@ -174,9 +174,10 @@ further t a b u p q h l n =
 pub parted : (t : List ℕ) (a b : ℕ) (u : List ℕ) (p q : ℕ) {m : ℕ} → b ≤ length t → q ≤ length u → (b - a ≡ q - p → ⊥) → m ≡ min (b - a) (q - p)
     → IsParting (slice a b t) (slice p q u) (Some m)
 parted t a b u p q {m} h l n e =
+    let Apart = λ (i : ℕ). IsParting (slice a b t) (slice p q u) (Some i) in
     ⊎_elim
-    (λ (k : b - a < q - p). let z : b - a ≡ m = omega arith in subst (λ i. IsParting (slice a b t) (slice p q u) (Some i)) z (fewer t a b u p q h l k))
-    (λ (k : q - p ≤ b - a). let z : q - p ≡ m = omega arith in subst (λ i. IsParting (slice a b t) (slice p q u) (Some i)) z (further t a b u p q h l (omega arith)))
+    (λ (k : b - a < q - p). let z : b - a ≡ m = omega arith in subst Apart z (fewer t a b u p q h l k))
+    (λ (k : q - p ≤ b - a). let z : q - p ≡ m = omega arith in subst Apart z (further t a b u p q h l (omega arith)))
     (either (b - a) (q - p))
 
 -- ---- the tokens of a table

@@ -42,6 +42,8 @@ module _ (b : ℕ) where
   worth_or None e = sym e
   worth_or (Some d) e = sym e.0
 
+pub ruleset capital_worths = (worth_below, worth_decimal, worth_between, worth_letter, worth_above)
+
 -- ---- two digits
 
 pub two_is : (d e : ℕ) {high low : ℕ} → high ≡ digit_worth d → low ≡ digit_worth e → (high * 16 + low) % 256 ≡ two d e

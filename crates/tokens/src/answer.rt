@@ -1,4 +1,4 @@
-// Why a text is not split into tokens.
+// Why a text is not split into tokens: one of two, of which the first alone has a place.
 
 use numbers::Flaw;
 

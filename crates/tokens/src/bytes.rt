@@ -24,7 +24,7 @@ pub fn is_digit(b: u8) -> bool
     b.is_ascii_digit()
 }
 
-#[tactic(auto, unfolding(language::specs::Text::is_hex_digit, language::specs::Text::is_digit, language::specs::Text::between))]
+#[tactic(auto, using(crate::proofs::NameBytes::ascii_hex))]
 pub fn is_hex_digit(b: u8) -> bool
     ensures { result ≡ is_hex_digit b }
 {
@@ -32,7 +32,7 @@ pub fn is_hex_digit(b: u8) -> bool
 }
 
 // What such a digit is worth.
-#[tactic(auto, using(language::proofs::Text::Classes::hex_low, language::proofs::Text::Classes::hex_large, language::proofs::Text::Classes::hex_small, language::proofs::Text::Classes::worth_digit, language::proofs::Text::Classes::worth_large, language::proofs::Text::Classes::worth_small))]
+#[tactic(auto, using(crate::proofs::NameBytes::hex_worths))]
 pub fn worth(b: u8) -> u64
     requires { is_hex_digit b ≡ true }
     ensures { result ≡ worth b }
@@ -51,7 +51,6 @@ pub fn is_digit_of(base: u64, b: u8) -> bool
     is_hex_digit(b) && worth(b) < base
 }
 
-#[tactic(auto, unfolding(language::specs::Text::is_name_byte, language::specs::Text::is_letter, language::specs::Text::is_digit, language::specs::Text::between))]
 pub fn is_name_byte(b: u8) -> bool
     ensures { result ≡ is_name_byte b }
 {
@@ -139,6 +138,7 @@ impl Class for InLine {
     }
 }
 
+// These take any place up to the text's end, where none has a byte: so no Place, whose byte is there.
 impl<'a> Text<'a> {
     // Where the run of bytes of a class from a place on ends: with the text, or at a byte that is not among them.
     pub fn run_end<C: Class>(&self, at: usize, class: &C) -> usize

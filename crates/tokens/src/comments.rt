@@ -6,6 +6,7 @@ ghost use Rattle.tokens.specs.Shown.{text_of};
 
 use crate::view::Text;
 
+// Three answers of one kind, all told by name: an option of two of them is no plainer.
 #[derive(Clone, Copy)]
 pub enum Pair {
     Opens,
@@ -32,6 +33,7 @@ pub fn comment_end(text: &Text, at: usize) -> Option<usize>
     ensures { IsClose (text_of text.now) at result }
 {
     let size = text.len();
+    // It goes on as long as comments are open, two bytes at each mark: no step of an index.
     let mut depth: usize = 1;
     let mut i = at + 2;
     while 0 < depth {

@@ -9,6 +9,8 @@ ghost use Rattle.tokens.specs.Shown.{text_of};
 
 use crate::view::Text;
 
+// A float number is its first place, its point and its end, as Decimal has them: a struct would name the three again.
+
 // The whole number of all its digits. They are few, so no product can wrap.
 fn all_digits(text: &Text, at: usize, point: usize, end: usize) -> u64
     requires { Decimal (text_of text.now) at point end }

@@ -62,6 +62,7 @@ pub fn way_end(table: &[u32], count: usize, name: &Part) -> usize
 {
     let mut at = start(name.len());
     let mut to = table[at] as usize;
+    // From link to link, which no index tells.
     while TOKENS <= to {
         at = link(table, to, name);
         to = table[at] as usize;
@@ -91,6 +92,7 @@ fn bit_between(old: u32, new: u32) -> u32
     requires { (old ≤ 256) × (new ≤ 256) × (old ≡ new → ⊥) }
     ensures { Apart old new result }
 {
+    // A bit is twice the one before it; a fork asks by the same division.
     let mut bit = 1;
     while old / bit % 2 == new / bit % 2 {
         bit *= 2;

@@ -4,7 +4,7 @@ ghost use Rattle.std.specs.Prelude.{◌≡◌};
 ghost use Rattle.tokens.specs.Shown.{IsDigit, is_capital, two};
 
 // What a digit is worth, if the byte is one.
-#[tactic(auto, using(crate::proofs::HexDigits::worth_below, crate::proofs::HexDigits::worth_decimal, crate::proofs::HexDigits::worth_between, crate::proofs::HexDigits::worth_letter, crate::proofs::HexDigits::worth_above))]
+#[tactic(auto, using(crate::proofs::HexDigits::capital_worths))]
 pub fn worth(b: u8) -> Option<u8>
     ensures { IsDigit b result }
 {

@@ -61,6 +61,7 @@ pub fn split(edition: Edition, text: &Text, table: &mut [u32]) -> Result<usize, 
     forks::begin(table);
     let mut at = 0;
     let mut count = 0;
+    // A step is as long as the piece that stands there.
     while at < size {
         let place = Place {
             text: &*text,

@@ -19,6 +19,9 @@ pub struct Mark {
     pub size: usize,
 }
 
+// That no other form begins there is asked by the language's own words in each clause; it is known at one place in the
+// code alone, so a type for it would be built once and taken apart at once.
+
 // The mark at a place where no blank, name, number or comment begins: of those that stand there the longest. Only with
 // a point begin marks that edition 1 has not.
 pub fn mark_at(edition: Edition, place: &Place) -> Option<Mark>

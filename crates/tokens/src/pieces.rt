@@ -17,6 +17,7 @@ use crate::worth::number;
 use language::kinds;
 use numbers::Flaw;
 
+// What may stand there: neither is a refusal, and both have an end.
 #[derive(Clone, Copy)]
 pub enum Piece {
     // A blank or a comment, up to this place.

@@ -86,6 +86,8 @@ fn of_five(text: &Text, p: usize) -> u32
     }
 }
 
+// A word stands beside its kind where it is looked for: a name's bytes are compared with fixed strings.
+
 // The kind of the one word that is left, if it stands at p.
 fn only(text: &Text, p: usize, word: &[u8], kind: u32) -> u32
     requires { p + length word.now ≤ length (text_of text.now) }

@@ -2,7 +2,8 @@
 use mathlib.Core.Path.{sym, ◌∙◌}
 use Rattle.stored.proofs.LineLaws.{no_feed, no_pairs, line_is}
 use Rattle.stored.proofs.lines.line_at.Goals as goal
-use Rattle.stored.proofs.lines.line_at.Goals.{then-end-at-via-then-end-at, then-end-at-via-else-end-at+then-end-at-ne0, then-end-at-via-else-end-at+else-end-at-ne0+then-byte-ne10}
+use Rattle.stored.proofs.lines.line_at.Goals.{then-end-at-via-then-end-at, then-end-at-via-else-end-at+then-end-at-ne0}
+use Rattle.stored.proofs.lines.line_at.Goals.{then-end-at-via-else-end-at+else-end-at-ne0+then-byte-ne10}
 
 pub returns-then-end-at : goal.returns-then-end-at
 returns-then-end-at c =

@@ -42,7 +42,8 @@ loop-i-preserved c =
     let t = text_of a.text.now in
     elim c.if-i-point.branch [
       | then-i-point w ↦
-          subst (λ v. Read t a.at a.point a.end (l.i + 1) v) (sym w.value-is) (rw w.from.ensures (read_more c.requires l.invariant test w.byte.ensures w.if-i-point.true))
+          let more = read_more c.requires l.invariant test w.byte.ensures w.if-i-point.true in
+          subst (λ v. Read t a.at a.point a.end (l.i + 1) v) (sym w.value-is) (rw w.from.ensures more)
       | else-i-point w ↦
           subst (λ v. Read t a.at a.point a.end (l.i + 1) v) (sym w.value-is) (read_past c.requires l.invariant test w.if-i-point.false)
     ]

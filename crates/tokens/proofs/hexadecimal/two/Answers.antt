@@ -5,4 +5,6 @@ use Rattle.tokens.proofs.hexadecimal.two.Goals as goal
 
 pub returns : goal.returns
 returns c =
-    two_is _ _ (c.from-high.ensures ∙ c.unwrap_or.ensures ∙ worth_or _ _ c.worth.ensures) (c.from-low.ensures ∙ c.unwrap_or-2.ensures ∙ worth_or _ _ c.worth-2.ensures)
+    let high = c.from-high.ensures ∙ c.unwrap_or.ensures ∙ worth_or _ _ c.worth.ensures in
+    let low = c.from-low.ensures ∙ c.unwrap_or-2.ensures ∙ worth_or _ _ c.worth-2.ensures in
+    two_is _ _ high low

@@ -6,6 +6,5 @@ use Rattle.tokens.proofs.marks.mark_at.Goals as goal
 
 pub returns : goal.returns
 returns c =
-    let a = c.args in
-    let t = text_of a.place.now.text.now in
-    in_either t a.place.now.at c.args.place.now.inside c.requires (λ e. c.if-place-eq46.false (c.args.place.now.is ∙ e)) a.edition c.plain.result c.plain.ensures
+    let a = c.args.place.now in
+    in_either (text_of a.text.now) a.at a.inside c.requires (λ e. c.if-place-eq46.false (a.is ∙ e)) c.args.edition c.plain.result c.plain.ensures

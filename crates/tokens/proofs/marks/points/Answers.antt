@@ -7,16 +7,17 @@ use Rattle.tokens.proofs.marks.points.Goals as goal
 
 pub returns-then-stands_at : goal.returns-then-stands_at
 returns-then-stands_at c =
-    through ((text_of c.args.place.now.text.now)) c.args.place.now.at c.args.place.now.inside c.requires.0 (sym c.stands_at.ensures ∙ c.if-stands_at.true)
+    through (text_of c.args.place.now.text.now) c.args.place.now.at c.args.place.now.inside c.requires.0 (sym c.stands_at.ensures ∙ c.if-stands_at.true)
 
 pub returns-then-stands_at-2 : goal.returns-then-stands_at-2
 returns-then-stands_at-2 c =
     let longer = sym c.stands_at.ensures ∙ c.if-stands_at.false in
-    upto ((text_of c.args.place.now.text.now)) c.args.place.now.at c.args.place.now.inside c.requires.0 longer (sym c.stands_at-2.ensures ∙ c.if-stands_at-2.true)
+    let a = c.args.place.now in
+    upto (text_of a.text.now) a.at a.inside c.requires.0 longer (sym c.stands_at-2.ensures ∙ c.if-stands_at-2.true)
 
 pub returns : goal.returns
 returns c =
-    let t = (text_of c.args.place.now.text.now) in
-    let p = c.args.place.now.at in
+    let a = c.args.place.now in
+    let none = point_alone a.inside c.requires.0 (sym a.is ∙ c.requires.1) in
     let clear = sym c.stands_at-2.ensures ∙ c.if-stands_at-2.false in
-    as_before t p c.args.place.now.inside c.requires.0 clear None (point_alone c.args.place.now.inside c.requires.0 (sym c.args.place.now.is ∙ c.requires.1))
+    as_before (text_of a.text.now) a.at a.inside c.requires.0 clear None none

@@ -13,7 +13,8 @@ use Rattle.tokens.proofs.worth.based_at.Goals as goal
 use Rattle.tokens.proofs.worth.based_at.Goals.{Then-is_digit_of}
 
 -- a base is told by the two bytes, and a digit of it stands behind them
-found : (c : Then-is_digit_of) → Digits (meant c.args.edition) (text_of c.args.place.now.text.now) c.args.place.now.at (c.args.place.now.at + 2) c.in-Some.base
+found : (c : Then-is_digit_of)
+    → Digits (meant c.args.edition) (text_of c.args.place.now.text.now) c.args.place.now.at (c.args.place.now.at + 2) c.in-Some.base
 found c =
     let a = c.args in
     let base = base_some _ c.in-Some.ensures ∙ ap₂ (λ a b. base_told (a ∷ b ∷ [])) c.args.place.now.is c.ahead.ensures in
@@ -34,12 +35,17 @@ returns-in_default c =
     let base = base_some _ c.in-Some.ensures ∙ ap₂ (λ a b. base_told (a ∷ b ∷ [])) c.args.place.now.is c.ahead.ensures in
     let digit = c.is_digit_of.ensures ∙ ap (is_digit_of c.in-Some.base) c.ahead-in-Some-1.ensures in
     let none = sym digit ∙ c.if-is_digit_of.false in
-    let text = text_of a.place.now.text.now in
-    (untold_digits (laws_of a.edition) (shared_bases a.edition) text a.place.now.at c.in-Some.base base a.place.now.inside (sym (ap is_digit a.place.now.is) ∙ c.requires) none, λ e. refl)
+    let p = a.place.now in
+    let first = sym (ap is_digit p.is) ∙ c.requires in
+    let text = text_of p.text.now in
+    (untold_digits (laws_of a.edition) (shared_bases a.edition) text p.at c.in-Some.base base p.inside first none, λ e. refl)
 
 pub returns-in_default-2 : goal.returns-in_default-2
 returns-in_default-2 c =
     let a = c.args in
     let base = base_none _ c.in_default.ensures ∙ ap₂ (λ a b. base_told (a ∷ b ∷ [])) c.args.place.now.is c.ahead.ensures in
-    let text = text_of a.place.now.text.now in
-    (untold_digits (laws_of a.edition) (shared_bases a.edition) text a.place.now.at 0 base a.place.now.inside (sym (ap is_digit a.place.now.is) ∙ c.requires) (no_digit (byte text (a.place.now.at + 2))), λ e. refl)
+    let p = a.place.now in
+    let first = sym (ap is_digit p.is) ∙ c.requires in
+    let text = text_of p.text.now in
+    let none = no_digit (byte text (p.at + 2)) in
+    (untold_digits (laws_of a.edition) (shared_bases a.edition) text p.at 0 base p.inside first none, λ e. refl)

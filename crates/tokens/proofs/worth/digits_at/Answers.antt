@@ -7,6 +7,6 @@ use Rattle.tokens.proofs.worth.digits_at.Goals as goal
 
 pub returns : goal.returns
 returns c =
-    let a = c.args in
-    let t = text_of a.place.now.text.now in
-    (no_base a.edition t a.place.now.at a.place.now.inside (sym (ap is_digit a.place.now.is) ∙ c.requires) (λ e. c.if-place-eq48.false (a.place.now.is ∙ e)), λ e. refl)
+    let a = c.args.place.now in
+    let digit = sym (ap is_digit a.is) ∙ c.requires in
+    (no_base c.args.edition (text_of a.text.now) a.at a.inside digit (λ e. c.if-place-eq48.false (a.is ∙ e)), λ e. refl)
