@@ -9,7 +9,7 @@ use Rattle.language.specs.Pairs.{Place, front}
 use Rattle.language.specs.Profile.{ProfileReport}
 use Rattle.language.specs.Writing.{WriteReport}
 use Rattle.layout.specs.declared.values.Value.{Value}
-use Rattle.numbers.specs.Meanings.{refusal_meant, stop_meant}
+use Rattle.numbers.specs.Meanings.{refusal_meant}
 use Rattle.numbers.proofs.Apart.{refusal_of, refusal_back, stop_of, stop_back}
 use Rattle.numbers.specs.declared.Refusal.{Refusal}
 use Rattle.numbers.specs.declared.Stop.{Stop}

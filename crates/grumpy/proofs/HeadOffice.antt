@@ -2,7 +2,7 @@
 -- what is true of any lawful origin, for the origin that a text is in an edition; `PairDemands` and `StoredDemands` have them for two
 -- sheets and for a stored one.
 use mathlib.Core.List.{List}
-use mathlib.Core.Path.{◌≡◌, sym, ap, ◌∙◌}
+use mathlib.Core.Path.{◌≡◌}
 use Prim.Native.Nat.{ℕ, ◌≤◌}
 use Rattle.language.specs.Sizes.{ALLOWANCE}
 use Rattle.language.specs.Numbers.{passed, number}

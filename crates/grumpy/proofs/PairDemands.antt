@@ -2,7 +2,7 @@
 -- `HeadOffice` have them for a text. A shift is paid by `run_pair` (R14).
 use mathlib.Core.List.{List}
 use mathlib.Core.Logic.{◌↔◌}
-use mathlib.Core.Path.{◌≡◌, refl, sym, ap, subst, ◌∙◌}
+use mathlib.Core.Path.{◌≡◌, refl, subst}
 use Prim.Native.Nat.{ℕ, ◌≤◌}
 use lib.ListN.{length}
 use Rattle.language.specs.Sizes.{TABLE, WORK, ALLOWANCE}

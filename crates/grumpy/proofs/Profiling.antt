@@ -3,9 +3,8 @@ use mathlib.Core.List.{List}
 use mathlib.Core.Path.{◌≡◌, refl, sym, ap, subst, ◌∙◌}
 use Prim.Native.Nat.{ℕ, ◌≤◌, ◌<◌}
 use Rattle.std.proofs.Common.{Ok, Err}
-use native.Mathlib.Omega.{arith}
 use lib.ListN.{length}
-use Rattle.language.specs.Sizes.{TOKENS, PAY_COUNT, TABLE}
+use Rattle.language.specs.Sizes.{PAY_COUNT, TABLE}
 use Rattle.language.specs.Tokens.{Token}
 use Rattle.language.specs.Trees.{Ty, Program}
 use Rattle.language.specs.Meaning.{type_number}
@@ -17,14 +16,13 @@ use Rattle.numbers.specs.declared.Refusal.{Refusal}
 use Rattle.layout.specs.Table.{zeros}
 use Rattle.layout.specs.Names.{Stand}
 use Rattle.layout.specs.Decode.{Holds}
-use Rattle.layout.specs.declared.Held.{Held}
 use Rattle.layout.proofs.VariablesTrees.{holds_without}
 use Rattle.layout.proofs.VariablesWords.{length_without}
 use Rattle.layout.proofs.Wiped.{zeros_cleared, wiped_without_variables}
 use Rattle.profiles.specs.Profiled as profiles
-use Rattle.profiles.specs.Profiled.{Countable, Counted, Answers}
+use Rattle.profiles.specs.Profiled.{Counted, Answers}
 use Rattle.profiles.specs.declared.Uncounted.TheVariants.{EndlessNode, ManyUnits}
-use Rattle.sheets.specs.Forms.{origin_of, place_of}
+use Rattle.sheets.specs.Forms.{origin_of}
 use Rattle.sheets.specs.Sheets.{OfSource, Examined}
 use Rattle.sheets.specs.declared.Form.{Form}
 use Rattle.sheets.specs.Sheets.{Seen}

@@ -20,7 +20,7 @@ use Rattle.layout.specs.Table.{zeros}
 use Rattle.numbers.specs.declared.Located.{Located}
 use Rattle.sheets.specs.declared.Passed.{Passed}
 use Rattle.layout.proofs.Wiped.{zeros_cleared}
-use Rattle.writer.specs.Texts.{Writable, WritesOut}
+use Rattle.writer.specs.Texts.{WritesOut}
 use Rattle.writer.specs.Forms.{StoresOut}
 use Rattle.sheets.specs.Sheets.{OfSource, Examined}
 use Rattle.sheets.specs.Sheets.{Seen}

@@ -1,14 +1,13 @@
 -- A program that is run: what the runner says of it, as the end that is told of it.
 use mathlib.Core.Option.{some}
 use mathlib.Core.List.{List, reverse}
-use mathlib.Core.Path.{◌≡◌, refl, sym, ap, subst, ◌∙◌}
+use mathlib.Core.Path.{◌≡◌, refl, sym, ap, ◌∙◌}
 use Prim.Native.Nat.{ℕ, ◌-◌, ◌≤◌}
 use Rattle.std.proofs.Common.{Result, Ok, Err}
 use native.Mathlib.Omega.{arith}
 use lib.ListN.{length, length-reverse}
 use Rattle.language.specs.State as M
 use Rattle.language.specs.State.{value, stop, stuck}
-use Rattle.language.specs.Meaning.{run}
 use Rattle.language.specs.Answers.{ending}
 use Rattle.language.proofs.Meaning.Spending.{Spent, spent_value, spent_stop, spent_stuck, births_few}
 use Rattle.layout.specs.declared.Held.{Held}

@@ -31,7 +31,7 @@ use Rattle.numbers.specs.declared.Located.{Located}
 use Rattle.sheets.specs.Sheets.{Seen}
 use Rattle.sheets.proofs.FormLaws.{form_lawful, form_nowhere, form_place}
 use Rattle.grumpy.specs.Reports.{RanAt, same, end_told, checked_report, ran_report}
-use Rattle.grumpy.specs.Outcomes.{end_meant, ending_meant, end_at, Executed, ran_of, Ready, Runnable, Reported, Answered}
+use Rattle.grumpy.specs.Outcomes.{end_meant, ending_meant, end_at, Executed, ran_of, Runnable, Reported, Answered}
 use Rattle.grumpy.specs.declared.answers.Ending.{Ending}
 use Rattle.grumpy.proofs.Leaving.{checked_left, ran_left}
 use Rattle.grumpy.proofs.Resolving.{resolved_rest}

@@ -2,7 +2,7 @@
 -- R09.9), as `Demands` and `HeadOffice` have them for a text.
 use mathlib.Core.List.{List}
 use mathlib.Core.Logic.{◌↔◌}
-use mathlib.Core.Path.{◌≡◌, sym, ap, ◌∙◌}
+use mathlib.Core.Path.{◌≡◌}
 use Prim.Native.Nat.{ℕ, ◌≤◌}
 use lib.ListN.{length}
 use Rattle.language.specs.Sizes.{TABLE, WORK, ALLOWANCE}

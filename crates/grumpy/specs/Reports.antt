@@ -16,7 +16,6 @@ use Rattle.pairs.specs.declared.Spot.{Spot}
 use Rattle.numbers.specs.declared.Located.{Located}
 use Rattle.grumpy.specs.declared.answers.Costs.{Costs}
 use Rattle.grumpy.specs.declared.answers.Ended.{Ended}
-use Rattle.grumpy.specs.declared.answers.Ending.{Ending}
 
 -- ---- the answers, whatever a place is
 

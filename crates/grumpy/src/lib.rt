@@ -80,7 +80,8 @@ pub fn check_pair(edition: u32, first: &[u8], second: &[u8], table: &mut [u32]) 
     places::checked(first, second, answer)
 }
 
-// What run answers for a source of either form.
+// What run answers for a source of either form. The three memories stay apart here and above, as `grumpy_run` is lent
+// them: a struct of them would be built by each caller and taken apart again below.
 fn run_form(
     edition: u32,
     first: &[u8],

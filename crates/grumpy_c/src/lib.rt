@@ -24,6 +24,8 @@ use pairs::Spot;
 // The number of lent memory that is too short.
 const SHORT_MEMORY: u32 = 40;
 
+// Each answer has a written report of its own, which the contract of the function that tells it cites; what these
+// functions share is in `reports`.
 fn report_checked(report: &mut [u64], answer: Checked<usize>) -> u32
     requires { 3 ≤ length report.old }
     ensures { ToldChecked answer report.old report.new result }

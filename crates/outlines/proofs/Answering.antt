@@ -1,13 +1,11 @@
 -- From a sheet that was examined to its outline.
 use lib.ListN.{length}
-use lib.Dec.{eqb}
 use mathlib.Core.Bool.{Bool}
 use mathlib.Core.List.{List}
 use mathlib.Core.Path.{◌≡◌, refl, sym, ap, ap₂, subst, ◌∙◌}
 use Rattle.std.proofs.Common.{Result, Ok, Err}
 use Prim.Native.Nat.{ℕ, ◌≤◌, ◌<◌}
 use Rattle.language.specs.Sizes.{TABLE}
-use Rattle.language.specs.Tokens.{NUMBER}
 use Rattle.language.specs.Numbers.{passed, short_memory}
 use Rattle.language.specs.Answers.{Origin, left, cleared}
 use Rattle.language.specs.Edition.{text_in, pair_in}
@@ -18,12 +16,11 @@ use Rattle.language.proofs.Answers.Editions.{text_in_lawful}
 use Rattle.language.proofs.Answers.Origins.{refused_clears}
 use Rattle.language.proofs.Answers.Pairs.{passes_joined, refused_joined}
 use Rattle.numbers.specs.declared.Refusal.{Refusal}
-use Rattle.layout.specs.Table.{KIND, zeros, row_word}
-use Rattle.layout.specs.declared.Held.{Held}
+use Rattle.layout.specs.Table.{zeros}
 use Rattle.layout.proofs.Wiped.{zeros_cleared}
 use Rattle.sheets.specs.Sheets.{Seen, Examined}
 use Rattle.outlines.specs.Reports.{outlined_report}
-use Rattle.outlines.specs.Words.{any_from, Rows, Rooted, Drawn}
+use Rattle.outlines.specs.Words.{Rooted, Drawn}
 use Rattle.outlines.specs.declared.Found.{Found}
 use Rattle.outlines.proofs.Drawing.{held_rows, held_told}
 

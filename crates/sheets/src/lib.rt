@@ -36,7 +36,8 @@ pub struct Passed {
 // source at a byte or a line.
 pub type Verdict = Result<Passed, Refused<usize>>;
 
-// What a source is: the text that a view shows of two sheets, or the first of them as a stored sheet.
+// What a source is: the text that a view shows of two sheets, or the first of them as a stored sheet. No Option of a
+// view: a stored sheet is not the want of one.
 #[derive(Clone, Copy)]
 pub enum Form {
     Text(View),

@@ -1,4 +1,5 @@
-// The bytes of a piece, one after the other. Nothing is asked of the state, which is the caller's.
+// The bytes of a piece, one after the other. Nothing is asked of the state, which is the caller's. Table, work memory
+// and output are handed on apart, as C lends them: each contract says of each what it was and what it is.
 ghost use Rattle.std.specs.Prelude.{◌∷◌, [], ◌≡◌, ◌≤◌};
 ghost use Rattle.language.specs.Sizes.{LARGEST};
 ghost use Rattle.shift.specs.Feeding.{Lends, ReadyForSome, paid_as, ended_as, RanForAny, CameForAny};

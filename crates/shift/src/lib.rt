@@ -64,7 +64,7 @@ impl From<Refused<Spot>> for Denied {
 // What is told of a book before any line.
 pub type Admission = Result<(), Denied>;
 
-// The state stands beside what is told, since it holds an array: after a refusal it is as it was.
+// The state stands beside what is told, also of a refusal: `Begin` promises a new one, and `Feed` the one before.
 #[derive(Clone, Copy)]
 pub struct Answer {
     pub told: Admission,
@@ -161,6 +161,7 @@ pub fn finish(edition: u32, state: State) -> Finished
     }
 }
 
+// This and `overfull` are two functions: the contract of each says which written ending it tells.
 fn refused(why: Refusal) -> Finished
     ensures { Tells result (without_sums (sheet (refusal_meant why))) }
 {

@@ -3,7 +3,8 @@ ghost use Rattle.std.specs.Prelude.{◌∷◌, [], suc, ◌+◌, ◌^◌, ◌<�
 ghost use Rattle.language.specs.Shift.{decimal_with, call_of, LARGEST_CALL};
 ghost use Rattle.tally.specs.Calls.{OPENING, Shows, Longer};
 
-// Its bytes are the first `len` of these; with two numbers of ten digits it has 26.
+// Its bytes are the first `len` of these; with two numbers of ten digits it has 26. It has no `Model`: what is copied
+// has to give back all of its fields, also the bytes behind.
 #[derive(Clone, Copy)]
 pub struct Text {
     text: [u8; 26],

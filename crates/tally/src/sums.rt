@@ -14,8 +14,8 @@ const HIGH: i64 = 140737488355328;
 
 const LOW: i64 = -140737488355329;
 
-// Lines; bad ones; for each stop from 50 on how many; how many were paid, and the sum, the least and the
-// largest of these.
+// Lines; bad ones; for each stop from 50 on how many, in an array, as C has words for them (`grumpy_c/specs/States`);
+// how many were paid, and the sum, the least and the largest of these.
 #[derive(Clone, Copy)]
 pub struct Sums {
     pub lines: u32,
@@ -49,7 +49,7 @@ pub fn none() -> Sums
     }
 }
 
-// One more, as long as there may be one.
+// One more, as long as there may be one; no `min`, which would answer another number above the limit.
 #[tactic(auto, unfolding(crate::specs::Sums::counted))]
 fn one_more(n: u32) -> u32
     ensures { result ≡ counted n }

@@ -1,10 +1,9 @@
 -- Parts put one behind the other at the start of lent bytes.
 use lib.ListN.{length, get_or, take, drop, set, length-append}
-use lib.Seq.{slice, paste, paste-suc, take-length, take_at, take-append_seam}
-use lib.Seq.{drop-append-add, drop-drop, get_or-append_seam, get_or-take, get_or-drop, length-slice}
+use lib.Seq.{paste, paste-suc, take-length, take_at, take-append_seam}
+use lib.Seq.{drop-append-add, drop-drop, get_or-append_seam}
 use mathlib.Core.List.{List, [], ◌∷◌, ◌++◌}
 use mathlib.Core.Path.{◌≡◌, refl, sym, ◌∙◌, ap}
-use native.Mathlib.Numerals.{add-one}
 use native.Mathlib.Omega.{arith}
 use Prim.Native.Nat.{ℕ, suc, ◌+◌, ◌-◌, ◌≤◌, ◌<◌}
 use Rattle.writer.specs.Texts.{Put, Front}
