@@ -22,7 +22,8 @@ passed_sound {edition} {source} r a e = AnyOrigin.sound (text_in_lawful edition 
 
 -- R11.3: if it does not end in 50, run with any larger allowance up to the limit gives the same answer (number, place, type,
 -- value, units, and how many bytes were printed), the same output to the byte, and leaves both memories the same.
-pub more_units : {edition : ℕ} {source table work output : List ℕ} {few many : ℕ} {t' w' o' t'' w'' o'' : List ℕ} (r q : RanAt ℕ) → few ≤ many → many ≤ ALLOWANCE
+pub more_units : {edition : ℕ} {source table work output : List ℕ} {few many : ℕ} {t' w' o' t'' w'' o'' : List ℕ} (r q : RanAt ℕ)
+    → few ≤ many → many ≤ ALLOWANCE
     → Run (text_in edition source) table work output few (ran_report r) t' w' o'
     → Run (text_in edition source) table work output many (ran_report q) t'' w'' o'' → (number (ran_report r).told ≡ 50 → ⊥)
     → (r ≡ q) × (o' ≡ o'') × (t' ≡ t'') × (w' ≡ w'')

@@ -24,7 +24,8 @@ use Rattle.language.proofs.Profiles.PaySheets.{passed_exactly, within_count, pay
 use Rattle.language.proofs.Stored.Editions.{stored_in_lawful}
 use Rattle.language.proofs.Stored.SameSheet.{sheet_stored}
 use Rattle.pairs.specs.declared.Spot.{Spot}
-use Rattle.grumpy.specs.Reports.{CheckedAt, ProfiledAt, RanAt, Written, checked_report, ran_report, wrote_report, profiled_report, pair_checked_report, pair_ran_report, pair_profiled_report}
+use Rattle.grumpy.specs.Reports.{CheckedAt, ProfiledAt, RanAt, Written}
+use Rattle.grumpy.specs.Reports.{checked_report, ran_report, wrote_report, profiled_report, pair_checked_report, pair_ran_report, pair_profiled_report}
 use Rattle.grumpy.proofs.AnyOrigin.{check_lent}
 use Rattle.grumpy.proofs.PairDemands.{PairListed}
 
@@ -70,7 +71,8 @@ module _ {edition : ℕ} {source table t' : List ℕ} (r : ProfiledAt ℕ) (a : 
 
 -- ---- two sheets
 
-module _ {edition : ℕ} {first second table t' : List ℕ} (r : ProfiledAt Spot) (a : Profile (pair_in edition first second) table (pair_profiled_report r) t') where
+module _ {edition : ℕ} {first second table t' : List ℕ} (r : ProfiledAt Spot)
+    (a : Profile (pair_in edition first second) table (pair_profiled_report r) t') where
   -- a row of the joined text, told of the sheet on which its byte falls
   pub profile_pair_one : ProfileDemand1 (PairListed edition first second) table (pair_profiled_report r) t'
   profile_pair_one =

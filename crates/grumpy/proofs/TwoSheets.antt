@@ -24,7 +24,8 @@ use Rattle.numbers.specs.declared.Refusal.{Refusal}
 use Rattle.pairs.specs.Spots.{meant, Part, Shows}
 use Rattle.pairs.specs.declared.Spot.{Spot}
 use Rattle.grumpy.proofs.Apart.{same_pair_checked, same_pair_profiled, same_pair_ran}
-use Rattle.grumpy.specs.Reports.{CheckedAt, ProfiledAt, RanAt, checked_report, ran_report, profiled_report, pair_checked_report, pair_ran_report, pair_profiled_report}
+use Rattle.grumpy.specs.Reports.{CheckedAt, ProfiledAt, RanAt}
+use Rattle.grumpy.specs.Reports.{checked_report, ran_report, profiled_report, pair_checked_report, pair_ran_report, pair_profiled_report}
 
 -- ---- from the joined text
 

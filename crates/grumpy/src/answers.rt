@@ -1,5 +1,5 @@
-// What the services answer. `specs/Reports.antt` gives the paper's numbers for each case. A place is a byte or a line of
-// one sheet; of two sheets it is a spot, which names the sheet and the line.
+// What the services answer. `specs/Reports.antt` gives the paper's numbers for each case. A place is a byte or a line
+// of one sheet; of two sheets it is a spot, which names the sheet and the line.
 ghost use Rattle.grumpy.specs.Outcomes.{EndsAt};
 
 use layout::values::Value;

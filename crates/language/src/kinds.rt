@@ -1,4 +1,6 @@
-// The kinds of tokens, for the code; `specs/Tokens.antt` has them for the definitions.
+// The kinds of tokens, for the code; `specs/Tokens.antt` has them for the definitions. They are numbers and no enum: words
+// of lent memory, and who asks for something of a kind is answered at any word that may stand there (`kind_of`,
+// `Children`); an enum would ask of every reader that the word is one of these.
 
 // What stands past the last token; a name; a number.
 pub const PAST: u32 = 0;

@@ -8,6 +8,9 @@
 // Work memory: a slot has three words (a key and a tag in one, and two for the value, of which a float alone needs the
 // high one), a frame four (a node's row, its phase, the first slot that it sees, and how many with a mark in one word);
 // cells are slots, too.
+//
+// That there is room for all of it stands in each contract: both memories are C's, of any length, and each contract says
+// of every word what it was and is. A type that holds a borrowed slice and that fact would be taken apart in every clause.
 #![tactic(auto)]
 
 pub mod floats;

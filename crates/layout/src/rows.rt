@@ -9,7 +9,7 @@ use language::kinds;
 
 // The kinds of rows. A node's is the kind of its own token, and PREFIX more for an operator before its
 // operand; a call, an argument and a parameter, whose own token is a name, have one to themselves, and a
-// `for` has that of the mark between its start and its end.
+// `for` has that of the mark between its start and its end. They are numbers, as kinds of tokens are (`language::kinds`).
 pub const PREFIX: u32 = 64;
 
 pub const CALL: u32 = 40;

@@ -1,4 +1,4 @@
-// Types by their numbers, as rows and variables hold them.
+// Types by their numbers, as rows and variables hold them, and C's reports: there is one for every count of `ref`.
 use language::REFS;
 
 pub const INT: u32 = 1;

@@ -1,4 +1,5 @@
-// An operand as the kind of value that an operator asks for, where it is of that kind.
+// An operand as the kind of value that an operator asks for, where it is of that kind. One function for each kind: they
+// differ in the case that they ask for, which no parameter can name.
 ghost use Rattle.std.specs.Prelude.{◌≡◌};
 ghost use Rattle.language.specs.State.{as_int, as_float, as_bool, as_cell};
 ghost use Rattle.layout.specs.Values.{meant};

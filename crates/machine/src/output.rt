@@ -9,7 +9,7 @@ use language::BYTE;
 use layout::values::Value;
 use numbers::Stop;
 
-// A byte in the place for the next.
+// A byte in the place for the next. The output is C's, and how much of it is printed is a number of the run's `Tally`.
 fn store(out: &mut [u8], at: usize, byte: u8)
     requires { at < length out.old }
     ensures { out.new ≡ set out.old at byte }

@@ -59,6 +59,7 @@ impl Page<'_> {
     }
 }
 
+// A digit in small letters. `floats` has its own in capitals: one for both would take the letter at each call.
 fn hex(d: u8) -> u8
     requires { d < 16 }
     ensures { result ≡ hex_digit_ascii d }

@@ -11,7 +11,8 @@ use tally::{LINES, combining};
 // The largest number of the table.
 const NUMBERS: u32 = 99;
 
-// What no shift can come to: a line more than there may be, and more than there may be pence.
+// What no shift can come to: a line more than there may be, and more than there may be pence. They stand for what is
+// not told, as the definitions `count_told` and `amount_told` have it, and `whole` refuses them.
 const NO_COUNT: u32 = 65537;
 
 const NO_AMOUNT: i64 = 4611686018427387904;

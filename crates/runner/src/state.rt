@@ -35,7 +35,8 @@ pub struct Next {
     pub tally: Tally,
 }
 
-// The phases of a frame: for which part of its node it waits.
+// The phases of a frame: for which part of its node it waits. They are words of lent memory, and what they mean is said
+// of any word (`Resumes`).
 pub const LAST: u32 = 0;
 
 pub const UNARY: u32 = 1;

@@ -22,7 +22,7 @@ pub enum Cause {
     ManyLines,
 }
 
-// Its number; 0 where the box has none for it.
+// Its number; 0 where the box has none for it, as the definition `cause_number` and the tables that go by it say.
 pub fn number(why: Cause) -> u32
     ensures { result ≡ cause_number why }
 {

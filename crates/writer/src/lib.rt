@@ -14,6 +14,9 @@ pub mod storing;
 use language::SOURCE;
 use layout::token;
 
+// The output is C's, and each contract says where in it a part stands and that all else stays (`Put`): so the place goes
+// along as a number. Nothing is cut there, and a type as slip's `page::Page` would have no fact of its own to keep.
+
 // Puts the bytes of the source from one place up to another into `out`, and answers where they end there.
 fn copy(source: &[u8], from: usize, to: usize, out: &mut [u8], at: usize) -> usize
     requires { Room (length source.now) from to (length out.old) at }
