@@ -4,6 +4,7 @@ pub mod Told
 pub mod ToldProfile
 pub mod ToldPairs
 pub mod Fronts
+pub mod Laying
 pub mod StateWords
 pub mod ToldShifts
 pub mod ShiftWhole

@@ -35,7 +35,10 @@ pub fn put(words: &mut [u64], front: &[u64])
     requires { length front.now ≤ length words.old }
     ensures { words.new ≡ with_front words.old front.now }
 {
-    words[..front.len()].copy_from_slice(front);
+    // A loop: `copy_from_slice` of the library is compiled for addresses of 64 bits alone.
+    for i in 0..front.len() {
+        words[i] = front[i];
+    }
 }
 
 // A loop: what `map` makes of an array was not shown to be these nine.

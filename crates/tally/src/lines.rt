@@ -31,7 +31,8 @@ pub fn none() -> Part
     }
 }
 
-// What a byte is worth that is a hexadecimal digit in capitals.
+// What a byte is worth that is a hexadecimal digit in capitals. `tokens` tells it of stored sheets; neither crate rests on
+// the other, and nothing below both knows of bytes.
 #[tactic(auto, unfolding(crate::specs::Parts::digit_told, language::specs::Shift::is_capital_hex, language::specs::Text::is_digit, language::specs::Text::between, language::specs::Text::worth))]
 fn worth(b: u8) -> Option<u8>
     ensures { result ≡ digit_told b }

@@ -22,9 +22,12 @@ fn copy(source: &[u8], from: usize, to: usize, out: &mut [u8], at: usize) -> usi
     requires { Room (length source.now) from to (length out.old) at }
     ensures { Put out.old out.new (slice from to source.now) at result }
 {
-    let end = at + (to - from);
-    out[at..end].copy_from_slice(&source[from..to]);
-    end
+    // A loop: `copy_from_slice` of the library is compiled for addresses of 64 bits alone.
+    let size = to - from;
+    for i in 0..size {
+        out[at + i] = source[from + i];
+    }
+    at + size
 }
 
 // The byte behind token i of so many.

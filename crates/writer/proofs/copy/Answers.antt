@@ -1,17 +1,18 @@
-use mathlib.Core.Path.{refl, sym, ap, ◌≡◌, ◌∙◌}
+-- `copy` goes byte by byte: so far the first ones are put.
+use borrow.Author.Rules.{rules}
 use native.Mathlib.Omega.{arith}
-use Prim.Native.Nat.{ℕ, ◌+◌, ◌-◌}
-use lib.ListN.{take, drop}
-use lib.Seq.{slice, length-slice}
-use Rattle.std.proofs.lemmas.List.{drop-take}
-use Rattle.std.proofs.lemmas.Slice.{put_mid-paste}
+use Rattle.writer.proofs.Parts.{copied_one, copied_all}
 use Rattle.writer.proofs.copy.Goals as goal
+
+pub loop-i-preserved : goal.loop-i-preserved
+loop-i-preserved c =
+    let v = c.loop-i.invariant in
+    let a = c.args in
+    let next = copied_one a.out.now a.source.now a.from a.to a.at c.loop-i.i (omega arith) c.requires.inside (omega arith) v.1 in
+    (search rules, next)
 
 pub returns : goal.returns
 returns c =
+    let v = c.loop-i.invariant in
     let a = c.args in
-    let n = length-slice a.from a.to a.source.now c.requires.inside in
-    let e : a.to ≡ a.from + (a.to - a.from) = omega (arith, c.requires.order) in
-    let s : slice a.from a.to a.source.now ≡ take (a.to - a.from) (drop a.from a.source.now) =
-    ap (λ (k : ℕ). slice a.from k a.source.now) e ∙ drop-take a.from (a.to - a.from) a.source.now in
-    (omega (arith, n), put_mid-paste _ _ _ _ _ _ (c.copy_from_slice.ensures.after ∙ sym s) (omega (arith, n, c.requires.order)) refl)
+    copied_all a.out.now a.source.now _ a.from a.to a.at c.loop-i.i c.requires.inside (omega arith) (omega arith) v.1
