@@ -9,8 +9,6 @@ use Rattle.language.specs.Meaning.{run}
 use Rattle.language.specs.Numbers.{Refusal, Told, passed, refused, stopped}
 use Rattle.language.specs.Answers.{Origin, Refused, cleared, left, CheckReport, Checked, check_short, check_refused, check_passed, RunReport, Lent}
 use Rattle.language.specs.Answers.{Enough, Ran, run_short, run_large, run_refused, run_ended}
-use Rattle.language.specs.Writing.{WriteReport, Wrote, write_short, write_refused, write_long, write_passed}
-use Rattle.language.specs.Writing.{Stores, store_short, store_refused, store_long, store_passed}
 use Rattle.language.specs.Profile.{ProfileReport, Profiled, profile_short, profile_refused, profile_endless, profile_many, profile_passed}
 use Rattle.language.proofs.Answers.Endings.{IsRun, is_run}
 use Rattle.language.proofs.Answers.Origins.{Lawful, refused_clears}
@@ -31,22 +29,6 @@ module _ {P : Type 0} {o : Origin P} (law : Lawful o) where
   checked_left h (check_short k) n words = absurd (omega arith)
   checked_left h (check_refused k a) n words = refused_left a n words
   checked_left h (check_passed k a) n words = refl
-
-  pub wrote_left : {table room : ℕ} {r : WriteReport P} {bs : List ℕ} → TABLE ≤ table → Wrote o table room r bs
-      → (n : ℕ) (words : List ℕ) → left r.told n words ≡ cleared n words
-  unfolding left
-  wrote_left h (write_short k) n words = absurd (omega arith)
-  wrote_left h (write_refused k a) n words = refused_left a n words
-  wrote_left h (write_long k a f) n words = refl
-  wrote_left h (write_passed k a f) n words = refl
-
-  pub stores_left : {table room : ℕ} {r : WriteReport P} {bs : List ℕ} → TABLE ≤ table → Stores o table room r bs
-      → (n : ℕ) (words : List ℕ) → left r.told n words ≡ cleared n words
-  unfolding left
-  stores_left h (store_short k) n words = absurd (omega arith)
-  stores_left h (store_refused k a) n words = refused_left a n words
-  stores_left h (store_long k a f) n words = refl
-  stores_left h (store_passed k a f) n words = refl
 
   pub profiled_left : {table : ℕ} {r : ProfileReport P} → TABLE ≤ table → Profiled o table r
       → (n : ℕ) (words : List ℕ) → left r.told n words ≡ cleared n words

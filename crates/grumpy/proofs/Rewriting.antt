@@ -5,15 +5,11 @@ use Prim.Native.Nat.{ℕ, ◌≤◌, ◌<◌}
 use Rattle.std.proofs.Common.{Ok, Err, Option, Some, None}
 use lib.ListN.{length}
 use Rattle.language.specs.Sizes.{TABLE}
-use Rattle.language.specs.Numbers.{refused, short_memory}
-use Rattle.language.specs.Numbers as Numbers
-use Rattle.language.specs.Answers.{left, Refused}
+use Rattle.language.specs.Answers.{left}
 use Rattle.language.specs.Edition.{text_in}
 use Rattle.language.specs.Writing as Writing
-use Rattle.language.specs.Writing.{written_out, write_report, write_short, write_refused, write_long, write_passed, Write}
-use Rattle.language.specs.Writing.{store_short, store_refused, store_long, store_passed, Store}
+use Rattle.language.specs.Writing.{written_out, write_long, write_passed, Write, store_long, store_passed, Store}
 use Rattle.language.specs.Stored.{stored}
-use Rattle.language.proofs.Answers.Editions.{text_in_lawful}
 use Rattle.numbers.specs.Meanings.{refusal_meant}
 use Rattle.numbers.specs.declared.Refusal.{Refusal}
 use Rattle.layout.specs.Table.{zeros}
@@ -25,40 +21,35 @@ use Rattle.writer.specs.Forms.{StoresOut}
 use Rattle.sheets.specs.Sheets.{OfSource, Examined}
 use Rattle.sheets.specs.Sheets.{Seen}
 use Rattle.grumpy.specs.Reports.{Written, wrote_report}
-use Rattle.grumpy.specs.Writings.{Tells, Rewrote, Readable, Rewritten}
-use Rattle.grumpy.proofs.Leaving.{wrote_left, stores_left}
+use Rattle.grumpy.specs.Writings.{Tells, Lawful, answered, Rewrote, Readable, Rewritten, Served}
 
 -- ---- a sheet that passes
 
-module _ (source w : List ℕ) (count : ℕ) (out out' : List ℕ) (a : Option ℕ) (x : WritesOut source w count out out' a) where
-  pub rewrote_written : (n : ℕ) → a ≡ Some n → Rewrote Writing.Wrote source w count out out' (Ok n)
-  rewrote_written n e = record {
-    told = λ edition ts p t table h y d.
-        let z = (subst (WritesOut source w count out out') e x).told ts d y.given.given.splits in
-        record { text = written_out ts; wrote = rw z.1 (write_passed h y z.0); output = z.2 };
-  }
+pub rewrote_text : (source w : List ℕ) (count : ℕ) (out out' : List ℕ) (a : Option ℕ) → WritesOut source w count out out' a
+    → Rewrote Writing.Wrote source w count out out' (answered a)
+rewrote_text source w count out out' (Some n) x = record {
+  told = λ edition ts p t table h y d.
+      let z = x.told ts d y.given.given.splits in
+      record { text = written_out ts; wrote = rw z.1 (write_passed h y z.0); output = z.2 };
+}
+rewrote_text source w count out out' None x = record {
+  told = λ edition ts p t table h y d.
+      let z = x.told ts d y.given.given.splits in
+      record { text = []; wrote = write_long h y z.0; output = z.1 };
+}
 
-  pub rewrote_long : a ≡ None → Rewrote Writing.Wrote source w count out out' (Err (record { why = Refusal.LongText; place = 0 }))
-  rewrote_long e = record {
-    told = λ edition ts p t table h y d.
-        let z = (subst (WritesOut source w count out out') e x).told ts d y.given.given.splits in
-        record { text = []; wrote = write_long h y z.0; output = z.1 };
-  }
-
-module _ (source w : List ℕ) (count : ℕ) (out out' : List ℕ) (a : Option ℕ) (x : StoresOut source w count out out' a) where
-  pub restated_written : (n : ℕ) → a ≡ Some n → Rewrote Writing.Stores source w count out out' (Ok n)
-  restated_written n e = record {
-    told = λ edition ts p t table h y d.
-        let z = (subst (StoresOut source w count out out') e x).told ts d y.given.given.splits in
-        record { text = stored ts; wrote = rw z.1 (store_passed h y z.0); output = z.2 };
-  }
-
-  pub restated_long : a ≡ None → Rewrote Writing.Stores source w count out out' (Err (record { why = Refusal.LongText; place = 0 }))
-  restated_long e = record {
-    told = λ edition ts p t table h y d.
-        let z = (subst (StoresOut source w count out out') e x).told ts d y.given.given.splits in
-        record { text = []; wrote = store_long h y z.0; output = z.1 };
-  }
+pub rewrote_stored : (source w : List ℕ) (count : ℕ) (out out' : List ℕ) (a : Option ℕ) → StoresOut source w count out out' a
+    → Rewrote Writing.Stores source w count out out' (answered a)
+rewrote_stored source w count out out' (Some n) x = record {
+  told = λ edition ts p t table h y d.
+      let z = x.told ts d y.given.given.splits in
+      record { text = stored ts; wrote = rw z.1 (store_passed h y z.0); output = z.2 };
+}
+rewrote_stored source w count out out' None x = record {
+  told = λ edition ts p t table h y d.
+      let z = x.told ts d y.given.given.splits in
+      record { text = []; wrote = store_long h y z.0; output = z.1 };
+}
 
 -- ---- any sheet
 
@@ -85,59 +76,49 @@ module _ (tells : Tells) where
         x.told edition p.tokens p.program p.type table l p.passes p.holds.stand;
   }
 
-  -- a service that tells each refusal as it is
-  abbrev Refuses : Type 0
-  Refuses = (edition table room : ℕ) (source : List ℕ) (y : Numbers.Refusal) (i : ℕ) → TABLE ≤ table → Refused (text_in edition source) y i
-      → tells (text_in edition source) table room (write_report (refused y) i 0) []
+  module _ (law : Lawful tells) where
+    pub rewritten_refused : (source w out : List ℕ) (y : Located Refusal ℕ) (s : Seen) → s ≡ Err y
+        → Rewritten tells source w out out s (Err y)
+    rewritten_refused source w out y s z = record {
+      told = λ edition table h a.
+          let x = subst (OfSource (text_in edition source) w) z a in
+          record { text = []; wrote = law.refuses edition table (length out) source (refusal_meant y.why) y.place h x; output = refl };
+    }
 
-  rewritten_refused : Refuses → (source w out : List ℕ) (y : Located Refusal ℕ) (s : Seen) → s ≡ Err y
-      → Rewritten tells source w out out s (Err y)
-  rewritten_refused f source w out y s z = record {
-    told = λ edition table h a.
-        let x = subst (OfSource (text_in edition source) w) z a in
-        record { text = []; wrote = f edition table (length out) source (refusal_meant y.why) y.place h x; output = refl };
+    pub served_short : (edition : ℕ) (source w out : List ℕ) → length w < TABLE
+        → Served tells edition source w out (Err (record { why = Refusal.ShortMemory; place = 0 })) w out
+    unfolding left
+    served_short edition source w out h = record {
+      reported = record { text = []; wrote = law.short edition (length w) (length out) source h; output = refl };
+      table_left = refl;
+    }
+
+    pub served_answered : (edition : ℕ) (source w out w₁ w₂ out' : List ℕ) (s : Seen) (r : Written) → TABLE ≤ length w
+        → Examined (text_in edition source) w w₁ s → Rewritten tells source w₁ out out' s r → w₂ ≡ zeros w₁ 0 TABLE
+        → Served tells edition source w out r w₂ out'
+    served_answered edition source w out w₁ w₂ out' s r h x y e =
+        let z = y.told edition (length w) h x.told in
+        record {
+          reported = z;
+          table_left = e ∙ x.rest ∙ zeros_cleared TABLE w h
+              ∙ sym (law.leaves edition (length w) (length out) source (wrote_report r) z.text h z.wrote w);
+        }
+
+-- ---- write and store
+
+module _ (edition : ℕ) (source w out : List ℕ) (r : Written) (w' out' : List ℕ) where
+  pub served_write : Served Writing.Wrote edition source w out r w' out' → Write (text_in edition source) w out (wrote_report r) w' out'
+  served_write x = record {
+    text = x.reported.text;
+    answer = x.reported.wrote;
+    table_left = x.table_left;
+    output_left = x.reported.output;
   }
 
-pub write_refuses : (source w out : List ℕ) (y : Located Refusal ℕ) (s : Seen) → s ≡ Err y
-    → Rewritten Writing.Wrote source w out out s (Err y)
-write_refuses = rewritten_refused Writing.Wrote (λ edition table room source y i h a. write_refused h a)
-
-pub store_refuses : (source w out : List ℕ) (y : Located Refusal ℕ) (s : Seen) → s ≡ Err y
-    → Rewritten Writing.Stores source w out out s (Err y)
-store_refuses = rewritten_refused Writing.Stores (λ edition table room source y i h a. store_refused h a)
-
--- ---- write
-
-pub write_is_short : (edition : ℕ) (source w out : List ℕ) → length w < TABLE
-    → Write (text_in edition source) w out (write_report (refused short_memory) 0 0) w out
-unfolding left
-write_is_short edition source w out h = record { text = []; answer = write_short h; table_left = refl; output_left = refl }
-
-pub write_is_answered : (edition : ℕ) (source w out w₁ w₂ out' : List ℕ) (s : Seen) (r : Written) → TABLE ≤ length w → Examined (text_in edition source) w w₁ s
-    → Rewritten Writing.Wrote source w₁ out out' s r → w₂ ≡ zeros w₁ 0 TABLE → Write (text_in edition source) w out (wrote_report r) w₂ out'
-write_is_answered edition source w out w₁ w₂ out' s r h x y e =
-    let z = y.told edition (length w) h x.told in
-    record {
-      text = z.text;
-      answer = z.wrote;
-      table_left = e ∙ x.rest ∙ zeros_cleared TABLE w h ∙ sym (wrote_left (text_in_lawful edition source) h z.wrote TABLE w);
-      output_left = z.output;
-    }
-
--- ---- store
-
-pub store_is_short : (edition : ℕ) (source w out : List ℕ) → length w < TABLE
-    → Store (text_in edition source) w out (write_report (refused short_memory) 0 0) w out
-unfolding left
-store_is_short edition source w out h = record { form = []; answer = store_short h; table_left = refl; output_left = refl }
-
-pub store_is_answered : (edition : ℕ) (source w out w₁ w₂ out' : List ℕ) (s : Seen) (r : Written) → TABLE ≤ length w → Examined (text_in edition source) w w₁ s
-    → Rewritten Writing.Stores source w₁ out out' s r → w₂ ≡ zeros w₁ 0 TABLE → Store (text_in edition source) w out (wrote_report r) w₂ out'
-store_is_answered edition source w out w₁ w₂ out' s r h x y e =
-    let z = y.told edition (length w) h x.told in
-    record {
-      form = z.text;
-      answer = z.wrote;
-      table_left = e ∙ x.rest ∙ zeros_cleared TABLE w h ∙ sym (stores_left (text_in_lawful edition source) h z.wrote TABLE w);
-      output_left = z.output;
-    }
+  pub served_store : Served Writing.Stores edition source w out r w' out' → Store (text_in edition source) w out (wrote_report r) w' out'
+  served_store x = record {
+    form = x.reported.text;
+    answer = x.reported.wrote;
+    table_left = x.table_left;
+    output_left = x.reported.output;
+  }

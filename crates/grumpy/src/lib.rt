@@ -23,7 +23,6 @@ pub mod calls;
 mod outcomes;
 mod places;
 mod profilings;
-mod storings;
 mod writings;
 
 use crate::answers::{Checked, Profiled, Ran, Wrote};
@@ -202,13 +201,7 @@ pub fn write(edition: u32, source: &[u8], table: &mut [u32], out: &mut [u8]) -> 
     ensures { Write (text_in edition source.now) table.old out.old (wrote_report result)
         table.new out.new }
 {
-    if table.len() < TABLE {
-        return Err(nowhere(Refusal::ShortMemory));
-    }
-    let seen = sheets::examine(edition, source, source, View::Plain, table);
-    let answer = writings::write_or_refuse(source, table, out, seen);
-    memory::clear(table, 0, TABLE);
-    answer
+    writings::written::<writings::Text>(edition, source, table, out)
 }
 
 // `out` gets the sheet's stored form: a line with the count of its tokens, and a line for each of them.
@@ -216,13 +209,7 @@ pub fn store(edition: u32, source: &[u8], table: &mut [u32], out: &mut [u8]) -> 
     ensures { Store (text_in edition source.now) table.old out.old (wrote_report result)
         table.new out.new }
 {
-    if table.len() < TABLE {
-        return Err(nowhere(Refusal::ShortMemory));
-    }
-    let seen = sheets::examine(edition, source, source, View::Plain, table);
-    let answer = storings::store_or_refuse(source, table, out, seen);
-    memory::clear(table, 0, TABLE);
-    answer
+    writings::written::<writings::Stored>(edition, source, table, out)
 }
 
 // A pay sheet must finish: it passes, has no endless node, and cannot use too many units.
