@@ -1,5 +1,5 @@
-// What is written of a sheet: its text, or its stored form. The two differ in what is put into the output and in what is
-// told of it; how a sheet comes to be written is the same.
+// What is written of a sheet: its text, or its stored form. The two differ in what is put into the output and in what
+// is told of it; how a sheet comes to be written is the same.
 ghost use Rattle.language.specs.Writing as writing;
 ghost use Rattle.writer.specs.Texts.{Writable};
 ghost use Rattle.grumpy.specs.Writings.{Tells, Rewrote, Readable, Rewritten, Served, Lawful, answered};
@@ -12,7 +12,7 @@ use numbers::Refusal;
 use sheets::{Verdict, nowhere};
 use tokens::view::View;
 
-// A way to write a sheet that passes: how many bytes it puts, or none where they have no room.
+// A way to write a sheet that passes: `put` answers how many bytes it put, or none where they have no room.
 pub(crate) trait Writes {
     // What a service that writes so may tell.
     ghost tells: { Tells };
@@ -49,7 +49,7 @@ impl Writes for Stored {
     }
 }
 
-// A sheet that passes.
+// What comes of a sheet that passes.
 fn rewrite<W: Writes>(source: &[u8], table: &[u32], count: usize, out: &mut [u8]) -> Wrote
     requires { Writable source.now table.now count }
     ensures { Rewrote W.tells source.now table.now count out.old out.new result }
