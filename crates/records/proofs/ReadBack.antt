@@ -23,7 +23,7 @@ use Rattle.page.specs.Text.{decimal_of, Adds}
 use Rattle.tally.specs.Stands.{report_in}
 use Rattle.tally.specs.declared.sums.Sums.{Sums}
 use Rattle.records.specs.Machines.{shift_lines, combined_lines}
-use Rattle.std.specs.Prelude.{Option, Some}
+use Rattle.std.specs.Prelude.{Some, Result, Ok}
 use Rattle.records.specs.Readings.{count_told, amount_told, nine_told, sums_told, is_told, over_told, number_told}
 use Rattle.records.specs.Readings.{whole, full, reading_in}
 use Rattle.wording.specs.Values.{signed_words}
@@ -170,8 +170,8 @@ module _ {ls : List Line} {s : Sums} (t : Tells ls s) (w : Writable s) where
 -- ---- what comes of it
 
 -- it is read as a report, which says whether there was a line too many, and has the sums
-abbrev pub Back : Option Reading → (many : Bool) → Sums → Type 0
-Back r many s = r ≡ Some (record { over = many; sums = s })
+abbrev pub Back : Result Reading Reading → (many : Bool) → Sums → Type 0
+Back r many s = r ≡ Ok (record { over = many; sums = s })
 
 module _ (l : Line) (ls : List Line) {s : Sums} (t : Tells (l ∷ ls) s) (w : Writable s) where
   numbered : {v : List ℕ} {n : ℕ} → look (spell "number ") (l ∷ ls) ≡ some v → number_up_to 99 v ≡ Some n

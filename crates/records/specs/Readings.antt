@@ -1,6 +1,6 @@
 -- The report of a shift for machines, read again: each value by its name. What is not there, or is no number that it
 -- can be, is read as one that no shift can come to.
-use Rattle.std.specs.Prelude.{cond, eqb, ℤ, pos, Bool, false, ◌&&◌, ◌||◌, List, [], ◌∷◌, Option, Some, None, ℕ}
+use Rattle.std.specs.Prelude.{cond, eqb, ℤ, pos, Bool, false, ◌&&◌, ◌||◌, List, [], ◌∷◌, Option, Some, None, Result, Ok, Err, ℕ}
 use Rattle.language.specs.Combining.{paid_lines, possible}
 use Rattle.language.specs.Sizes.{LINES}
 use Rattle.language.specs.Tokens.{spell}
@@ -69,8 +69,10 @@ whole s = possible (report_in s) && eqb (paid_lines (report_in s)) s.paid
 unfoldable pub full : List ℕ → Bool
 full t = eqb (behind t) 0 && (eqb (feeds t) 18 || eqb (feeds t) 20)
 
--- a text that is the report of a shift, as it tells of one
-unfoldable pub reading_in : List ℕ → Option Reading
-reading_in t =
-    cond (full t && (is_told (number_told t) && whole (sums_told t)))
-    (Some (record { over = over_told (number_told t); sums = sums_told t })) None
+-- what a text tells of a shift
+abbrev pub told_in : List ℕ → Reading
+told_in t = record { over = over_told (number_told t); sums = sums_told t }
+
+-- a text that is the report of a shift, or what it tells all the same
+unfoldable pub reading_in : List ℕ → Result Reading Reading
+reading_in t = cond (full t && (is_told (number_told t) && whole (sums_told t))) (Ok (told_in t)) (Err (told_in t))

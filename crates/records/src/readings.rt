@@ -103,18 +103,20 @@ fn is_full(text: &[u8]) -> bool
     line_start(text, n) == n && is_length(feeds_before(text, n))
 }
 
-// A file that was read, if it is the report of a shift.
+// A file that was read: the report of a shift, or what it tells all the same.
 #[tactic(auto, unfolding(crate::specs::Readings::reading_in))]
-pub fn read(text: &[u8]) -> Option<Reading>
+pub fn read(text: &[u8]) -> Result<Reading, Reading>
     ensures { result ≡ reading_in text.now }
 {
     let number = count(text, b"number ", NUMBERS);
     let sums = sums_of(text);
+    let reading = Reading {
+        over: over_told(number),
+        sums,
+    };
     if is_full(text) && is_told(number) && is_whole(sums) {
-        return Some(Reading {
-            over: over_told(number),
-            sums,
-        });
+        Ok(reading)
+    } else {
+        Err(reading)
     }
-    None
 }

@@ -16,7 +16,7 @@ fn add(rt: &impl Outside, word: usize, all: Finished) -> Option<Finished> {
     let most = room.len();
     let bytes = input::load(rt, Some(word), &mut room)?;
     if bytes.len() < most {
-        if let Some(reading) = readings::read(bytes) {
+        if let Ok(reading) = readings::read(bytes) {
             let part = Finished {
                 told: Ok(reading.over),
                 sums: reading.sums,
