@@ -11,6 +11,8 @@
 //
 // That there is room for all of it stands in each contract: both memories are C's, of any length, and each contract says
 // of every word what it was and is. A type that holds a borrowed slice and that fact would be taken apart in every clause.
+// So it is with rows, slots and tokens in the crates above: what is so of one stands in the contract of who asks for it.
+// To read a word is a line in each module: a function over the region and the place would be longer at each call.
 #![tactic(auto)]
 
 pub mod floats;

@@ -1,5 +1,5 @@
 // Signed numbers of 32 bits: each operation tests that its result is in range before it answers, and
-// stops where it is not.
+// stops where it is not. They are five functions and no generic one, since the paper asks that of each of them.
 ghost use Rattle.std.specs.Prelude.{◌≡◌, ◌+ℤ◌, ◌-ℤ◌, ◌*ℤ◌, neg_ℤ, pos};
 ghost use Rattle.std.specs.Int.Signed.{quot_z};
 ghost use Rattle.language.specs.Meaning.{in_range};

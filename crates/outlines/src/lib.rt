@@ -32,7 +32,8 @@ pub struct Sought<'a> {
     pub gives: u32,
 }
 
-// The bytes of a text from one place up to another are these.
+// The bytes of a text from one place up to another are these. (Whether the text has as many, as `Text::stands_within` asks,
+// is not known of any table.)
 fn spelled(text: &Text, at: usize, end: usize, name: &[u8]) -> bool
     ensures { result ≡ spelled_in (text_of text.now) at end name.now }
 {

@@ -4,7 +4,7 @@ ghost use Rattle.language.specs.Sizes.{TOKENS, NODES, TABLE};
 ghost use Rattle.language.specs.Tokens.{IF};
 ghost use Rattle.layout.specs.Table.{put_row};
 ghost use Rattle.phrases.specs.Parts.{Written, Placed, Topped};
-ghost use Rattle.phrases.specs.Words.{REACH, tree_at, none_at};
+ghost use Rattle.phrases.specs.Words.{REACH, part_of, tree_at, none_at};
 
 use language::kinds;
 use layout::rows;
@@ -64,6 +64,13 @@ impl Read {
         ensures { result ≡ none_at at }
     {
         Read { word: at as u32 }
+    }
+
+    // What any word stands for.
+    pub fn of_word(word: u32) -> Read
+        ensures { result ≡ part_of word }
+    {
+        Read { word }
     }
 
     // The tree, or where there is none.

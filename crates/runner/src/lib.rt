@@ -1,6 +1,11 @@
 // Runs a reading that has a type, by a loop: what waits lies as frames in lent work memory, beside the slots for
 // bindings and operands and the cells. Each node uses a unit when it begins. Work memory is cleared at the end, and
 // bytes go to the lent output.
+//
+// Kinds, phases and modes are told by tests one after the other, the frequent ones first, and what comes next goes from
+// function to function part by part, its spot built where it changes. Told by a `match`, and handed on whole, a unit took
+// up to seven instructions more of some ninety (`bench/run`). Facts of the table, a node and a frame stand in the contract
+// of each function, as `layout` says of lent memory.
 #![tactic(auto)]
 
 mod begin;

@@ -80,6 +80,7 @@ pub fn begins(node: usize, value: Value, spot: Spot, tally: Tally) -> Next
     }
 }
 
+// This and its neighbours are a function for each way to go on, as the written ones are.
 pub fn gives(value: Value, spot: Spot, tally: Tally) -> Next
     ensures { result ≡ given value spot tally }
 {

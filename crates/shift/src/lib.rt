@@ -26,7 +26,7 @@ use tally::sums::{Outcome, Sums};
 use tally::{combining, lines, sums};
 
 // What is carried: the units that each line may use, the line that has begun, what the lines before it add
-// up to, and whether there was a line too many.
+// up to, and whether there was a line too many. All of it are words of C's, and the sums stay with a line too many.
 #[derive(Clone, Copy)]
 pub struct State {
     pub allowance: u64,
@@ -43,7 +43,7 @@ pub enum Why {
     ManyLines,
 }
 
-// Why, and where that is told.
+// Why, and where that is told. A type of its own and no `numbers::Located`, so that `?` may make it of a sheet's refusal.
 #[derive(Clone, Copy)]
 pub struct Denied {
     pub why: Why,

@@ -21,7 +21,7 @@ use tokens::edition::Edition;
 use tokens::forks::begin;
 
 // Why a stored sheet is refused, and the line at which this is told; 0 where it is told of no line, as the report of C
-// has it and StoredDenies says.
+// has it and StoredDenies says. A line is no place of a text, so this is no `numbers::Located`.
 #[derive(Clone, Copy)]
 pub struct Denied {
     pub why: Refusal,

@@ -1,5 +1,6 @@
 // The numbers of names. Two names are spelled the same exactly where their lines are, so the digits are
-// compared as they stand.
+// compared as they stand. The functions of `tokens::names` do the same of a text; the contracts of these speak of lines of
+// digits, and what is alike of both is `tokens::forks`.
 ghost use Rattle.std.specs.Prelude.{◌≡◌};
 ghost use Rattle.std.proofs.Math.Seq.{slice};
 ghost use Rattle.language.specs.Tokens.{NAME};

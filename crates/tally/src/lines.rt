@@ -4,7 +4,8 @@ ghost use Rattle.tally.specs.Parts.{no_part, spoilt, with_digit, longer, is_begu
 
 use language::LARGEST;
 
-// How many digits of the line there were, what picks and rate are worth so far, and whether it is bad.
+// How many digits of the line there were, what picks and rate are worth so far, and whether it is bad: four words of C's,
+// and a line that is bad is so whatever was kept of it.
 #[derive(Clone, Copy)]
 pub struct Part {
     pub at: u32,

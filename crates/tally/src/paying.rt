@@ -11,6 +11,7 @@ const LOWEST: i64 = -2147483648;
 const HIGHEST: i64 = 2147483647;
 
 #[tactic(auto, using(std::proofs::lemmas::Int::ints), unfolding(language::specs::Meaning::in_range))]
+// `machine` has the same test for its numbers; neither crate rests on the other.
 fn is_int(z: i64) -> bool
     ensures { result ≡ in_range z }
 {

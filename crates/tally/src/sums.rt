@@ -27,7 +27,7 @@ pub struct Sums {
     pub largest: i64,
 }
 
-// What a line comes to.
+// What a line comes to: one of three, as the written language has them.
 #[derive(Clone, Copy)]
 pub enum Outcome {
     Bad,

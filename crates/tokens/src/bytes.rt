@@ -167,7 +167,7 @@ impl<'a> Text<'a> {
         true
     }
 
-    // The same where the text has as many bytes from there on.
+    // The same where the text has as many bytes from there on, so that no byte is asked whether it is one of the text's.
     pub fn stands_within(&self, at: usize, bytes: &[u8]) -> bool
         requires { at + length bytes.now ≤ length (text_of self.now) }
         ensures { result ≡ stands (text_of self.now) at bytes.now }
