@@ -18,9 +18,9 @@ use Rattle.layout.specs.declared.values.Value.{Value}
 use Rattle.layout.specs.Resolved.{Resolved}
 use Rattle.layout.specs.Decode.{Holds}
 use Rattle.layout.specs.declared.Held.{Held}
-use Rattle.sheets.specs.Forms.{origin_of, place_of}
+use Rattle.sheets.specs.Sources.{origin_of, place_of}
 use Rattle.sheets.specs.Sheets.{OfSource}
-use Rattle.sheets.specs.declared.Form.{Form}
+use Rattle.sheets.specs.declared.Source.{Source}
 use Rattle.sheets.specs.Sheets.{Seen}
 use Rattle.numbers.specs.declared.Located.{Located}
 use Rattle.grumpy.specs.Reports.{RanAt, ran_report}
@@ -66,9 +66,9 @@ EndsAt {P} {Q} M e r =
 
 -- the answer for a program whose type has the number t, from the words of a table that stands for so many tokens of a
 -- source
-abbrev pub ran_of : List ℕ → List ℕ → Form → List ℕ → ℕ → ℕ → Ending ℕ → RanAt ℕ
-ran_of first second f w count t e =
-    Ok (record { type_number = t; ending = ending_at (place_of first second f w count) e })
+abbrev pub ran_of : Source → List ℕ → ℕ → ℕ → Ending ℕ → RanAt ℕ
+ran_of source w count t e =
+    Ok (record { type_number = t; ending = ending_at (place_of source w count) e })
 
 -- ---- a sheet that was examined
 
@@ -94,10 +94,10 @@ pub record Reported (o : Origin ℕ) (l : Lent) (out out' : List ℕ) (r : RanAt
 
 -- with memory and allowance in order, in whatever edition the source was examined; of the table only required words
 -- may have changed
-pub record Answered (first second : List ℕ) (f : Form) (table table' work out work' out' : List ℕ) (allowance : ℕ)
+pub record Answered (source : Source) (table table' work out work' out' : List ℕ) (allowance : ℕ)
     (s : Seen) (r : RanAt ℕ) : Type 0 where
-  pub told : (edition : ℕ) (l : Lent) → OfSource (origin_of first second f edition) table s → Enough l
+  pub told : (edition : ℕ) (l : Lent) → OfSource (origin_of source edition) table s → Enough l
       → l.output ≡ length out → l.allowance ≡ allowance → allowance ≤ ALLOWANCE
-      → Reported (origin_of first second f edition) l out out' r
+      → Reported (origin_of source edition) l out out' r
   pub rest : zeros table' 0 TABLE ≡ zeros table 0 TABLE
   pub cleared : work' ≡ zeros work 0 WORK

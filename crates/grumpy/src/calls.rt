@@ -10,8 +10,7 @@ ghost use Rattle.grumpy.specs.Calls.{Preparable, Prepares, Callable, Called};
 use crate::answers::Ending;
 use crate::outcomes;
 use layout::Held;
-use sheets::Form;
-use tokens::view::View;
+use tokens::view::{Text, View};
 
 // The book with the call of two noughts under it: the table holds it, its names and calls resolved. A book that was
 // admitted is not refused.
@@ -19,8 +18,12 @@ pub fn prepare(edition: u32, book: &[u8], table: &mut [u32]) -> Held
     requires { Preparable edition book.now table.old }
     ensures { Prepares edition book.now table.old table.new result }
 {
-    let form = Form::Text(View::Joined);
-    match sheets::examine_form(edition, book, b"pay(0,0)", form, table) {
+    let text = Text {
+        first: book,
+        second: b"pay(0,0)",
+        view: View::Joined,
+    };
+    match sheets::examine(edition, &text, table) {
         Ok(passed) => {
             resolver::resolve(table, passed.program);
             passed.program

@@ -14,7 +14,7 @@ ghost use Rattle.language.specs.Profile.{Profile};
 ghost use Rattle.language.specs.Writing.{Write, Store};
 ghost use Rattle.outlines.specs.Reports.{wanted_by, outlined_report};
 ghost use Rattle.pairs.specs.Spots.{Shows};
-ghost use Rattle.sheets.specs.Forms.{origin_of};
+ghost use Rattle.sheets.specs.Sources.{origin_of};
 ghost use Rattle.grumpy.specs.Reports.{checked_report, ran_report, wrote_report, profiled_report};
 ghost use Rattle.grumpy.specs.Reports.{pair_checked_report, pair_ran_report, pair_profiled_report};
 
@@ -31,25 +31,19 @@ use layout::memory;
 use numbers::Refusal;
 use outlines::{Found, Sought};
 use pairs::Spot;
-use sheets::{Form, nowhere};
+use sheets::{Source, nowhere};
 use tokens::edition::named;
-use tokens::view::View;
+use tokens::view::{Text, View};
 
-// What check answers for a source of either form.
-fn check_form(
-    edition: u32,
-    first: &[u8],
-    second: &[u8],
-    form: Form,
-    table: &mut [u32],
-) -> Checked<usize>
-    ensures { Check (origin_of first.now second.now form edition) table.old
-        (checked_report result) table.new }
+// What check answers for either kind of source.
+fn check_source(edition: u32, source: &Source, table: &mut [u32]) -> Checked<usize>
+    ensures { Check (origin_of source.now edition) table.old (checked_report result)
+        table.new }
 {
     if table.len() < TABLE {
         return Err(nowhere(Refusal::ShortMemory));
     }
-    let seen = sheets::examine_form(edition, first, second, form, table);
+    let seen = sheets::examine_source(edition, source, table);
     memory::clear(table, 0, TABLE);
     let passed = seen?;
     Ok(passed.type_number)
@@ -59,7 +53,12 @@ pub fn check(edition: u32, source: &[u8], table: &mut [u32]) -> Checked<usize>
     ensures { Check (text_in edition source.now) table.old (checked_report result)
         table.new }
 {
-    check_form(edition, source, source, Form::Text(View::Plain), table)
+    let text = Text {
+        first: source,
+        second: source,
+        view: View::Plain,
+    };
+    check_source(edition, &Source::Text(text), table)
 }
 
 // The same of a stored sheet; its places are lines.
@@ -67,7 +66,7 @@ pub fn check_stored(edition: u32, stored: &[u8], table: &mut [u32]) -> Checked<u
     ensures { Check (stored_in edition stored.now) table.old (checked_report result)
         table.new }
 {
-    check_form(edition, stored, stored, Form::Lines, table)
+    check_source(edition, &Source::Lines(stored), table)
 }
 
 // The first sheet, one LF, then the second, without their being put together.
@@ -75,23 +74,26 @@ pub fn check_pair(edition: u32, first: &[u8], second: &[u8], table: &mut [u32]) 
     ensures { Check (pair_in edition first.now second.now) table.old
         (pair_checked_report result) table.new }
 {
-    let answer = check_form(edition, first, second, Form::Text(View::Joined), table);
+    let text = Text {
+        first,
+        second,
+        view: View::Joined,
+    };
+    let answer = check_source(edition, &Source::Text(text), table);
     places::checked(first, second, answer)
 }
 
-// What run answers for a source of either form. The three memories stay apart here and above, as `grumpy_run` is lent
+// What run answers for either kind of source. The three memories stay apart here and above, as `grumpy_run` is lent
 // them: a struct of them would be built by each caller and taken apart again below.
-fn run_form(
+fn run_source(
     edition: u32,
-    first: &[u8],
-    second: &[u8],
-    form: Form,
+    source: &Source,
     table: &mut [u32],
     work: &mut [u32],
     out: &mut [u8],
     allowance: u64,
 ) -> Ran<usize>
-    ensures { Run (origin_of first.now second.now form edition) table.old
+    ensures { Run (origin_of source.now edition) table.old
         work.old out.old allowance (ran_report result) table.new work.new
         out.new }
 {
@@ -106,17 +108,8 @@ fn run_form(
         memory::clear(work, 0, WORK);
         return Err(nowhere(Refusal::LargeAllowance));
     }
-    let seen = sheets::examine_form(edition, first, second, form, table);
-    let answer = outcomes::run_or_refuse(
-        first,
-        second,
-        form,
-        table,
-        work,
-        out,
-        seen,
-        allowance as u32,
-    );
+    let seen = sheets::examine_source(edition, source, table);
+    let answer = outcomes::run_or_refuse(source, table, work, out, seen, allowance as u32);
     memory::clear(table, 0, TABLE);
     answer
 }
@@ -133,16 +126,12 @@ pub fn run(
     ensures { Run (text_in edition source.now) table.old work.old
         out.old allowance (ran_report result) table.new work.new out.new }
 {
-    run_form(
-        edition,
-        source,
-        source,
-        Form::Text(View::Plain),
-        table,
-        work,
-        out,
-        allowance,
-    )
+    let text = Text {
+        first: source,
+        second: source,
+        view: View::Plain,
+    };
+    run_source(edition, &Source::Text(text), table, work, out, allowance)
 }
 
 // The same of a stored sheet.
@@ -157,16 +146,7 @@ pub fn run_stored(
     ensures { Run (stored_in edition stored.now) table.old work.old
         out.old allowance (ran_report result) table.new work.new out.new }
 {
-    run_form(
-        edition,
-        stored,
-        stored,
-        Form::Lines,
-        table,
-        work,
-        out,
-        allowance,
-    )
+    run_source(edition, &Source::Lines(stored), table, work, out, allowance)
 }
 
 // The same of two sheets: the rule book, and the loom's sheet with its call.
@@ -183,16 +163,12 @@ pub fn run_pair(
         work.old out.old allowance (pair_ran_report result) table.new work.new
         out.new }
 {
-    let answer = run_form(
-        edition,
+    let text = Text {
         first,
         second,
-        Form::Text(View::Joined),
-        table,
-        work,
-        out,
-        allowance,
-    );
+        view: View::Joined,
+    };
+    let answer = run_source(edition, &Source::Text(text), table, work, out, allowance);
     places::ran(first, second, answer)
 }
 
@@ -201,7 +177,7 @@ pub fn write(edition: u32, source: &[u8], table: &mut [u32], out: &mut [u8]) -> 
     ensures { Write (text_in edition source.now) table.old out.old (wrote_report result)
         table.new out.new }
 {
-    writings::written::<writings::Text>(edition, source, table, out)
+    writings::written::<writings::WrittenOut>(edition, source, table, out)
 }
 
 // `out` gets the sheet's stored form: a line with the count of its tokens, and a line for each of them.
@@ -217,7 +193,12 @@ pub fn profile(edition: u32, source: &[u8], table: &mut [u32]) -> Profiled<usize
     ensures { Profile (text_in edition source.now) table.old (profiled_report result)
         table.new }
 {
-    profilings::profile_form(edition, source, source, Form::Text(View::Plain), table)
+    let text = Text {
+        first: source,
+        second: source,
+        view: View::Plain,
+    };
+    profilings::profile_source(edition, &Source::Text(text), table)
 }
 
 // The same of two sheets.
@@ -225,7 +206,12 @@ pub fn profile_pair(edition: u32, first: &[u8], second: &[u8], table: &mut [u32]
     ensures { Profile (pair_in edition first.now second.now) table.old
         (pair_profiled_report result) table.new }
 {
-    let answer = profilings::profile_form(edition, first, second, Form::Text(View::Joined), table);
+    let text = Text {
+        first,
+        second,
+        view: View::Joined,
+    };
+    let answer = profilings::profile_source(edition, &Source::Text(text), table);
     places::profiled(first, second, answer)
 }
 

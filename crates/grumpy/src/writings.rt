@@ -10,7 +10,7 @@ use language::TABLE;
 use layout::memory;
 use numbers::Refusal;
 use sheets::{Verdict, nowhere};
-use tokens::view::View;
+use tokens::view::{Text, View};
 
 // A way to write a sheet that passes: `put` answers how many bytes it put, or none where they have no room.
 pub(crate) trait Writes {
@@ -25,9 +25,9 @@ pub(crate) trait Writes {
     ghost lawful: { Lawful tells };
 }
 
-pub(crate) struct Text;
+pub(crate) struct WrittenOut;
 
-impl Writes for Text {
+impl Writes for WrittenOut {
     ghost tells = { writing.Wrote };
 
     ghost lawful = { write_lawful };
@@ -79,7 +79,12 @@ pub(crate) fn written<W: Writes>(
     if table.len() < TABLE {
         return Err(nowhere(Refusal::ShortMemory));
     }
-    let seen = sheets::examine(edition, source, source, View::Plain, table);
+    let text = Text {
+        first: source,
+        second: source,
+        view: View::Plain,
+    };
+    let seen = sheets::examine(edition, &text, table);
     let answer = write_or_refuse::<W>(source, table, out, seen);
     memory::clear(table, 0, TABLE);
     answer

@@ -121,13 +121,12 @@ pub fn outline(
     if table.len() < TABLE {
         return Err(Refusal::ShortMemory);
     }
-    let view = View::Joined;
-    let seen = sheets::examine(edition, first, second, view, table);
     let text = Text {
         first,
         second,
-        view,
+        view: View::Joined,
     };
+    let seen = sheets::examine(edition, &text, table);
     let answer = drawn(&text, table, seen, sought);
     memory::clear(table, 0, TABLE);
     answer

@@ -111,11 +111,11 @@ impl<R: Outside> Reporter<'_, R> {
         kept(status, self.record(status, outcome))
     }
 
-    pub fn report(&self, sheet: &[u8], printed: &[u8], limits: Limits, end: End) -> u32
+    // The same of the sheet that the words name, of which these bytes are shown.
+    fn named(&self, sheet: &[u8], places: Places, printed: &[u8], limits: Limits, end: End) -> u32
         ensures due { Due (status_of end) result }
         ensures status { Status result }
     {
-        let places = Places::Bytes;
         let mut room = io::buffer();
         let file = word(self.rt, self.asked.sheet, &mut room);
         self.told(
@@ -132,26 +132,19 @@ impl<R: Outside> Reporter<'_, R> {
         )
     }
 
+    pub fn report(&self, sheet: &[u8], printed: &[u8], limits: Limits, end: End) -> u32
+        ensures due { Due (status_of end) result }
+        ensures status { Status result }
+    {
+        self.named(sheet, Places::Bytes, printed, limits, end)
+    }
+
     // The same of a stored sheet, of which no bytes are shown.
     pub fn report_stored(&self, printed: &[u8], limits: Limits, end: End) -> u32
         ensures due { Due (status_of end) result }
         ensures status { Status result }
     {
-        let (sheet, places) = (b"".as_slice(), Places::Lines);
-        let mut room = io::buffer();
-        let file = word(self.rt, self.asked.sheet, &mut room);
-        self.told(
-            printed,
-            &Outcome {
-                source: Source {
-                    file,
-                    sheet,
-                    places,
-                },
-                limits,
-                end,
-            },
-        )
+        self.named(b"", Places::Lines, printed, limits, end)
     }
 
     fn record_shift(

@@ -1,5 +1,5 @@
 pub mod Layers
 pub mod StoredLayers
 pub mod NamedEdition
-pub mod FormLaws
+pub mod SourceLaws
 pub mod OneAnswer

@@ -1,4 +1,4 @@
--- What `examine`, `examine_stored` and `examine_form` tell of a source in an edition is determined: that it passes and with which type, or why
+-- What `examine`, `examine_stored` and `examine_source` tell of a source in an edition is determined: that it passes and with which type, or why
 -- not and where. So are the words past the required ones; in those lies the program, and the services clear them.
 use mathlib.Core.List.{List}
 use mathlib.Core.Path.{◌≡◌, refl, sym, subst, ◌∙◌}
@@ -14,11 +14,11 @@ use Rattle.language.proofs.Answers.OneAnswer.{one_checked}
 use Rattle.language.proofs.Answers.Origins.{Lawful}
 use Rattle.language.proofs.Stored.Editions.{stored_in_lawful}
 use Rattle.numbers.specs.Meanings.{refusal_meant}
-use Rattle.sheets.specs.Forms.{origin_of}
+use Rattle.sheets.specs.Sources.{origin_of}
 use Rattle.sheets.specs.Sheets.{wiped, OfSource, Examined}
-use Rattle.sheets.specs.declared.Form.{Form}
+use Rattle.sheets.specs.declared.Source.{Source}
 use Rattle.sheets.specs.Sheets.{Seen}
-use Rattle.sheets.proofs.FormLaws.{form_lawful, form_nowhere}
+use Rattle.sheets.proofs.SourceLaws.{source_lawful, source_nowhere}
 
 abbrev pub seen_report : Seen → CheckReport ℕ
 seen_report (Ok p) = check_report passed 0 p.type_number
@@ -45,8 +45,7 @@ pub stored_once : (number : ℕ) {input w w₁ w₂ : List ℕ} (s q : Seen) →
     → Examined (stored_in number input) w w₂ q → (seen_report s ≡ seen_report q) × (wiped w₁ ≡ wiped w₂)
 stored_once number {input} s q x y = once (stored_in number input) (stored_in_lawful number input) refl s q x y
 
-pub form_once : (number : ℕ) (first second : List ℕ) (f : Form) {w w₁ w₂ : List ℕ} (s q : Seen)
-    → Examined (origin_of first second f number) w w₁ s → Examined (origin_of first second f number) w w₂ q
-    → (seen_report s ≡ seen_report q) × (wiped w₁ ≡ wiped w₂)
-form_once number first second f s q x y =
-    once (origin_of first second f number) (form_lawful first second f number) (form_nowhere first second f number) s q x y
+pub source_once : (number : ℕ) (source : Source) {w w₁ w₂ : List ℕ} (s q : Seen) → Examined (origin_of source number) w w₁ s
+    → Examined (origin_of source number) w w₂ q → (seen_report s ≡ seen_report q) × (wiped w₁ ≡ wiped w₂)
+source_once number source s q x y =
+    once (origin_of source number) (source_lawful source number) (source_nowhere source number) s q x y

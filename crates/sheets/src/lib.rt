@@ -11,9 +11,9 @@ ghost use Rattle.language.specs.Stored.{from_stored};
 ghost use Rattle.checker.specs.Checked.{Checkable};
 ghost use Rattle.reader.specs.Findings.{Standing};
 ghost use Rattle.tokens.specs.Editions.{meant};
-ghost use Rattle.tokens.specs.Shown.{shown};
+ghost use Rattle.tokens.specs.Shown.{text_of};
 ghost use Rattle.sheets.specs.Sheets.{byte_of, Typed, Read, told_at, line_of, Near, Examined};
-ghost use Rattle.sheets.specs.Forms.{origin_of, place_of};
+ghost use Rattle.sheets.specs.Sources.{origin_of, place_of};
 
 use layout::Held;
 use numbers::{Located, Refusal};
@@ -21,7 +21,7 @@ use rules::Fault;
 use stored::Denied;
 use tokens::answer::Unsplit;
 use tokens::edition::{Edition, named};
-use tokens::view::{Text, View};
+use tokens::view::Text;
 
 pub type Refused<P> = Located<Refusal, P>;
 
@@ -36,12 +36,11 @@ pub struct Passed {
 // source at a byte or a line.
 pub type Verdict = Result<Passed, Refused<usize>>;
 
-// What a source is: the text that a view shows of two sheets, or the first of them as a stored sheet. No Option of a
-// view: a stored sheet is not the want of one.
+// What a source is: the text that a view shows of two sheets, or a stored sheet.
 #[derive(Clone, Copy)]
-pub enum Form {
-    Text(View),
-    Lines,
+pub enum Source<'a> {
+    Text(Text<'a>),
+    Lines(&'a [u8]),
 }
 
 // A refusal that has no place is told at 0.
@@ -111,24 +110,12 @@ fn placed(table: &[u32], count: usize, end: usize, verdict: Verdict) -> Verdict
     })
 }
 
-// What becomes of the source that a view shows, in an edition.
-fn examine_in(
-    edition: Edition,
-    first: &[u8],
-    second: &[u8],
-    view: View,
-    table: &mut [u32],
-) -> Verdict
+// What becomes of a text in an edition.
+fn examine_in(edition: Edition, text: &Text, table: &mut [u32]) -> Verdict
     requires { TABLE ≤ length table.old }
-    ensures { Examined (from_text (meant edition) (shown first.now second.now view)) table.old
-        table.new result }
+    ensures { Examined (from_text (meant edition) (text_of text.now)) table.old table.new result }
 {
-    let text = Text {
-        first,
-        second,
-        view,
-    };
-    match tokens::split(edition, &text, table) {
+    match tokens::split(edition, text, table) {
         Ok(count) => {
             let verdict = read(table, count);
             let end = text.len();
@@ -143,13 +130,12 @@ fn examine_in(
 }
 
 // In the edition that a number names; where it names none, that is told before all else.
-pub fn examine(edition: u32, first: &[u8], second: &[u8], view: View, table: &mut [u32]) -> Verdict
+pub fn examine(edition: u32, text: &Text, table: &mut [u32]) -> Verdict
     requires { TABLE ≤ length table.old }
-    ensures { Examined (text_in edition (shown first.now second.now view)) table.old
-        table.new result }
+    ensures { Examined (text_in edition (text_of text.now)) table.old table.new result }
 {
     match named(edition) {
-        Some(known) => examine_in(known, first, second, view, table),
+        Some(known) => examine_in(known, text, table),
         None => Err(nowhere(Refusal::NoEdition)),
     }
 }
@@ -191,46 +177,25 @@ pub fn examine_stored(edition: u32, input: &[u8], table: &mut [u32]) -> Verdict
     }
 }
 
-// What becomes of a source of either form.
-pub fn examine_form(
-    edition: u32,
-    first: &[u8],
-    second: &[u8],
-    form: Form,
-    table: &mut [u32],
-) -> Verdict
+// What becomes of either kind of source.
+pub fn examine_source(edition: u32, source: &Source, table: &mut [u32]) -> Verdict
     requires { TABLE ≤ length table.old }
-    ensures { Examined (origin_of first.now second.now form edition) table.old
-        table.new result }
+    ensures { Examined (origin_of source.now edition) table.old table.new result }
 {
-    match form {
-        Form::Text(view) => examine(edition, first, second, view, table),
-        Form::Lines => examine_stored(edition, first, table),
+    match source {
+        Source::Text(text) => examine(edition, text, table),
+        Source::Lines(stored) => examine_stored(edition, stored, table),
     }
 }
 
 // Where a source tells of the token with this ordinal: its byte or its line.
-pub fn place_in(
-    first: &[u8],
-    second: &[u8],
-    form: Form,
-    table: &[u32],
-    count: usize,
-    at: u32,
-) -> usize
+pub fn place_in(source: &Source, table: &[u32], count: usize, at: u32) -> usize
     requires { (TABLE ≤ length table.now) × (count ≤ TOKENS) }
-    ensures { result ≡ place_of first.now second.now form table.now count at }
+    ensures { result ≡ place_of source.now table.now count at }
 {
     let ordinal = at as usize;
-    match form {
-        Form::Text(view) => {
-            let text = Text {
-                first,
-                second,
-                view,
-            };
-            place(table, count, text.len(), ordinal)
-        }
-        Form::Lines => ordinal + 2,
+    match source {
+        Source::Text(text) => place(table, count, text.len(), ordinal),
+        Source::Lines(_) => ordinal + 2,
     }
 }

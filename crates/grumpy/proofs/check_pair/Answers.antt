@@ -4,4 +4,4 @@ use Rattle.grumpy.proofs.check_pair.Goals as goal
 
 pub returns : goal.returns
 returns c =
-    check_paired _ _ _ _ _ c.check_form-answer.result c.checked.result c.check_form-answer.ensures c.checked.ensures
+    check_paired _ _ _ _ _ c.check_source-answer.result c.checked.result c.check_source-answer.ensures c.checked.ensures

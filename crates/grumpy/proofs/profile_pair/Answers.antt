@@ -4,5 +4,5 @@ use Rattle.grumpy.proofs.profile_pair.Goals as goal
 
 pub returns : goal.returns
 returns c =
-    profile_paired _ _ _ _ _ c.profile_form-answer.result c.profiled.result c.profile_form-answer.ensures
+    profile_paired _ _ _ _ _ c.profile_source-answer.result c.profiled.result c.profile_source-answer.ensures
     c.profiled.ensures

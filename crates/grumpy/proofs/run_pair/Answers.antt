@@ -4,4 +4,4 @@ use Rattle.grumpy.proofs.run_pair.Goals as goal
 
 pub returns : goal.returns
 returns c =
-    run_paired _ _ _ _ _ _ _ _ _ _ c.run_form-answer.result c.ran.result c.run_form-answer.ensures c.ran.ensures
+    run_paired _ _ _ _ _ _ _ _ _ _ c.run_source-answer.result c.ran.result c.run_source-answer.ensures c.ran.ensures

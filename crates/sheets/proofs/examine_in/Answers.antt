@@ -15,9 +15,8 @@ returns-in-Ok c =
 
 pub returns-in-Err-Stopped : goal.returns-in-Err-Stopped
 returns-in-Err-Stopped c =
-    rw c.in-Err-Stopped.field-0-is
-    (examined_flaw (laws_of c.args.edition) _ _ _ c.requires _ _ _ c.split.ensures
-    (c.in-Err-Stopped.is ∙ ap Err c.in-Err-Stopped.field-0-is))
+    examined_flaw (laws_of c.args.edition) _ _ _ c.requires _ _ _ c.split.ensures
+    (c.in-Err-Stopped.is ∙ ap Err c.in-Err-Stopped.field-0-is)
 
 pub returns-in-Err-TooLong : goal.returns-in-Err-TooLong
 returns-in-Err-TooLong c =

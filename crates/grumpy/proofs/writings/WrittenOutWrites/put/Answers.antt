@@ -1,5 +1,5 @@
 use Rattle.grumpy.proofs.Rewriting.{rewrote_text}
-use Rattle.grumpy.proofs.writings.TextWrites.put.Goals as goal
+use Rattle.grumpy.proofs.writings.WrittenOutWrites.put.Goals as goal
 
 pub returns : goal.returns
 returns c = rewrote_text _ _ _ _ _ _ c.write.ensures
