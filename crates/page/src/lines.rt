@@ -5,7 +5,7 @@ ghost use Rattle.page.specs.Lines.{feeds, behind, ahead, columns_of, without_ret
 use crate::characters::characters;
 
 // The line and the column of a place, both counted from 1; the bytes from one up to another that are its
-// line, the place among them, and whether they are UTF-8.
+// line, the place among them, and whether they are UTF-8. Places and no parts of the text: `Spotted` tells of each.
 #[derive(Clone, Copy)]
 pub struct Spot {
     pub line: usize,

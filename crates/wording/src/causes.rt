@@ -4,6 +4,7 @@ ghost use Rattle.wording.specs.Causes.{refusal_placed, cause_number, cause_place
 
 use numbers::{Refusal, Stop};
 
+// The cases are those of what can be told, each with a line of words of its own.
 #[derive(Clone, Copy)]
 pub enum Cause {
     // The box refuses the sheet.

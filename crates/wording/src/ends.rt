@@ -5,6 +5,7 @@ ghost use Rattle.wording.specs.Ends.{completed_if, status_of, told_status, print
 use crate::causes::Cause;
 use layout::values::Value;
 
+// How a sheet ends, case by case as it is told: the reports have a row for each, and no case hands on another's error.
 #[derive(Clone, Copy)]
 pub enum End {
     // It passed, and has the type with this number.
