@@ -11,7 +11,6 @@ use Rattle.language.specs.Writing.{WriteReport}
 use Rattle.layout.specs.declared.values.Value.{Value}
 use Rattle.numbers.specs.Meanings.{refusal_meant}
 use Rattle.numbers.proofs.Apart.{refusal_of, refusal_back, stop_of, stop_back}
-use Rattle.numbers.specs.declared.Refusal.{Refusal}
 use Rattle.numbers.specs.declared.Stop.{Stop}
 use Rattle.pairs.specs.Spots.{meant}
 use Rattle.pairs.specs.declared.Spot.{Spot}
