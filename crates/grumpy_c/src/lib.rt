@@ -1,5 +1,6 @@
 // The C interface of the box; include/grumpy.h says what each report has. A report that is too short is answered like
-// memory that is too short, and nothing is changed.
+// memory that is too short, and nothing is changed. The exported functions are C's, name by name, so those that are alike
+// stay so.
 #![tactic(auto)]
 
 ghost use Rattle.std.specs.Prelude.{◌≤◌, length};

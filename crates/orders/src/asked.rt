@@ -200,7 +200,7 @@ impl Asked {
         }
     }
 
-    // Takes one word more, which has this number and means this by itself.
+    // Takes one word more, which has this number and means this by itself. (A match: each turn is an update of its own.)
     pub fn take(self, word: Word, i: usize) -> Asked
         ensures { result ≡ in_turn self.turn self word i }
     {

@@ -28,7 +28,7 @@ fn fits(task: Task, plain: usize) -> bool
 }
 
 impl Asked {
-    // What all the words ask for.
+    // What all the words ask for. (A match: no turn does what another one does.)
     pub fn settled(self) -> Result<Task, Unclear>
         ensures { result ≡ wanted_of self.turn self }
     {

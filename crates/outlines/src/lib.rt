@@ -17,7 +17,8 @@ use numbers::Refusal;
 use sheets::Verdict;
 use tokens::view::{Text, View};
 
-// What a sheet has: a last expression that is a number alone, and a function that was wanted.
+// What a sheet has: a last expression that is a number alone, and a function that was wanted. Two answers, neither of
+// which says something of the other.
 #[derive(Clone, Copy)]
 pub struct Found {
     pub alone: bool,

@@ -1,6 +1,7 @@
 // What the program around the box does with bytes: it reads a number among its arguments, finds the line and the
 // column of a place, puts text behind text so that it can be seen, writes a float or pence for who reads it, and reads
-// a value that has a name on its line.
+// a value that has a name on its line. Functions that put one line or one amount are alike, here and in the crates above:
+// what they have in common are the methods of a page, and what differs is in the text that the contract of each names.
 #![tactic(auto)]
 
 ghost use Rattle.std.specs.Prelude.{min, length};

@@ -17,7 +17,7 @@ const NO_COUNT: u32 = 65537;
 
 const NO_AMOUNT: i64 = 4611686018427387904;
 
-// The report of a shift: whether it tells of a line too many, and the sums.
+// The report of a shift: whether it tells of a line too many, and the sums, which are there too where it does.
 #[derive(Clone, Copy)]
 pub struct Reading {
     pub over: bool,

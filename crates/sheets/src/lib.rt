@@ -166,7 +166,7 @@ fn examine_stored_in(edition: Edition, input: &[u8], table: &mut [u32]) -> Verdi
     }
 }
 
-// In the edition that a number names.
+// In the edition that a number names. (`examine` does the same of a text, and the contracts name two origins.)
 pub fn examine_stored(edition: u32, input: &[u8], table: &mut [u32]) -> Verdict
     requires { TABLE ≤ length table.old }
     ensures { Examined (stored_in edition input.now) table.old table.new result }

@@ -19,7 +19,8 @@ use wording::causes::Cause;
 use wording::ends::End;
 use wording::limits::{Limits, unlimited};
 
-// What check answers of a whole sheet.
+// What check answers of a whole sheet. The same of one with a call under it, and of a stored one, are a call of another
+// service each, and their contracts name another origin.
 pub fn examine(edition: u32, source: &[u8]) -> Checked<usize>
     ensures { CheckedUnder BOX (text_in edition source.now) TABLE (checked_report result) }
 {

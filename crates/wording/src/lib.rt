@@ -1,4 +1,5 @@
-// What came of a sheet, and causes, types, values and mistakes in words: parts of what is told, put into lent bytes.
+// What came of a sheet, and causes, types, values and mistakes in words: parts of what is told, put on a page.
+// Each function has a text of its own (`page` says why those that are alike stay so).
 #![tactic(auto)]
 
 pub mod causes;
