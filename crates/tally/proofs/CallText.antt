@@ -1,14 +1,12 @@
 -- Bytes put one behind the other into an array: what the proofs of `tally::calls` cite.
-use lib.ListN.{length, take, set, length-set, length-take}
-use lib.Seq.{take-suc-set}
+use lib.ListN.{length, set, length-set}
 use mathlib.Core.List.{List, [], ◌∷◌, ◌++◌, append_assoc}
 use mathlib.Core.Path.{◌≡◌, refl, ◌∙◌}
 use borrow.Author.Tests.{lt-ltb, le-ltb}
-use native.Mathlib.Numerals.{add-one}
 use native.Mathlib.Omega.{arith}
 use Prim.Native.Nat.{ℕ, zero, suc, ◌+◌, ◌-◌, ◌/◌, ◌%◌, ◌≤◌, ◌<◌}
 use Rattle.language.specs.Shift.{Job, decimal_with, decimal, call_of}
-use Rattle.language.proofs.Shift.Decimals.{Enough, tenth}
+use Rattle.language.proofs.Shift.Decimals.{Enough}
 use Rattle.tally.specs.Calls.{OPENING, Shows, Longer}
 
 module _ (text : List ℕ) (at b : ℕ) (h : at < length text) where

@@ -1,27 +1,27 @@
 -- Laws over plain reports that the proofs of `tally::combining` cite.
-use lib.Dec.{leb, eqb}
+use lib.Dec.{eqb}
 use lib.IntN.{ℤ, ◌+ℤ◌}
 use lib.ListN.{length, get_or}
 use lib.Signed.{mag}
-use mathlib.Core.Bool.{Bool, true, false, cond}
-use mathlib.Core.List.{List, [], ◌∷◌}
+use mathlib.Core.Bool.{true, cond}
+use mathlib.Core.List.{List}
 use mathlib.Core.Path.{◌≡◌, refl, sym, ap, ap₂, ◌∙◌}
-use borrow.Author.Tests.{le-leb, lt-leb, leb-true, eq-eqb, ne_eqb}
+use borrow.Author.Tests.{leb-true}
 use mir.Syntax.{w64}
 use mir.Val.{SFits, to_z, of_z}
 use native.Mathlib.Omega.{arith}
 use Prim.Native.Nat.{ℕ, ◌+◌, ◌^◌, ◌≤◌, ◌<◌}
 use mathlib.Core.List.{map}
-use Rattle.std.specs.List.{range_with_len, sum_by}
+use Rattle.std.specs.List.{range_with_len}
 use Rattle.std.proofs.lemmas.List.FromFn.{fill_by_all}
 use Rattle.language.specs.Sizes.{LINES}
 use Rattle.language.specs.State as State
-use Rattle.language.specs.Combining.{all_stops, paid_lines, payable, possible, either_pay, both, addable}
+use Rattle.language.specs.Combining.{all_stops, paid_lines, possible, either_pay, both, addable}
 use Rattle.language.specs.Shift.{lesser, greater, Report}
 use Rattle.language.proofs.Text.Choices.{and_both}
 use Rattle.language.proofs.Shift.Totals.{mag_plus}
 use Rattle.language.proofs.Shift.Possible.{Possible, possible_so, sum_size}
-use Rattle.tally.specs.Combining.{counts, nine_both, not_paid, Both}
+use Rattle.tally.specs.Combining.{counts, nine_both, Both}
 use Rattle.tally.specs.Stands.{report_in}
 use Rattle.tally.specs.declared.sums.Sums.{Sums}
 use Rattle.tally.proofs.Laws.{back}
@@ -32,9 +32,10 @@ use Rattle.tally.proofs.Laws.{back}
 nine_places : (l : List ℕ) → length l ≡ 9 → l ≡ map (λ i. get_or l i 0) (range_with_len 0 9)
 nine_places l h = fill_by_all (λ i. get_or l i 0) l 9 0 h (λ k q. refl)
 
-pub stops_added : (l : List ℕ) → length l ≡ 9 → sum_by (λ x. x) l ≡ all_stops (counts l)
+pub stops_added : (l : List ℕ) {x y z : ℕ} → x ≡ get_or l 0 0 + get_or l 1 0 + get_or l 2 0 → y ≡ get_or l 3 0 + get_or l 4 0 + get_or l 5 0
+    → z ≡ get_or l 6 0 + get_or l 7 0 + get_or l 8 0 → x + y + z ≡ all_stops (counts l)
 unfolding all_stops
-stops_added l h = ap (λ (k : List ℕ). sum_by (λ x. x) k) (nine_places l h) ∙ omega arith
+stops_added l ex ey ez = omega (arith, ex, ey, ez)
 
 -- each is one of all
 nine_cases : (f : ℕ → ℕ) (k : ℕ) → k < 9 → f k ≤ f 0 + (f 1 + (f 2 + (f 3 + (f 4 + (f 5 + (f 6 + (f 7 + f 8)))))))
@@ -43,10 +44,6 @@ nine_cases f k h = grind arith
 one_of_all : (l : List ℕ) (k : ℕ) → k < 9 → get_or l k 0 ≤ all_stops (counts l)
 unfolding all_stops
 one_of_all l k h = omega (arith, nine_cases (λ (i : ℕ). get_or l i 0) k h)
-
-pub stops_small : (l : List ℕ) → ((k : ℕ) → get_or l k 0 < 4294967296) → all_stops (counts l) < 38654705664
-unfolding all_stops
-stops_small l h = omega (arith, h 0, h 1, h 2, h 3, h 4, h 5, h 6, h 7, h 8)
 
 pub each_few : (a b : List ℕ) (k : ℕ) → all_stops (counts a) + all_stops (counts b) ≤ LINES → k < 9 → get_or a k 0 + get_or b k 0 ≤ LINES
 each_few a b k h l = omega (arith, one_of_all a k l, one_of_all b k l)

@@ -1,11 +1,10 @@
 -- Laws over plain numbers that the proofs of `tally` cite.
-use lib.Dec.{eqb, leb, ltb}
-use lib.IntN.{ℤ, pos, negsuc, ◌+ℤ◌}
+use lib.Dec.{eqb, leb}
+use lib.IntN.{ℤ, ◌+ℤ◌}
 use lib.Signed.{mag, lt_z}
 use mathlib.Core.Bool.{true, false, cond}
-use mathlib.Core.Logic.{⊎_elim}
 use mathlib.Core.Path.{◌≡◌, sym, ◌∙◌}
-use borrow.Author.Tests.{lt-ltb, le-ltb, le-leb, lt-leb, eq-eqb, ne_eqb, ltb-false}
+use borrow.Author.Tests.{lt-ltb, le-ltb, le-leb, lt-leb, eq-eqb, ne_eqb}
 use mir.Syntax.{w64}
 use mir.Val.{SFits, to_z, of_z}
 use mir.Facts.{to_z-of_z}
@@ -17,12 +16,9 @@ use Rattle.language.specs.Numbers.{stop_number}
 use Rattle.language.specs.State as State
 use Rattle.language.specs.Text.{between, is_digit, worth}
 use Rattle.language.specs.Shift.{is_capital_hex}
-use Rattle.language.proofs.Text.Classes.{worth_digit, worth_large}
-use Rattle.language.proofs.Text.Choices.{either, clash}
-use Rattle.language.proofs.Shift.Totals.{mag_plus}
+use Rattle.language.proofs.Text.Choices.{clash}
 use Rattle.tally.specs.declared.lines.Part.{Part}
-use Rattle.std.specs.Prelude.{Some, None}
-use Rattle.tally.specs.Parts.{spoilt, with_digit, digit_told, longer}
+use Rattle.tally.specs.Parts.{spoilt, with_digit, longer}
 use Rattle.language.specs.Shift.{lesser, greater}
 use lib.ListN.{get_or, set}
 use Rattle.numbers.specs.declared.Stop.{Stop}
