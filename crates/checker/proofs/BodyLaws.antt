@@ -98,7 +98,7 @@ module _ {w : List ℕ} {k row : ℕ} (b : Bodied w k row) {at result : ℕ} (ea
 
     module _ {t : ℕ} (e : q ≡ Ok t) where
       -- a body of the result's type
-      type_fits : eqb t result ≡ true → Fitting w w' k row (Ok tt)
+      pub type_fits : eqb t result ≡ true → Fitting w w' k row (Ok tt)
       type_fits s = record {
         kept = body_kept;
         right = λ ts f Δ Γ d n o vs.
@@ -111,7 +111,7 @@ module _ {w : List ℕ} {k row : ℕ} (b : Bodied w k row) {at result : ℕ} (ea
       }
 
       -- and of another
-      other_fits : eqb t result ≡ false → Fitting w w' k row (Err record { why = WrongBody; place = at })
+      pub other_fits : eqb t result ≡ false → Fitting w w' k row (Err record { why = WrongBody; place = at })
       other_fits s = record {
         kept = body_kept;
         right = λ ts f Δ Γ d n o vs.

@@ -6,7 +6,7 @@ use Rattle.std.specs.Prelude.{Ok, Err}
 use Prim.Native.Nat.{ℕ, suc, ◌+◌, ◌≤◌, ◌<◌}
 use native.Mathlib.Numerals.{add-one}
 use native.Mathlib.Omega.{arith}
-use Rattle.language.specs.Sizes.{TOKENS, FUNCTIONS}
+use Rattle.language.specs.Sizes.{TOKENS, NODES, FUNCTIONS}
 use Rattle.language.specs.Tokens.{Token}
 use Rattle.language.specs.Trees.{Def, Scope, nearest, size}
 use Rattle.language.specs.Types.{Sig, with_def}
@@ -58,12 +58,20 @@ module _ {ts : List Token} {f : ℕ} {p : List ℕ} {k : ℕ} {Δ : Scope Sig} {
 
 -- ---- its head
 
+-- its row is one of the rows
+pub heads_inside : {w : List ℕ} {k row : ℕ} → Headlines w k row → row < NODES
+heads_inside {k = k} h = omega (arith, h.at, (h.heads k (omega arith)).row)
+
 module _ {w : List ℕ} {k row : ℕ} (h : Headlines w k row) {at : ℕ} (ea : at ≡ row_word w row OWN) where
   -- the token of its `def`
   def_at : {ts : List Token} {f : ℕ} {Δ : Scope Sig} {d : Def} → Next ts f (without_variables w) k Δ d → at ≡ d.at
   def_at n =
       let e = function_without w k (next_few n) in
       ea ∙ ap (λ (i : ℕ). row_word w i OWN) (h.at ∙ sym e) ∙ sym (row_without w _ 1 n.here.inside (omega arith)) ∙ n.here.at
+
+  -- and its name one of the tokens
+  pub def_inside : at + 1 < TOKENS
+  def_inside = let e = ea ∙ ap (λ (i : ℕ). row_word w i OWN) h.at in omega (arith, (h.heads k (omega arith)).name)
 
   -- too many functions before it
   pub many_fresh : FUNCTIONS ≤ k → Fresh w k (Err record { why = TooManyFunctions; place = at })

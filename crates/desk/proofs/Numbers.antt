@@ -18,7 +18,7 @@ chosen : (most n : ℕ) (b : Bool) → (b ≡ true → n ≤ most) → UpTo most
 chosen most n true h = h refl
 chosen most n false h = tt
 
-read : (most : ℕ) (w : List ℕ) → UpTo most (number_up_to most w)
+pub read : (most : ℕ) (w : List ℕ) → UpTo most (number_up_to most w)
 unfolding number_up_to
 read most w = chosen most n (is_number w && leb n most) (λ e. leb-true n most (and_both (is_number w) (leb n most) e).1)
   where

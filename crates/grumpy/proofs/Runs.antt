@@ -1,7 +1,7 @@
 -- A program that is run: what the runner says of it, as the end that is told of it.
 use mathlib.Core.Option.{some}
 use mathlib.Core.List.{List, reverse}
-use mathlib.Core.Path.{◌≡◌, refl, sym, ap, ◌∙◌}
+use mathlib.Core.Path.{◌≡◌, refl, sym, ap, subst, ◌∙◌}
 use Prim.Native.Nat.{ℕ, ◌-◌, ◌≤◌}
 use Rattle.std.proofs.Common.{Result, Ok, Err}
 use native.Mathlib.Omega.{arith}
@@ -66,3 +66,12 @@ executed {allowance = allowance} {r = r} x = record {
       };
   cleared = x.cleared;
 }
+
+-- where the run's end is told apart
+pub executed_so : {table work out work' out' : List ℕ} {P : Held} {allowance : ℕ} {r : Done} {e : Result Value (Located Stop ℕ)}
+    → Runner.RunsTo table work out work' out' P allowance r → r.result ≡ e
+    → Executed table work out work' out' P allowance record { end = e; units = allowance - r.spent.left; printed = r.spent.printed }
+executed_so {table} {work} {out} {work'} {out'} {P} {allowance} {r} x q =
+    let So = λ (e : Result Value (Located Stop ℕ)).
+    Executed table work out work' out' P allowance record { end = e; units = allowance - r.spent.left; printed = r.spent.printed } in
+    subst So q (executed x)

@@ -24,9 +24,15 @@ pub fn execute(
         out.new program allowance result }
 {
     let done = runner::run(table, work, out, program, allowance);
+    let used = allowance - done.spent.left;
+    // Told apart, so that a wrong value is a line of its own (`must-fail/answers_0_to_all`).
+    let end = match done.result {
+        Ok(value) => Ok(value),
+        Err(stop) => Err(stop),
+    };
     Ending {
-        end: done.result,
-        units: allowance - done.spent.left,
+        end,
+        units: used,
         printed: done.spent.printed,
     }
 }

@@ -1,5 +1,6 @@
 pub mod Signed
 pub mod Clearing
+pub mod Nans
 pub mod Packed
 pub mod Shapes
 pub mod TableLaws

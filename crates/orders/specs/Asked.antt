@@ -11,6 +11,10 @@ use Rattle.orders.specs.declared.asked.Word.{Word}
 
 -- ---- one word more, which is the word with the number i
 
+-- a word is kept by its number; 0 is the program's name, and so no word
+abbrev pub kept : ℕ → Option ℕ
+kept i = cond (eqb i 0) None (Some i)
+
 abbrev pub unasked : Asked
 unasked =
     record {
@@ -32,13 +36,13 @@ abbrev pub with_turn : Asked → Turn → Asked
 with_turn a t = record a { turn = t }
 
 abbrev pub with_report : Asked → ℕ → Asked
-with_report a i = record a { turn = Turn.Meaning; report = Some i }
+with_report a i = record a { turn = Turn.Meaning; report = kept i }
 
 abbrev pub with_edition : Asked → ℕ → Asked
-with_edition a i = record a { turn = Turn.Meaning; edition = Some i }
+with_edition a i = record a { turn = Turn.Meaning; edition = kept i }
 
 abbrev pub with_strange : Asked → ℕ → Asked
-with_strange a i = record a { strange = Some i }
+with_strange a i = record a { strange = kept i }
 
 -- one plain word more than there were, of as many as a usize counts
 abbrev one_more : Asked → Asked
@@ -47,9 +51,9 @@ one_more a = record a { plain = min (a.plain + 1) (2 ^ 64 - 1) }
 -- a word that means nothing by itself: the first three are kept
 abbrev pub with_plain : Asked → ℕ → Asked
 with_plain a i =
-    cond (eqb a.plain 0) (record (one_more a) { sheet = Some i })
-    (cond (eqb a.plain 1) (record (one_more a) { second = Some i })
-    (cond (eqb a.plain 2) (record (one_more a) { third = Some i }) (one_more a)))
+    cond (eqb a.plain 0) (record (one_more a) { sheet = kept i })
+    (cond (eqb a.plain 1) (record (one_more a) { second = kept i })
+    (cond (eqb a.plain 2) (record (one_more a) { third = kept i }) (one_more a)))
 
 -- a word for a task asks for it where nothing was asked for before it, and is else a plain word
 abbrev pub first_word : Task → Asked → Task → ℕ → Asked

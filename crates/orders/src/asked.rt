@@ -2,7 +2,7 @@
 // `meanings`; any other is taken in its turn, as the sheet or as one of the two words that may follow it. A
 // new command is a task, its row in `meanings` and its row in `tasks::fits`.
 ghost use Rattle.std.specs.Prelude.{◌≡◌};
-ghost use Rattle.orders.specs.Asked.{unasked, with_strange, with_plain, with_command};
+ghost use Rattle.orders.specs.Asked.{kept, unasked, with_strange, with_plain, with_command};
 ghost use Rattle.orders.specs.Asked.{with_whole, with_combine, with_word, in_turn};
 
 // What is to be done.
@@ -51,7 +51,7 @@ pub enum Turn {
     Plain,
 }
 
-// What the words so far ask for. A word is kept by its number.
+// What the words so far ask for. A word is kept by its number; 0 is the program's name, and so no word.
 #[derive(Clone, Copy)]
 pub struct Asked {
     pub task: Task,
@@ -77,6 +77,13 @@ pub enum Unclear {
     Words,
 }
 
+// The number that a word is kept by.
+fn kept(i: usize) -> Option<usize>
+    ensures { result ≡ kept i }
+{
+    if i == 0 { None } else { Some(i) }
+}
+
 impl Asked {
     pub fn nothing() -> Asked
         ensures { result ≡ unasked }
@@ -99,7 +106,7 @@ impl Asked {
         ensures { result ≡ with_strange self i }
     {
         Asked {
-            strange: Some(i),
+            strange: kept(i),
             ..self
         }
     }
@@ -114,15 +121,15 @@ impl Asked {
         };
         match self.plain {
             0 => Asked {
-                sheet: Some(i),
+                sheet: kept(i),
                 ..more
             },
             1 => Asked {
-                second: Some(i),
+                second: kept(i),
                 ..more
             },
             2 => Asked {
-                third: Some(i),
+                third: kept(i),
                 ..more
             },
             _ => more,
@@ -207,12 +214,12 @@ impl Asked {
         match self.turn {
             Turn::Meaning => self.with_word(word, i),
             Turn::Name => Asked {
-                report: Some(i),
+                report: kept(i),
                 turn: Turn::Meaning,
                 ..self
             },
             Turn::Edition => Asked {
-                edition: Some(i),
+                edition: kept(i),
                 turn: Turn::Meaning,
                 ..self
             },

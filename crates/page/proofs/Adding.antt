@@ -1,11 +1,12 @@
 -- Text put behind text: one part into lent bytes, and parts one behind the other.
 use borrow.Rule.Slice.PartMut.{put_mid}
-use lib.ListN.{length, take, drop, length-append, length-take, length-drop, drop_of_length-le, take-append-drop}
-use lib.Seq.{take_all, take-length, take-append-add, take_at, drop-append-add, drop-drop, length-take-le}
+use lib.ListN.{length, take, drop, set, length-append, length-take, length-drop, drop_of_length-le, take-append-drop}
+use lib.Seq.{take_all, take-length, take-append-add, take-append_seam, set_split, take_at, drop-append-add, drop-drop, length-take-le}
 use mathlib.Core.List.{List, [], ◌∷◌, ◌++◌, append_assoc, append-nil}
 use mathlib.Core.Logic.{◌⊎◌, inl, inr, ⊎_elim}
 use mathlib.Core.Path.{◌≡◌, refl, sym, ◌∙◌, ap, subst}
 use native.Mathlib.Nat.{add-zero, add_assoc}
+use native.Mathlib.Numerals.{add-one}
 use native.Mathlib.Omega.{arith}
 use Prim.Native.Nat.{ℕ, zero, suc, ◌+◌, ◌-◌, ◌≤◌, ◌<◌, zero-le, suc-le-suc, min}
 use Rattle.page.specs.Text.{Adds, Writes}
@@ -49,6 +50,28 @@ module _ (d s : List ℕ) (at : ℕ) (h : at ≤ length d) where
           ends = omega arith;
         }
 
+-- ---- one byte
+
+pub put_one : (d : List ℕ) (b at : ℕ) → at < length d → Adds (b ∷ []) d (set d at b) at (at + 1)
+put_one d b at h =
+    let short : length (take at d ++ b ∷ []) ≤ length d = omega (arith, length-append (take at d) (b ∷ []), length-take at d) in
+    record {
+      text =
+          set_split d at b h
+          ∙ rw (add-one at) (sym (rw (take_all (length d) (take at d ++ b ∷ []) short) (append_assoc (take at d) (b ∷ []) (drop (suc at) d))));
+      ends = omega arith;
+    }
+
+-- a part that has no room
+pub put_nowhere : (d s : List ℕ) (at : ℕ) → length d ≤ at → at ≤ length d → Adds s d d at at
+put_nowhere d s at h k =
+    let all : take at d ≡ d = take_all at d h in
+    let past : length d ≤ at + length s = omega arith in
+    record {
+      text = sym (rw (all, take-append_seam d s, drop_of_length-le d past) (append-nil d));
+      ends = omega arith;
+    }
+
 -- ---- parts one behind the other
 
 -- nothing
@@ -79,7 +102,7 @@ module _ {a d0 d1 : List ℕ} {n0 n1 : ℕ} (p : Adds a d0 d1 n0 n1) where
       omega (arith, length-take (length d0) (take n0 d0 ++ a), length-append (take n0 d0) a, length-take n0 d0, p.ends)
 
   -- there are as many bytes as before
-  adds_long : length d1 ≡ length d0
+  pub adds_long : length d1 ≡ length d0
   unfolding first rest
   adds_long =
       rw p.text (omega (arith, length-append first rest, first_long, p.ends, length-drop (n0 + length a) d0))

@@ -1,4 +1,5 @@
 pub mod Adding
+pub mod LentBytes
 pub mod Decimals
 pub mod Digits
 pub mod Feeds

@@ -1,5 +1,5 @@
 // Lent bytes that text is put into, part behind part. Where they have no more room the text is cut.
-ghost use Rattle.std.specs.Prelude.{◌≡◌, ◌≤◌, length, take};
+ghost use Rattle.std.specs.Prelude.{◌≡◌, ◌≤◌, [], ◌∷◌, length, take};
 
 // The bytes, and how many of them are text.
 #[derive(Drop)]
@@ -35,6 +35,16 @@ impl<'a> Page<'a> {
         let end = self.at + n;
         self.out[self.at..end].copy_from_slice(&part[..n]);
         self.at = end;
+    }
+
+    // Puts a byte behind what is there. Bytes that are shown are put one by one, and a part of one byte takes longer.
+    pub(crate) fn put_byte(&mut self, b: u8)
+        ensures { Writes (b ∷ []) self.old self.new }
+    {
+        if self.at < self.out.len() {
+            self.out[self.at] = b;
+            self.at += 1;
+        }
     }
 
     // What was put so far.

@@ -32,7 +32,7 @@ impl Page<'_> {
         if is_hidden(b, plain) {
             self.put(&[b'\\', b'x', hex(b / 16), hex(b % 16)]);
         } else {
-            self.put(&[b]);
+            self.put_byte(b);
         }
     }
 
@@ -52,9 +52,9 @@ impl Page<'_> {
         if is_hidden(b, plain) {
             self.put(b"    ");
         } else if b == b'\t' {
-            self.put(b"\t");
+            self.put_byte(b'\t');
         } else if !is_inner(b) {
-            self.put(b" ");
+            self.put_byte(b' ');
         }
     }
 }

@@ -1,5 +1,6 @@
 pub mod KeptLaws
 pub mod ScopeLaws
+mod Naming
 mod NodeLaws
 mod BindLaws
 pub mod Covering

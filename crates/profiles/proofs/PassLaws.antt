@@ -1,6 +1,6 @@
 -- A pass over the rows on its way, and what it leaves as it was.
 use mathlib.Core.List.{List}
-use mathlib.Core.Path.{◌≡◌, refl, ap, subst, ◌∙◌}
+use mathlib.Core.Path.{◌≡◌, refl, ap, subst, subst₂, ◌∙◌}
 use Prim.Native.Nat.{ℕ, ◌+◌, ◌*◌, ◌≤◌, ◌<◌}
 use native.Mathlib.Omega.{arith}
 use lib.ListN.{length, get_or, length-set}
@@ -10,7 +10,7 @@ use Rattle.layout.specs.Table.{ROWS_AT, FUNCTIONS_AT, VARIABLES_AT, OWN, BODY, r
 use Rattle.layout.specs.Functions.{function_name, Headed}
 use Rattle.profiles.specs.Shares.{share_word, body_word, put_share}
 use Rattle.profiles.specs.Passes.{RowShare, Passed, pass_none, pass_more, Heads, AtRow, PassedTo}
-use Rattle.profiles.specs.Profiled.{Bodied}
+use Rattle.profiles.specs.Profiled.{Bodied, BodyPassed}
 
 -- ---- what is the same in two tables: all words before the variables, and the shares of bodies
 
@@ -66,6 +66,9 @@ module _ {w : List ℕ} {last n : ℕ} (start : AtRow w last n) where
   passing_starts x = record { reached = omega arith; passed = pass_none; heads = start.heads; long = refl }
 
   module _ {v : List ℕ} {x i : ℕ} (h : Passing w v last x n i) where
+    pub passing_row : i ≤ last → AtRow v i n
+    passing_row l = record { inside = omega (arith, start.inside); heads = h.heads }
+
     pub passing_goes : {u : List ℕ} {s : ℕ} → i ≤ last → RowShare v i x n s → u ≡ put_share v i s → Passing w u last x n (i + 1)
     passing_goes {s = s} l q e = rw e record {
       reached = omega arith;
@@ -87,6 +90,9 @@ module _ {w : List ℕ} {k : ℕ} (b : Bodied w k) where
   pub body_head : (TABLE ≤ length w) × Headed w k
   body_head = (b.heads.long, b.heads.heads k (omega arith))
 
+  pub body_row : {r : ℕ} → r ≡ function_row w k → (TABLE ≤ length w) × (r < NODES) × (BODY < 5)
+  body_row e = (b.heads.long, omega (arith, e, body_head.1.row), omega arith)
+
   module _ {r l : ℕ} (row : r ≡ function_row w k) (root : l ≡ row_word w r BODY) where
     root_is : l ≡ row_word w (function_row w k) BODY
     root_is = root ∙ ap (λ (j : ℕ). row_word w j BODY) row
@@ -100,3 +106,6 @@ module _ {w : List ℕ} {k : ℕ} (b : Bodied w k) where
         heads = λ j h. b.heads.heads j (omega arith);
       };
     }
+
+    pub body_passed : {w' : List ℕ} {x s : ℕ} → x ≡ function_name w k → PassedTo w w' l x k s → BodyPassed w w' k s
+    body_passed {w'} {x} {s} e q = subst₂ (λ (l x : ℕ). PassedTo w w' l x k s) root_is e q

@@ -8,7 +8,7 @@ use mathlib.Core.Bool.{Bool, true, false}
 use mathlib.Core.List.{List, [], ◌∷◌}
 use mathlib.Core.Logic.{◌⊎◌, inl, inr}
 use mathlib.Core.Option.{some}
-use mathlib.Core.Path.{◌≡◌, refl, ◌∙◌}
+use mathlib.Core.Path.{◌≡◌, refl, ap, subst, ◌∙◌}
 use borrow.Author.Tests.{eqb-true}
 use native.Mathlib.Omega.{arith}
 use Prim.Native.Nat.{ℕ, ◌+◌, ◌-◌, ◌≤◌}
@@ -19,7 +19,9 @@ use Rattle.language.specs.Sizes.{LARGEST, LINES}
 use Rattle.language.specs.Text.{between, is_digit, worth, number_from}
 use Rattle.language.specs.Tokens.{spell}
 use Rattle.page.specs.Amounts.{all_digits, is_number, number_up_to, AMOUNT}
-use Rattle.page.specs.Text.{decimal_of, Adds}
+use Rattle.std.specs.Borrow.{MutBor}
+use Rattle.page.specs.Text.{decimal_of, Adds, Begins, Writes}
+use Rattle.page.specs.declared.pages.Page.{Page}
 use Rattle.tally.specs.Stands.{report_in}
 use Rattle.tally.specs.declared.sums.Sums.{Sums}
 use Rattle.records.specs.Machines.{shift_lines, combined_lines}
@@ -274,3 +276,21 @@ pub combined_read : (status : ℕ) (over : Bool) (s : Sums) {entry exit : List �
     → Adds (combined_lines status over s) entry exit 0 n → length (combined_lines status over s) ≤ length entry
     → Writable s → Back (reading_in (take n exit)) over s
 combined_read status over s a h w = rw (written a h) (combined_back status over s w)
+
+-- ---- the same of a page, which is what `machines::shift` and `combined` write on
+
+-- what is put on a page with nothing on it is its text, where the lent bytes have room
+pub on_page : {t : List ℕ} {lent : MutBor (List ℕ)} {p q : Page} → Begins lent p → Writes t p q → length t ≤ length lent.now
+    → take q.at q.out.now ≡ t
+on_page {t} {lent} {p} {q} b w h =
+    written (subst (λ (n : ℕ). Adds t p.out.now q.out.now n q.at) b.starts w.adds) (omega (arith, ap length b.bytes, h))
+
+pub shift_page_read : (status : ℕ) (file : List ℕ) (allowance : ℕ) (s : Sums) {lent : MutBor (List ℕ)} {p q : Page} → Begins lent p
+    → Writes (shift_lines status file allowance false s) p q
+    → length (shift_lines status file allowance false s) ≤ length lent.now → Writable s → Back (reading_in (take q.at q.out.now)) false s
+shift_page_read status file allowance s b p h w = rw (on_page b p h) (shift_back status file allowance s w)
+
+pub combined_page_read : (status : ℕ) (over : Bool) (s : Sums) {lent : MutBor (List ℕ)} {p q : Page} → Begins lent p
+    → Writes (combined_lines status over s) p q
+    → length (combined_lines status over s) ≤ length lent.now → Writable s → Back (reading_in (take q.at q.out.now)) over s
+combined_page_read status over s b p h w = rw (on_page b p h) (combined_back status over s w)

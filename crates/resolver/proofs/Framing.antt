@@ -17,9 +17,9 @@ use Rattle.language.specs.Tokens.{LET, SEMI, WHILE, IF}
 use Rattle.layout.specs.Table.{OWN, token_value, row_word, function_row}
 use Rattle.layout.specs.Functions.{function_name, Headed, find_function}
 use Rattle.layout.specs.Slots.{HELD}
-use Rattle.layout.specs.Notes.{put_name, names_in}
-use Rattle.layout.specs.Resolved.{parameters_in}
-use Rattle.resolver.specs.Resolves.{Wrote, sees, Between, Entered, Binding}
+use Rattle.layout.specs.Notes.{put_name, put_note, names_in}
+use Rattle.layout.specs.Resolved.{slot_of, parameters_in}
+use Rattle.resolver.specs.Resolves.{Wrote, sees, Between, Entered, Binding, Bound}
 use Rattle.resolver.proofs.Writing.{wrote_none, wrote_then, wrote_name, names_put, row_alike, token_alike}
 
 -- ---- a node's second part
@@ -156,6 +156,11 @@ module _ {t u : List ℕ} {row count i : ℕ} (b : Binding t row count) (h : Tak
             h.names);
       }
 
+pub taken_all : {t u : List ℕ} {row count i : ℕ} → Taken t u row count i → count ≤ i → Bound t u row count
+taken_all {t} {u} {row} {count} {i} h l =
+    let e : i ≡ count = omega (arith, h.few, l) in
+    record { wrote = h.wrote; names = subst (λ (k : ℕ). names_in u k ≡ parameters_in t row k) e h.names }
+
 -- ---- the function that a call means
 
 pub found_inside : (t : List ℕ) (x defs : ℕ) {r : ℕ} → ((k : ℕ) → k < defs → Headed t k) → find_function t x defs ≡ Some r → r < NODES
@@ -166,3 +171,11 @@ found_inside t x (suc n) {r} h e = go (eqb x (function_name t n)) e (λ d. found
     go : (b : Bool) → cond b (Some (function_row t n)) (find_function t x n) ≡ Some r → (find_function t x n ≡ Some r → r < NODES) → r < NODES
     go true d before = omega (arith, (h n (omega arith)).row, same_Some _ _ d)
     go false d before = before d
+
+-- ---- a name
+
+pub name_noted : (t u : List ℕ) (node size i x s : ℕ) → i ≡ row_word t node OWN → x ≡ token_value t i → s ≡ slot_of x (names_in t size)
+    → u ≡ put_note t i s
+    → u ≡ put_note t (row_word t node OWN) (slot_of (token_value t (row_word t node OWN)) (names_in t size))
+name_noted t u node size i x s p q r e =
+    e ∙ ap₂ (λ (k y : ℕ). put_note t k y) p (r ∙ ap (λ (z : ℕ). slot_of z (names_in t size)) (q ∙ ap (λ (k : ℕ). token_value t k) p))

@@ -81,7 +81,10 @@ fn typed(table: &mut [u32], program: Held) -> Verdict
             program,
             type_number,
         }),
-        Err(fault) => Err(faulty(fault)),
+        Err(fault) => {
+            let refused = faulty(fault);
+            Err(refused)
+        }
     }
 }
 

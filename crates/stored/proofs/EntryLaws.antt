@@ -63,7 +63,7 @@ module _ {voc : Vocabulary} (laws : Laws voc) (s : Spelling) where
 -- ---- the line from p up to e
 
 module _ {voc : Vocabulary} (laws : Laws voc) {t : List ℕ} {p e : ℕ} (l : LineTo t p e) where
-  not_blank : {q : ℕ} → Piece voc (told (slice p e t)) 0 q space → Amiss voc t p not_one_token
+  pub not_blank : {q : ℕ} → Piece voc (told (slice p e t)) 0 q space → Amiss voc t p not_one_token
   not_blank x = no_token l.line (λ u h k. spaced laws (told (slice p e t)) x (all_of u h k))
 
   pub not_space : {r : Result Found_piece.Piece Flaw_of.Flaw} {y : Found_piece.Piece} {q : ℕ} → IsPiece voc (told (slice p e t)) 0 r → r ≡ Ok y

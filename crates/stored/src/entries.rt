@@ -37,6 +37,7 @@ fn token_on(edition: Edition, stored: &[u8], at: usize, end: usize) -> Result<En
                 worth,
             },
         ) if size == text.len() => Ok(Entry { kind, worth, end }),
+        Ok(Piece::Space(_)) => Err(Refusal::NotOneToken),
         _ => Err(Refusal::NotOneToken),
     }
 }

@@ -2,11 +2,11 @@
 use borrow.Author.Tests.{eq-eqb, ne_eqb, lt-ltb, le-ltb}
 use lib.Dec.{eqb}
 use lib.ListN.{length, get_or, take, drop}
-use lib.Seq.{slice, length-slice, drop-cons, drop-length, get_or-take, get_or-drop}
+use lib.Seq.{slice, length-slice, take-length, drop-cons, drop-length, get_or-take, get_or-drop}
 use mathlib.Core.Bool.{Bool, true, false, ◌&&◌}
 use mathlib.Core.List.{List, [], ◌∷◌}
 use mathlib.Core.Logic.{⊎_elim}
-use mathlib.Core.Path.{◌≡◌, refl, sym, ◌∙◌, ap, subst}
+use mathlib.Core.Path.{◌≡◌, refl, sym, ◌∙◌, ap, subst, subst₂}
 use native.Mathlib.Nat.{add-zero}
 use native.Mathlib.Numerals.{add-one}
 use native.Mathlib.Omega.{arith}
@@ -18,7 +18,7 @@ use Rattle.language.specs.Text.{byte}
 use Rattle.language.specs.Tokens.{Spelling, same}
 use Rattle.layout.proofs.TokenLaws.{same_self}
 use Rattle.tokens.proofs.Planting.{none_before, none_alike}
-use Rattle.std.specs.Prelude.{Some}
+use Rattle.std.specs.Prelude.{Option, Some, None}
 use Rattle.tokens.specs.Forks.{letter_at, IsParting, Finds, Sought}
 use Rattle.tokens.specs.Found.{bytes_of, First}
 
@@ -153,8 +153,28 @@ module _ {t u : List ℕ} {a b p q i : ℕ} (g : Alike t a b u p q i) where
   pub alike_all : b - a ≤ i → same (slice a b t) (slice p q u) ≡ true
   alike_all h = sym (settled (agrees_all g.agrees (omega (arith, size))))
 
+-- the bytes of two lists that are as many, one after the other
+abbrev pub Alongside : List ℕ → List ℕ → ℕ → Type 0
+Alongside t u i = Alike t 0 (length t) u 0 (length u) i
+
+whole : (t u : List ℕ) (r : Option ℕ) → IsParting (slice 0 (length t) t) (slice 0 (length u) u) r → IsParting t u r
+whole t u r p = subst₂ (λ (x y : List ℕ). IsParting x y r) (take-length t) (take-length u) p
+
+module _ {t u : List ℕ} {i : ℕ} (g : Alongside t u i) where
+  behind : (l : List ℕ) {x : ℕ} → x ≡ byte l i → x ≡ byte l (0 + i)
+  behind l e = let z : i ≡ 0 + i = omega arith in e ∙ ap (byte l) z
+
+  pub whole_more : {x y : ℕ} → i < length t → x ≡ byte t i → y ≡ byte u i → x ≡ y → Alongside t u (i + 1)
+  whole_more h e f n = alike_more g (omega arith) (behind t e) (behind u f) n
+
+  pub whole_less : {x y : ℕ} → i < length t → x ≡ byte t i → y ≡ byte u i → (x ≡ y → ⊥) → IsParting t u (Some i)
+  whole_less h e f n = whole t u (Some i) (alike_less g (omega arith) (behind t e) (behind u f) n)
+
+  pub whole_all : length t ≤ i → IsParting t u None
+  whole_all h = whole t u None (alike_all g (omega arith))
+
 -- there are more bytes of one than of the other
-fewer : (t : List ℕ) (a b : ℕ) (u : List ℕ) (p q : ℕ) → b ≤ length t → q ≤ length u → b - a < q - p → IsParting (slice a b t) (slice p q u) (Some (b - a))
+pub fewer : (t : List ℕ) (a b : ℕ) (u : List ℕ) (p q : ℕ) → b ≤ length t → q ≤ length u → b - a < q - p → IsParting (slice a b t) (slice p q u) (Some (b - a))
 fewer t a b u p q h l n =
     let x = length-slice a b t h in
     let y = length-slice p q u l in
@@ -162,7 +182,7 @@ fewer t a b u p q h l n =
     let v = letter_inside (slice p q u) (b - a) (omega arith) in
     (omega arith, λ z. omega arith)
 
-further : (t : List ℕ) (a b : ℕ) (u : List ℕ) (p q : ℕ) → b ≤ length t → q ≤ length u → q - p < b - a → IsParting (slice a b t) (slice p q u) (Some (q - p))
+pub further : (t : List ℕ) (a b : ℕ) (u : List ℕ) (p q : ℕ) → b ≤ length t → q ≤ length u → q - p < b - a → IsParting (slice a b t) (slice p q u) (Some (q - p))
 further t a b u p q h l n =
     let x = length-slice a b t h in
     let y = length-slice p q u l in

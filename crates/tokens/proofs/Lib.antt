@@ -9,6 +9,7 @@ pub mod Indexing
 pub mod OneKind
 pub mod Compared
 pub mod Seeking
+pub mod SheetParts
 pub mod HexDigits
 pub mod Views
 pub mod NameBytes

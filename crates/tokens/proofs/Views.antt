@@ -37,10 +37,10 @@ byte_told (d ∷ e ∷ l) (suc i) h =
     byte_told l i (omega arith) ∙ ap₂ (λ (m n : ℕ). two (byte (d ∷ e ∷ l) m) (byte (d ∷ e ∷ l) n)) x y
 
 -- the digits between two places that lie in the sheet, and those up to its end
-line_inside : (t : List ℕ) (from to : ℕ) → to ≤ length t → length (told (slice from to t)) ≡ (to - from) / 2
+pub line_inside : (t : List ℕ) (from to : ℕ) → to ≤ length t → length (told (slice from to t)) ≡ (to - from) / 2
 line_inside t from to h = told_long (slice from to t) ∙ ap (λ (n : ℕ). n / 2) (length-slice from to t h)
 
-line_past : (t : List ℕ) (from to : ℕ) → length t < to → length (told (slice from to t)) ≡ (length t - from) / 2
+pub line_past : (t : List ℕ) (from to : ℕ) → length t < to → length (told (slice from to t)) ≡ (length t - from) / 2
 line_past t from to h =
     ap (λ (l : List ℕ). length (told (drop from l))) (take_all to t (omega arith) ∙ sym (take_all (length t) t (omega arith)))
     ∙ line_inside t from (length t) (omega arith)
@@ -75,7 +75,7 @@ module _ (t : List ℕ) (from to i : ℕ) {n : ℕ} (e : n ≡ length (told (sli
 -- ---- any view
 
 -- no longer than both sheets and a byte between them
-shown_long : (first second : List ℕ) (v : view.View) → length (shown first second v) ≤ length first + 1 + length second
+pub shown_long : (first second : List ℕ) (v : view.View) → length (shown first second v) ≤ length first + 1 + length second
 shown_long first second Plain = omega arith
 shown_long first second Joined = omega (arith, joined_length first second)
 shown_long first second (Line from to) =

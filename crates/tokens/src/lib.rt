@@ -63,15 +63,16 @@ pub fn split(edition: Edition, text: &Text, table: &mut [u32]) -> Result<usize, 
     let mut count = 0;
     // A step is as long as the piece that stands there.
     while at < size {
-        let place = Place {
-            text: &*text,
-            at,
-            here: text.byte(at),
-        };
-        if bytes::is_blank(place.here) {
+        let here = text.byte(at);
+        if bytes::is_blank(here) {
             at += 1;
             continue;
         }
+        let place = Place {
+            text: &*text,
+            at,
+            here,
+        };
         match pieces::piece_of(edition, &place) {
             Ok(Piece::Space(end)) => {
                 at = end;

@@ -7,8 +7,29 @@ use Rattle.language.specs.Tokens.{spell}
 use Rattle.numbers.specs.declared.Flaw as Flaw
 use Rattle.numbers.specs.declared.Reason as Reason
 use Rattle.numbers.specs.declared.Refusal as Refusal
-use Rattle.wording.specs.Words.{refusal_words, called_words}
+use Rattle.wording.specs.Words.{refusal_words, pay_words, called_words}
 use Rattle.wording.specs.Values.{bits_words}
+
+pub other_reason : (why : Reason.Reason) → (why ≡ Reason.TheVariants.NoFunction → ⊥) → (why ≡ Reason.TheVariants.WrongNumber → ⊥)
+    → (why ≡ Reason.TheVariants.WrongArgument → ⊥)
+    → spell "pay cannot be called" ≡ pay_words why
+unfolding pay_words
+other_reason Reason.TheVariants.NoBinding a b c = refl
+other_reason Reason.TheVariants.NoFunction a b c = absurd (a refl)
+other_reason Reason.TheVariants.WrongNumber a b c = absurd (b refl)
+other_reason Reason.TheVariants.WrongArgument a b c = absurd (c refl)
+other_reason Reason.TheVariants.WrongOperand a b c = refl
+other_reason Reason.TheVariants.WrongOperands a b c = refl
+other_reason Reason.TheVariants.NotUnit a b c = refl
+other_reason Reason.TheVariants.NotBool a b c = refl
+other_reason Reason.TheVariants.NotInt a b c = refl
+other_reason Reason.TheVariants.BranchesDiffer a b c = refl
+other_reason Reason.TheVariants.WrongBody a b c = refl
+other_reason Reason.TheVariants.TooManyRefs a b c = refl
+other_reason Reason.TheVariants.TooManyFunctions a b c = refl
+other_reason Reason.TheVariants.TooManyParameters a b c = refl
+other_reason Reason.TheVariants.FunctionTwice a b c = refl
+other_reason Reason.TheVariants.ParameterTwice a b c = refl
 
 pub other_refusal : (why : Refusal.Refusal) → (why ≡ Refusal.TheVariants.LongSource → ⊥) → ((w : Flaw.Flaw) → why ≡ Refusal.TheVariants.Text w → ⊥)
     → (why ≡ Refusal.TheVariants.NoReading → ⊥) → ((w : Reason.Reason) → why ≡ Refusal.TheVariants.Types w → ⊥)

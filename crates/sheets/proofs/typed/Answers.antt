@@ -7,4 +7,4 @@ returns-in-Ok c =
 
 pub returns-in-Err : goal.returns-in-Err
 returns-in-Err c =
-    rw c.faulty.ensures (typed_fault _ _ _ _ _ c.type_of.ensures c.in-Err.is)
+    rw c.faulty-refused.ensures (typed_fault _ _ _ _ _ c.type_of.ensures c.in-Err.is)

@@ -29,7 +29,7 @@ loop-at-preserved-then-is_blank c =
     let a = c.args in
     let text = text_of a.text.now in
     let inside = subst (λ n. c.loop-at.at < n) c.len-size.ensures c.loop-at-test.true in
-    let seen = sym (c.is_blank.ensures ∙ ap is_blank c.byte.ensures) ∙ c.if-is_blank.true in
+    let seen = sym (c.is_blank.ensures ∙ ap is_blank c.byte-here.ensures) ∙ c.if-is_blank.true in
     reached_skip c.loop-at.invariant (blank_piece (laws_of c.args.edition) text c.loop-at.at inside seen)
 
 pub loop-at-smaller-in-Ok-Space : goal.loop-at-smaller-in-Ok-Space

@@ -11,13 +11,13 @@ returns-then-is_hidden c =
 pub returns-then-b-eq9 : goal.returns-then-b-eq9
 returns-then-b-eq9 c =
     being (blank_tab c.args.plain c.args.b (sym c.is_hidden.ensures ∙ c.if-is_hidden.false) c.if-b-eq9.true)
-    c.put-then-b-eq9.ensures
+    c.put_byte.ensures
 
 pub returns-then-not-is_inner : goal.returns-then-not-is_inner
 returns-then-not-is_inner c =
     let h = sym c.is_hidden.ensures ∙ c.if-is_hidden.false in
     being (blank_one c.args.plain c.args.b h c.if-b-eq9.false (sym c.is_inner.ensures ∙ c.if-not-is_inner.true))
-    c.put-then-not-is_inner.ensures
+    c.put_byte-then-not-is_inner.ensures
 
 pub returns-else-not-is_inner : goal.returns-else-not-is_inner
 returns-else-not-is_inner c =

@@ -12,4 +12,4 @@ returns-then-is_hidden c =
 
 pub returns-else-is_hidden : goal.returns-else-is_hidden
 returns-else-is_hidden c =
-    being (shown_plain c.args.plain c.args.b (sym c.is_hidden.ensures ∙ c.if-is_hidden.false)) c.put-else-is_hidden.ensures
+    being (shown_plain c.args.plain c.args.b (sym c.is_hidden.ensures ∙ c.if-is_hidden.false)) c.put_byte.ensures
