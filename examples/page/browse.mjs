@@ -90,7 +90,7 @@ await browse().catch((error) => wrong.push(error.message));
 clearTimeout(late);
 browser.kill("SIGKILL");
 browser.on("exit", () => {
-  rmSync(room, { recursive: true, force: true, maxRetries: 5 });
+  rmSync(room, { recursive: true, force: true, maxRetries: 20 });
   wrong.forEach((line) => console.error(line));
   process.exit(wrong.length > 0 ? 1 : 0);
 });

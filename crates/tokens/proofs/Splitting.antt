@@ -4,13 +4,15 @@ use lib.Seq.{slice, get_or_at}
 use mathlib.Core.List.{List, [], ◌∷◌, ◌++◌}
 use mathlib.Core.Path.{◌≡◌, refl, sym, ◌∙◌, ap, subst}
 use native.Mathlib.Omega.{arith}
-use Prim.Native.Nat.{ℕ, ◌+◌, ◌*◌, ◌/◌, ◌%◌, ◌≤◌, ◌<◌}
+use Prim.Native.Nat.{ℕ, zero, suc, ◌+◌, ◌-◌, ◌*◌, ◌/◌, ◌%◌, ◌≤◌, ◌<◌}
 use Rattle.language.proofs.Text.Marks.{Laws}
 use Rattle.language.proofs.Text.OnePiece.{form_bounds}
+use Rattle.language.proofs.Text.Pieces.{blank_piece}
+use Rattle.language.proofs.Text.Runs.{Run}
 use Rattle.language.proofs.Text.Spots.{token_end}
 use Rattle.language.specs.Sizes.{SOURCE, TOKENS, TABLE}
 use Rattle.language.specs.Text as Text
-use Rattle.language.specs.Text.{Piece, Reaches, Wrong, token_of}
+use Rattle.language.specs.Text.{Piece, Reaches, Wrong, token_of, is_blank}
 use Rattle.language.specs.Text.Content.{space, token}
 use Rattle.language.specs.Text.Reaches.{start, skip, next}
 use Rattle.language.specs.Tokens.{Vocabulary, Token, NAME, past}
@@ -180,3 +182,20 @@ module _ {voc : Vocabulary} {t w₀ w : List ℕ} {p n : ℕ} (r : Reached voc t
           laid = next_laid;
           index = next_index;
         }
+
+-- ---- blanks
+
+-- all that stand there are passed over
+module _ {voc : Vocabulary} (laws : Laws voc) {t w₀ w : List ℕ} {p q n : ℕ} (r : Reached voc t w₀ w p n) (b : Run is_blank t p q) where
+  passed : (d : ℕ) → p + d ≤ q → Reached voc t w₀ w (p + d) n
+  passed zero l = let e : p ≡ p + 0 = omega arith in subst (λ (i : ℕ). Reached voc t w₀ w i n) e r
+  passed (suc d) l =
+      let e : p + d + 1 ≡ p + suc d = omega arith in
+      let here : p + d < length t = omega (arith, b.within) in
+      subst (λ (i : ℕ). Reached voc t w₀ w i n) e
+      (reached_skip (passed d (omega arith)) (blank_piece laws t (p + d) here (b.each (p + d) (omega arith) (omega arith))))
+
+  pub reached_blanks : Reached voc t w₀ w q n
+  reached_blanks =
+      let e : p + (q - p) ≡ q = omega (arith, b.order) in
+      subst (λ (i : ℕ). Reached voc t w₀ w i n) e (passed (q - p) (omega (arith, b.order)))

@@ -126,6 +126,18 @@ impl Class for Capital {
     }
 }
 
+// A blank, a tab, an LF or a CR.
+#[derive(Clone, Copy)]
+pub(crate) struct Blank;
+
+impl Class for Blank {
+    ghost has = { λ _. is_blank };
+
+    fn has(&self, b: u8) -> bool {
+        is_blank(b)
+    }
+}
+
 // Not the LF that ends a line.
 #[derive(Clone, Copy)]
 pub struct InLine;

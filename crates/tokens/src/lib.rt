@@ -61,11 +61,11 @@ pub fn split(edition: Edition, text: &Text, table: &mut [u32]) -> Result<usize, 
     forks::begin(table);
     let mut at = 0;
     let mut count = 0;
-    // A step is as long as the piece that stands there.
+    // A step is as long as the piece that stands there, or as its blanks, which have a loop of their own.
     while at < size {
         let here = text.byte(at);
         if bytes::is_blank(here) {
-            at += 1;
+            at = text.run_end(at, &bytes::Blank);
             continue;
         }
         let place = Place {

@@ -1,22 +1,24 @@
 -- `split` goes from piece to piece, and writes each token behind those before it.
 use borrow.Author.Tests.{ltb-false}
 use lib.ListN.{length}
-use mathlib.Core.Path.{sym, ◌∙◌, ap, subst}
+use mathlib.Core.Bool.{true}
+use mathlib.Core.Path.{◌≡◌, sym, ◌∙◌, ap, subst}
 use native.Mathlib.Omega.{arith}
 use Prim.Native.Nat.{◌<◌}
 use Rattle.language.proofs.Text.OnePiece.{form_bounds}
 use Rattle.language.proofs.Text.OneSplit.{reached_inside}
-use Rattle.language.proofs.Text.Pieces.{blank_piece}
+use Rattle.language.proofs.Text.Runs.{run_some}
 use Rattle.language.specs.Sizes.{SOURCE}
-use Rattle.language.specs.Text.{is_blank}
+use Rattle.language.specs.Text.{byte, is_blank}
 use Rattle.language.specs.Text.Flaw.{many_tokens}
 use Rattle.language.specs.Text.WrongUnder.{many}
-use Rattle.tokens.proofs.Splitting.{reached_none, reached_skip}
+use Rattle.tokens.proofs.Splitting.{reached_none, reached_skip, reached_blanks}
 use Rattle.tokens.proofs.Splitting.{reached_broken, reached_whole, reached_searchable, reached_next}
 use Rattle.tokens.proofs.Views.{text_long}
 use Rattle.tokens.proofs.Editions.{laws_of}
 use Rattle.tokens.specs.Shown.{text_of}
 use Rattle.tokens.proofs.split.Goals as goal
+use Rattle.tokens.proofs.split.Goals.{Then-is_blank}
 
 pub loop-at-init : goal.loop-at-init
 loop-at-init c =
@@ -24,13 +26,18 @@ loop-at-init c =
     reached_none (text_of a.text.now) _ (omega (arith, c.begin.ensures.rest.long, c.requires))
     c.begin.ensures.shape
 
+-- a blank stands there
+blank : (c : Then-is_blank) → is_blank (byte (text_of c.args.text.now) c.loop-at.at) ≡ true
+blank c = sym (c.is_blank.ensures ∙ ap is_blank c.byte-here.ensures) ∙ c.if-is_blank.true
+
+pub loop-at-smaller-then-is_blank : goal.loop-at-smaller-then-is_blank
+loop-at-smaller-then-is_blank c =
+    let inside = subst (λ n. c.loop-at.at < n) c.len-size.ensures c.loop-at-test.true in
+    omega (arith, run_some inside (blank (goal.at.loop-at-smaller-then-is_blank c).Then-is_blank) c.run_end-at.ensures, c.loop-at-test.true)
+
 pub loop-at-preserved-then-is_blank : goal.loop-at-preserved-then-is_blank
 loop-at-preserved-then-is_blank c =
-    let a = c.args in
-    let text = text_of a.text.now in
-    let inside = subst (λ n. c.loop-at.at < n) c.len-size.ensures c.loop-at-test.true in
-    let seen = sym (c.is_blank.ensures ∙ ap is_blank c.byte-here.ensures) ∙ c.if-is_blank.true in
-    reached_skip c.loop-at.invariant (blank_piece (laws_of c.args.edition) text c.loop-at.at inside seen)
+    reached_blanks (laws_of c.args.edition) c.loop-at.invariant c.run_end-at.ensures
 
 pub loop-at-smaller-in-Ok-Space : goal.loop-at-smaller-in-Ok-Space
 loop-at-smaller-in-Ok-Space c =
