@@ -14,10 +14,6 @@ taken (suc a) zero l = let e : 0 - suc a ≡ 0 = omega arith in rw e refl
 taken (suc a) (suc b) [] = take_all (suc b - suc a) [] (omega arith)
 taken (suc a) (suc b) (x ∷ l) = let e : suc b - suc a ≡ b - a = omega arith in rw e (taken a b l)
 
--- a sheet that is the text
-pub in_sheet : (t : List ℕ) (a b : ℕ) → take (b - a) (drop a t) ≡ slice a b t
-in_sheet t a b = taken a b t
-
 module _ (first second : List ℕ) (a b : ℕ) where
   pub in_first : b ≤ length first → take (b - a) (drop a first) ≡ slice a b (joined first second)
   in_first h = taken a b first ∙ ap (drop a) (sym (take-append-le b first (10 ∷ second) h))

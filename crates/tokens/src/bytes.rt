@@ -1,14 +1,16 @@
 // Bytes of a text: the classes that tell what may begin at a place, and where a run of bytes of one class
 // ends.
-ghost use Rattle.std.specs.Prelude.{true, Bool, ℕ, ◌≡◌, ◌+◌, ◌≤◌, length};
+ghost use Rattle.std.specs.Prelude.{true, Bool, ℕ, ◌∷◌, ◌≡◌, ◌+◌, ◌≤◌, length};
+ghost use Rattle.std.proofs.Math.Seq.{slice};
+ghost use Rattle.language.specs.Pairs.{joined};
 ghost use Rattle.language.specs.Text.{worth, is_blank, is_letter, is_digit, is_hex_digit, is_digit_of};
 ghost use Rattle.language.specs.Text.{is_name_byte, is_in_line};
 ghost use Rattle.language.proofs.Text.Runs.{Run};
 ghost use Rattle.language.proofs.Text.Spellings.{stands};
-ghost use Rattle.tokens.specs.Shown.{is_capital, text_of};
+ghost use Rattle.tokens.specs.Shown.{is_capital, told, text_of};
 
 use crate::hexadecimal::is_capital;
-use crate::view::Text;
+use crate::view::{Text, View, len_of_line, of_line};
 
 #[tactic(auto, unfolding(language::specs::Text::is_letter, language::specs::Text::between))]
 pub fn is_letter(b: u8) -> bool
@@ -68,7 +70,7 @@ pub fn is_in_line(b: u8) -> bool
 pub fn is_blank(b: u8) -> bool
     ensures { result ≡ is_blank b }
 {
-    matches!(b, b' ' | b'\t' | b'\r' | b'\n')
+    b == b' ' || b == b'\t' || b == b'\r' || b == b'\n'
 }
 
 // What the bytes of a run have in common. Runs are most of a text, so each class gets a loop of its own, by its type.
@@ -150,20 +152,72 @@ impl Class for InLine {
     }
 }
 
+// Where the run of bytes of a class from a place on ends: with what is read, here a sheet, or at a byte that is not
+// among them. Sheets are gone over as they lie in memory: the view is asked once for a run, and not at each byte.
+fn run_of_sheet<C: Class>(sheet: &[u8], at: usize, class: &C) -> usize
+    requires { at ≤ length sheet.now }
+    ensures { Run (C.has class.now) sheet.now at result }
+{
+    for i in at..sheet.len() {
+        if !class.has(sheet[i]) {
+            return i;
+        }
+    }
+    sheet.len()
+}
+
+// The same of the LF and the sheet behind it.
+fn run_of_rest<C: Class>(sheet: &[u8], at: usize, class: &C) -> usize
+    requires { at ≤ length (10 ∷ sheet.now) }
+    ensures { Run (C.has class.now) (10 ∷ sheet.now) at result }
+{
+    if at == 0 && !class.has(b'\n') {
+        return 0;
+    }
+    1 + run_of_sheet(sheet, at.saturating_sub(1), class)
+}
+
+// The same of two sheets.
+fn run_of_both<C: Class>(first: &[u8], second: &[u8], at: usize, class: &C) -> usize
+    requires { at ≤ length (joined first.now second.now) }
+    ensures { Run (C.has class.now) (joined first.now second.now) at result }
+{
+    let size = first.len();
+    if at < size {
+        let end = run_of_sheet(first, at, class);
+        if end < size {
+            return end;
+        }
+    }
+    size + run_of_rest(second, at.saturating_sub(size), class)
+}
+
+// The same of a line of digits.
+fn run_of_line<C: Class>(sheet: &[u8], from: usize, to: usize, at: usize, class: &C) -> usize
+    requires { at ≤ length (told (slice from to sheet.now)) }
+    ensures { Run (C.has class.now) (told (slice from to sheet.now)) at result }
+{
+    let size = len_of_line(sheet, from, to);
+    for n in at..size {
+        if !class.has(of_line(sheet, from, to, n)) {
+            return n;
+        }
+    }
+    size
+}
+
 // These take any place up to the text's end, where none has a byte: so no Place, whose byte is there.
 impl<'a> Text<'a> {
-    // Where the run of bytes of a class from a place on ends: with the text, or at a byte that is not among them.
+    // Where the run of bytes of a class from a place on ends.
     pub fn run_end<C: Class>(&self, at: usize, class: &C) -> usize
         requires { at ≤ length (text_of self.now) }
         ensures { Run (C.has class.now) (text_of self.now) at result }
     {
-        let size = self.len();
-        for i in at..size {
-            if !class.has(self.byte(i)) {
-                return i;
-            }
+        match self.view {
+            View::Plain => run_of_sheet(self.first, at, class),
+            View::Joined => run_of_both(self.first, self.second, at, class),
+            View::Line { from, to } => run_of_line(self.first, from, to, at, class),
         }
-        size
     }
 
     // Do these bytes stand at a place?
@@ -179,7 +233,7 @@ impl<'a> Text<'a> {
         true
     }
 
-    // The same where the text has as many bytes from there on, so that no byte is asked whether it is one of the text's.
+    // The same where the text has as many bytes from there on, so that none is asked whether it is one of the text's.
     pub fn stands_within(&self, at: usize, bytes: &[u8]) -> bool
         requires { at + length bytes.now ≤ length (text_of self.now) }
         ensures { result ≡ stands (text_of self.now) at bytes.now }

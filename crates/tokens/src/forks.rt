@@ -83,8 +83,8 @@ fn difference(old: &[u8], new: &[u8]) -> Option<usize>
     None
 }
 
-// A letter that tells two spellings apart; none, where they are the same. Bytes that lie in a sheet are compared where they
-// lie: asked of the texts one by one, each has to ask two views, and a long name takes twice as long.
+// A letter that tells two spellings apart; none, where they are the same. Bytes that lie in a sheet are compared where
+// they lie: asked of the texts one by one, each has to ask two views, and a long name takes twice as long.
 fn compare(old: &Part, new: &Part) -> Option<usize>
     ensures { IsParting (part_of old.now) (part_of new.now) result }
 {

@@ -50,7 +50,7 @@ pub struct Part<'a> {
 
 // How many bytes a line of digits tells.
 #[tactic(auto, using(crate::proofs::Views::line_length))]
-fn len_of_line(sheet: &[u8], from: usize, to: usize) -> usize
+pub(crate) fn len_of_line(sheet: &[u8], from: usize, to: usize) -> usize
     ensures { result ≡ length (told (slice from to sheet.now)) }
 {
     to.min(sheet.len()).saturating_sub(from) / 2
@@ -94,7 +94,7 @@ fn of_both(first: &[u8], second: &[u8], at: usize) -> u8
 }
 
 // The same of a line of digits.
-fn of_line(sheet: &[u8], from: usize, to: usize, at: usize) -> u8
+pub(crate) fn of_line(sheet: &[u8], from: usize, to: usize, at: usize) -> u8
     ensures { result ≡ byte (told (slice from to sheet.now)) at }
 {
     if len_of_line(sheet, from, to) <= at {
