@@ -66,6 +66,7 @@ pub fn is_in_line(b: u8) -> bool
     b != b'\n'
 }
 
+// Four comparisons are compiled to one test; of a `matches!` a line feed took three more than a blank.
 #[tactic(auto, unfolding(language::specs::Text::is_blank))]
 pub fn is_blank(b: u8) -> bool
     ensures { result ≡ is_blank b }
@@ -152,8 +153,9 @@ impl Class for InLine {
     }
 }
 
-// Where the run of bytes of a class from a place on ends: with what is read, here a sheet, or at a byte that is not
-// among them. Sheets are gone over as they lie in memory: the view is asked once for a run, and not at each byte.
+// Where the run of bytes of a class from a place of a sheet on ends: with the sheet, or at a byte that is not among
+// them. Sheets are gone over as they lie in memory, so for a run it is asked once, and not at each byte, which view of
+// them the text is.
 fn run_of_sheet<C: Class>(sheet: &[u8], at: usize, class: &C) -> usize
     requires { at ≤ length sheet.now }
     ensures { Run (C.has class.now) sheet.now at result }
@@ -208,7 +210,7 @@ fn run_of_line<C: Class>(sheet: &[u8], from: usize, to: usize, at: usize, class:
 
 // These take any place up to the text's end, where none has a byte: so no Place, whose byte is there.
 impl<'a> Text<'a> {
-    // Where the run of bytes of a class from a place on ends.
+    // Where the run of bytes of a class from a place on ends: with the text, or at a byte that is not among them.
     pub fn run_end<C: Class>(&self, at: usize, class: &C) -> usize
         requires { at ≤ length (text_of self.now) }
         ensures { Run (C.has class.now) (text_of self.now) at result }

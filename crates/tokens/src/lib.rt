@@ -61,17 +61,16 @@ pub fn split(edition: Edition, text: &Text, table: &mut [u32]) -> Result<usize, 
     forks::begin(table);
     let mut at = 0;
     let mut count = 0;
-    // A step is as long as the piece that stands there, or as its blanks, which have a loop of their own.
+    // Each step passes the blanks, which have a loop of their own, and the piece behind them.
     while at < size {
-        let here = text.byte(at);
-        if bytes::is_blank(here) {
-            at = text.run_end(at, &bytes::Blank);
-            continue;
+        let begin = text.run_end(at, &bytes::Blank);
+        if begin == size {
+            return Ok(count);
         }
         let place = Place {
             text: &*text,
-            at,
-            here,
+            at: begin,
+            here: text.byte(begin),
         };
         match pieces::piece_of(edition, &place) {
             Ok(Piece::Space(end)) => {
@@ -79,22 +78,22 @@ pub fn split(edition: Edition, text: &Text, table: &mut [u32]) -> Result<usize, 
             }
             Ok(Piece::Token { kind, end, worth }) => {
                 if count == TOKENS {
-                    return Err(Unsplit::Stopped(Flaw::ManyTokens, at));
+                    return Err(Unsplit::Stopped(Flaw::ManyTokens, begin));
                 }
                 let part = Part {
                     text: &*text,
-                    from: at,
+                    from: begin,
                     to: end,
                 };
                 let both = table_worth(table, count, kind, &part, worth);
                 let high = layout::floats::high(both);
                 let low = layout::floats::low(both);
-                layout::token::put(table, count, kind, at as u32, end as u32, high, low);
+                layout::token::put(table, count, kind, begin as u32, end as u32, high, low);
                 count += 1;
                 at = end;
             }
             Err(flaw) => {
-                return Err(Unsplit::Stopped(flaw, at));
+                return Err(Unsplit::Stopped(flaw, begin));
             }
         }
     }
